@@ -1,0 +1,7 @@
+-- The limits that the paper's table of causes names, as a set that is handed to each definition which judges one.
+-- Assumes nothing.
+use Rattle.definitions.specs.declared.Limits.{Limits}
+
+-- the paper's numbers: 16,384 bytes, 512 values or forms, nesting 32, 65,536 steps
+unfoldable pub standard : Limits
+standard = record { bytes = 16384; values = 512; nesting = 32; steps = 65536 }
