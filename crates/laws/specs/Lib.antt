@@ -30,3 +30,16 @@ pub mod SoundShapes
 pub mod Soundness
 pub mod SoundTokens
 pub mod SoundReading
+pub mod Ranges
+pub mod NumberSteps
+pub mod NumberSound
+pub mod NumberTokens
+pub mod StringRows
+pub mod StringSteps
+pub mod StringSound
+pub mod StringThrough
+pub mod StringUtf8
+pub mod StringTokens
+pub mod StringWritten
+pub mod StringRound
+pub mod NumberRound
