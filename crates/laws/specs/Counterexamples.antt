@@ -1,0 +1,178 @@
+-- That the theorems say something: with a hypothesis left out, turned round or weakened by one, each is false. Every name
+-- says what would go wrong. Assumes nothing.
+use Prim.Native.Nat.{ℕ, zero, suc, _≤_, _+_}
+use mathlib.Core.Path.{_≡_, refl, sym, ap, _∙_, subst}
+use mathlib.Core.Bool.{Bool, true, false, false≢true}
+use mathlib.Core.List.{List, [], _∷_, _++_, map}
+use lib.Dec.{lit≤}
+use lib.ListN.{length, replicate}
+use Rattle.definitions.specs.declared.Limits.{Limits}
+use Rattle.definitions.specs.Limits.{standard}
+use Rattle.definitions.specs.Bytes.{Bytes, bytes}
+use Rattle.definitions.specs.Outcome.{Outcome, ok, refused}
+use Rattle.definitions.specs.Number.{Number}
+use Rattle.definitions.specs.Value.{Value, Items, no-items, item, Members, no-members, member, size, nesting}
+use Rattle.definitions.specs.Json.{read-json}
+use Rattle.definitions.specs.Plain.{plain}
+use Rattle.definitions.specs.Shape.{Shape, Fields, no-fields, field, rec-of, ascending, only-null, only-numeric, int-only, only-text, only-rec, nothing}
+use Rattle.definitions.specs.Order.{below}
+use Rattle.definitions.specs.Join.{shape-of}
+use Rattle.definitions.specs.Admits.{admits}
+use Rattle.definitions.specs.ShapeText.{read-shape}
+use Rattle.definitions.specs.Reader.{Place, Result, Conversion}
+use Rattle.definitions.specs.Checking.{check-reader}
+use Rattle.definitions.specs.Running.{Ran, run-reader}
+use Rattle.definitions.specs.Operations.{Source}
+use Rattle.definitions.specs.Evaluate.{evaluate}
+use Rattle.laws.specs.Distinct.{distinct}
+use Rattle.laws.specs.Rfc8259.{ws, ws-none, structural, char-of, value, is-array, array, empty-array, values, no-value, JSON-text, json-text}
+use Rattle.laws.specs.Tree.{Tree, Trees, no-trees, tree, meaning}
+use Rattle.laws.specs.Chain.{Call, start, infers, takes, left-by, accepted, reached, Reordered, no-element, keep-first, swap-first, again}
+
+-- ---- values and shapes that serve below
+
+an-int : Value
+an-int = Value.number (record { negative = false; coefficient = 1; scale = 0 })
+
+-- a record with the name a twice, the second time a text
+twice : Value
+twice = Value.rec (member (bytes "a") an-int (member (bytes "a") (Value.text []) no-members))
+
+int-shape : Shape
+int-shape = only-numeric int-only
+
+-- a rec whose a is an int
+with-a : Shape
+with-a = only-rec (rec-of (field (bytes "a") int-shape no-fields))
+
+-- one outcome is not two
+clash : {A : Type 0} {o : Outcome ℕ A} {a : A} {n p : ℕ} → o ≡ refused n p → o ≡ ok a → ⊥
+clash {A} {o} {a} {n} {p} e f = subst Is-ok (sym f ∙ e) tt
+  where
+    Is-ok : Outcome ℕ A → Type 0
+    Is-ok (ok x) = Unit {0}
+    Is-ok (refused m q) = ⊥
+
+-- ---- order and join
+
+-- without distinct names a shape would let a value through that it does not admit
+pub repeated-name-slips-through
+  : ((s : Shape) (v : Value) → ascending s ≡ true → below (shape-of v) s ≡ true → admits s v ≡ true) → ⊥
+unfolding evaluate twice with-a int-shape an-int
+repeated-name-slips-through h = false≢true (h with-a twice refl refl)
+
+-- without ascending names a shape would not lie below itself
+pub unsorted-shape-is-not-below-itself : ((s : Shape) → below s s ≡ true) → ⊥
+unfolding evaluate int-shape
+unsorted-shape-is-not-below-itself h =
+    false≢true (h (only-rec (rec-of (field (bytes "a") int-shape (field (bytes "a") only-text no-fields)))))
+
+-- with the order turned round the shape of a value would lie above all that admit it
+pub order-turned-round
+  : ((s : Shape) (v : Value) → distinct v ≡ true → ascending s ≡ true → admits s v ≡ true → below s (shape-of v) ≡ true) → ⊥
+unfolding evaluate distinct with-a int-shape
+order-turned-round h =
+    false≢true (h (only-rec (rec-of (field (bytes "a") only-null no-fields))) (Value.rec no-members) refl refl refl)
+
+-- ---- soundness
+
+-- (int (it 0))
+int-reader : Result
+int-reader = Result.convert 0 Conversion.to-int (Place.it 5 0)
+
+-- without the check a reader gets stuck on a document that the shape admits
+pub unchecked-reader-gets-stuck
+  : ((r : Result) (l : Limits) (s : Shape) (v : Value) (p : ℕ) → admits s v ≡ true → run-reader r l v ≡ refused 12 p → ⊥) → ⊥
+unfolding evaluate int-reader
+unchecked-reader-gets-stuck h = h int-reader standard only-null Value.null 0 refl refl
+
+-- a reader that passed gets stuck on a document that the shape does not admit
+pub document-not-admitted-gets-stuck
+  : ((r : Result) (l : Limits) (s u : Shape) (v : Value) (p : ℕ) → check-reader r s ≡ ok u → run-reader r l v ≡ refused 12 p → ⊥) → ⊥
+unfolding evaluate int-reader int-shape
+document-not-admitted-gets-stuck h = h int-reader standard int-shape int-shape Value.null 0 refl refl
+
+-- ---- reading
+
+-- the smallest limits of request Q-6
+smallest : Limits
+smallest = record { bytes = 1024; values = 16; nesting = 4; steps = 256 }
+
+-- five lists, one in the other
+five-lists : Tree
+five-lists =
+    Tree.list (tree (Tree.list (tree (Tree.list (tree (Tree.list (tree (Tree.list no-trees) no-trees)) no-trees)) no-trees)) no-trees)
+
+inner : {t : Tree} {s r : Bytes} → value s t (0x5D ∷ r) → value (0x5B ∷ s) (Tree.list (tree t no-trees)) r
+inner d = is-array (values (char-of ws-none ws-none) d no-value (char-of ws-none ws-none))
+
+five-lists-text : JSON-text (bytes "[[[[[]]]]]") five-lists
+unfolding evaluate five-lists
+five-lists-text =
+    json-text ws-none
+    (inner (inner (inner (inner (is-array (empty-array (char-of ws-none ws-none) (char-of ws-none ws-none)))))))
+    ws-none
+
+-- with a nesting limit one larger than the reader's, texts of the grammar would be accepted that are not
+pub one-level-too-deep
+  : ((l : Limits) (s : Bytes) (x : Tree) → JSON-text s x → nesting (meaning x) ≤ l .nesting + 1 → read-json l s ≡ ok (meaning x)) → ⊥
+unfolding evaluate five-lists meaning smallest
+one-level-too-deep h =
+    clash {n = 6} {p = 4} refl (h smallest (bytes "[[[[[]]]]]") five-lists five-lists-text (lit≤ tt))
+
+-- ---- round trips
+
+-- without distinct names plain JSON would not read back
+pub repeated-name-does-not-read-back : ((v : Value) → read-json standard (plain v) ≡ ok v) → ⊥
+unfolding evaluate twice an-int
+repeated-name-does-not-read-back h = clash {n = 5} {p = 7} refl (h twice)
+
+-- a text that is no UTF-8 would not read back
+pub broken-text-does-not-read-back : ((v : Value) → distinct v ≡ true → read-json standard (plain v) ≡ ok v) → ⊥
+unfolding evaluate distinct
+broken-text-does-not-read-back h = clash {n = 3} {p = 1} refl (h (Value.text (0xFF ∷ [])) refl)
+
+-- ---- demand 3
+
+-- a call with room, and one whose output is a byte short of the 16 bytes of `(shape int dec)` and a line feed
+ample : Bytes → Call
+ample d = record { sample = d; output = replicate 30 0; lent = [] }
+
+scant : Bytes → Call
+scant d = record { sample = d; output = replicate 15 0; lent = [] }
+
+-- in another order, with an output one byte shorter than the text reached, a sample is refused
+pub short-output-loses-a-sample
+  : ((calls others : List Call)
+      → Reordered (accepted read-json [] standard calls start) (map (λ c. c .sample) others)
+      → accepted read-json [] standard others start ≡ map (λ c. c .sample) others)
+  → ⊥
+unfolding evaluate start accepted takes left-by infers ample scant
+short-output-loses-a-sample h =
+    false≢true (ap one-left (h (ample (bytes "1") ∷ ample (bytes "2.5") ∷ []) (ample (bytes "2.5") ∷ scant (bytes "1") ∷ []) swap-first))
+  where
+    one-left : List Bytes → Bool
+    one-left [] = false
+    one-left (x ∷ []) = false
+    one-left (x ∷ y ∷ zs) = true
+
+-- every document is a record with one name, which is no UTF-8
+odd-source : Source
+odd-source l document = ok (Value.rec (member (0xFF ∷ []) Value.null no-members))
+
+odd-distinct : (l : Limits) (document : Bytes) (v : Value) → odd-source l document ≡ ok v → distinct v ≡ true
+unfolding evaluate odd-source distinct
+odd-distinct l document v e = subst Distinct-ok e refl
+  where
+    Distinct-ok : Outcome ℕ Value → Type 0
+    Distinct-ok (ok x) = distinct x ≡ true
+    Distinct-ok (refused n p) = Unit {0}
+
+-- from a source whose names are distinct and no UTF-8, the text reached is no shape text
+pub name-that-is-no-utf8-loses-the-shape
+  : ((source : Source) → ((l : Limits) (document : Bytes) (v : Value) → source l document ≡ ok v → distinct v ≡ true)
+      → (calls : List Call) → (s : Shape) × (read-shape standard (reached source [] standard calls start) ≡ ok s))
+  → ⊥
+unfolding evaluate start reached takes left-by infers ample odd-source
+name-that-is-no-utf8-loses-the-shape h =
+    clash {n = 7} {p = 20} refl (h odd-source odd-distinct (record { sample = []; output = replicate 60 0; lent = [] } ∷ []) .1)
