@@ -20,6 +20,13 @@ pub and-intro : {a b : Bool} → a ≡ true → b ≡ true → a && b ≡ true
 and-intro {a = true} {b} p q = q
 and-intro {a = false} {b} p q = absurd (false≢true p)
 
+-- a test of two or three parts, apart
+pub and-two : (a b : Bool) → a && b ≡ true → (a ≡ true) × (b ≡ true)
+and-two a b h = (and-left a b h, and-right a b h)
+
+pub and-three : (a b c : Bool) → a && b && c ≡ true → (a ≡ true) × (b ≡ true) × (c ≡ true)
+and-three a b c h = (and-left a b (and-left (a && b) c h), and-right a b (and-left (a && b) c h), and-right (a && b) c h)
+
 pub or-cases : (a b : Bool) → a || b ≡ true → (a ≡ true) ⊎ (b ≡ true)
 or-cases true b h = inl refl
 or-cases false b h = inr h

@@ -88,42 +88,43 @@ pub record Long-enough (published : List ℕ) (text : Bytes) (c : Call) : Type 0
 -- cause, and then the output is as it was
 pub data Ends (published lent : List ℕ) (l : Limits) (r : Result) (v : Value) (u : Shape) (output : Bytes) : Done → Type 0 where
   gives
-    : (x : Ran Value) → run-reader r l v ≡ ok x → admits u (x .result) ≡ true
-    → Ends published lent l r v u output
-    (record
-      { answer = written (length (plain (x .result))) (x .steps);
-        output = plain (x .result) ++ drop (length (plain (x .result))) output })
+      : (x : Ran Value) → run-reader r l v ≡ ok x → admits u (x .result) ≡ true
+      → Ends published lent l r v u output
+      (record {
+        answer = written (length (plain (x .result))) (x .steps);
+        output = plain (x .result) ++ drop (length (plain (x .result))) output;
+      })
   short-work
-    : short published lent ≡ true → Ends published lent l r v u output (record { answer = refusal 1 0 0; output = output })
+      : short published lent ≡ true → Ends published lent l r v u output (record { answer = refusal 1 0 0; output = output })
   out-of-steps
-    : (p : ℕ) → run-reader r l v ≡ refused 13 p
-    → Ends published lent l r v u output (record { answer = refusal 13 1 p; output = output })
+      : (p : ℕ) → run-reader r l v ≡ refused 13 p
+      → Ends published lent l r v u output (record { answer = refusal 13 1 p; output = output })
   too-large
-    : (x : Ran Value) → run-reader r l v ≡ ok x
-    → ltb (l .values) (size (x .result)) || ltb (l .nesting) (nesting (x .result)) ≡ true
-    → Ends published lent l r v u output (record { answer = refusal 14 0 0; output = output })
+      : (x : Ran Value) → run-reader r l v ≡ ok x
+      → ltb (l .values) (size (x .result)) || ltb (l .nesting) (nesting (x .result)) ≡ true
+      → Ends published lent l r v u output (record { answer = refusal 14 0 0; output = output })
   no-room
-    : (x : Ran Value) → run-reader r l v ≡ ok x → length output < length (plain (x .result))
-    → Ends published lent l r v u output (record { answer = too-short (length (plain (x .result))); output = output })
+      : (x : Ran Value) → run-reader r l v ≡ ok x → length output < length (plain (x .result))
+      → Ends published lent l r v u output (record { answer = too-short (length (plain (x .result))); output = output })
 
 -- a reader that passed: the result shape, which check wrote, and how run ends on every document that is read without
 -- refusal and admitted by the shape reached, with any lent buffers
 pub record Passes
-  (source : Source) (for-check for-run : List ℕ) (l : Limits) (shape : Shape) (reader : Bytes) (lent : List ℕ) (checked text : Bytes)
-  : Type 0 where
+    (source : Source) (for-check for-run : List ℕ) (l : Limits) (shape : Shape) (reader : Bytes) (lent : List ℕ) (checked text : Bytes)
+    : Type 0 where
   pub result : Shape
   pub wrote
-    : read-shape
-    l
-    (take
-    (check-operation for-check lent l reader text checked .answer .length)
-    (check-operation for-check lent l reader text checked .output))
-    ≡ ok result
+      : read-shape
+      l
+      (take
+      (check-operation for-check lent l reader text checked .answer .length)
+      (check-operation for-check lent l reader text checked .output))
+      ≡ ok result
   pub form : Result
   pub reads : read-reader l reader ≡ ok form
   pub ends
-    : (document output : Bytes) (lent-to-run : List ℕ) (v : Value) → Reads source l document v → admits shape v ≡ true
-    → Ends for-run lent-to-run l form v result output (run-operation source for-run lent-to-run l reader document output)
+      : (document output : Bytes) (lent-to-run : List ℕ) (v : Value) → Reads source l document v → admits shape v ≡ true
+      → Ends for-run lent-to-run l form v result output (run-operation source for-run lent-to-run l reader document output)
 
 -- what is asked of a source: its refusals have a number, and what it accepts is a value of the paper with distinct names
 pub record Proper-source (source : Source) : Type 0 where
@@ -147,21 +148,21 @@ pub record Demand-3 (source : Source) (for-infer for-check for-run : List ℕ) (
   pub reads-as : read-shape l (reached source for-infer l calls start) ≡ ok shape
   -- "the shape reached admits every accepted sample"
   pub admits-each
-    : Each (λ d. (v : Value) × Reads source l d v × (admits shape v ≡ true)) (accepted source for-infer l calls start)
+      : Each (λ d. (v : Value) × Reads source l d v × (admits shape v ≡ true)) (accepted source for-infer l calls start)
   -- "and lies below every other shape that admits them all", whatever its size
   pub lies-below
-    : (u : Shape) → ascending u ≡ true
-    → Each (λ d. (v : Value) → Reads source l d v → admits u v ≡ true) (accepted source for-infer l calls start)
-    → below shape u ≡ true
+      : (u : Shape) → ascending u ≡ true
+      → Each (λ d. (v : Value) → Reads source l d v → admits u v ≡ true) (accepted source for-infer l calls start)
+      → below shape u ≡ true
   -- "In any other order, given long enough buffers, these samples are all accepted too and reach the same bytes."
   pub other-order
-    : (others : List Call) → Reordered (accepted source for-infer l calls start) (map (λ c. c .sample) others)
-    → Each (Long-enough for-infer (reached source for-infer l calls start)) others
-    → (accepted source for-infer l others start ≡ map (λ c. c .sample) others)
-    × (reached source for-infer l others start ≡ reached source for-infer l calls start)
+      : (others : List Call) → Reordered (accepted source for-infer l calls start) (map (λ c. c .sample) others)
+      → Each (Long-enough for-infer (reached source for-infer l calls start)) others
+      → (accepted source for-infer l others start ≡ map (λ c. c .sample) others)
+      × (reached source for-infer l others start ≡ reached source for-infer l calls start)
   -- "Whichever reader passes the check against the shape reached, and whichever document that shape admits, the reader
   -- never gets stuck on it": what check wrote is the result shape
   pub never-stuck
-    : (reader checked : Bytes) (lent : List ℕ)
-    → check-operation for-check lent l reader (reached source for-infer l calls start) checked .answer .number ≡ 0
-    → Passes source for-check for-run l shape reader lent checked (reached source for-infer l calls start)
+      : (reader checked : Bytes) (lent : List ℕ)
+      → check-operation for-check lent l reader (reached source for-infer l calls start) checked .answer .number ≡ 0
+      → Passes source for-check for-run l shape reader lent checked (reached source for-infer l calls start)

@@ -67,29 +67,30 @@ nothing-small = (refl, refl, refl)
 -- the start is the text of nothing
 pub stands-start : (l : Limits) → In-range l → Stands l start nothing
 stands-start l r =
-    record
-      { text = start-text;
-        sorted = nothing-ascending;
-        good = nothing-good;
-        fits =
+    record {
+      text = start-text;
+      sorted = nothing-ascending;
+      good = nothing-good;
+      fits =
           let (f, d, b) = nothing-small in
           let v : 16 ≤ l .values = r .values .0 in
           let n : 4 ≤ l .nesting = r .nesting .0 in
           let k : 1024 ≤ l .bytes = r .bytes .0 in
-          fits-shape l nothing (omega (arith, f)) (omega (arith, d)) (omega (arith, b)) }
+          fits-shape l nothing (omega (arith, f)) (omega (arith, d)) (omega (arith, b));
+    }
 
 module _ (source : Source) (proper : Proper-source source) (published : List ℕ) (l : Limits) where
   -- ---- what a list of calls reaches
 
   accepted-taken
-    : (c : Call) (cs : List Call) (t : Bytes) → takes source published l c t ≡ true
-    → accepted source published l (c ∷ cs) t ≡ c .sample ∷ accepted source published l cs (left-by source published l c t)
+      : (c : Call) (cs : List Call) (t : Bytes) → takes source published l c t ≡ true
+      → accepted source published l (c ∷ cs) t ≡ c .sample ∷ accepted source published l cs (left-by source published l c t)
   unfolding accepted
   accepted-taken c cs t e = rw (e, accepted)
 
   accepted-refused
-    : (c : Call) (cs : List Call) (t : Bytes) → takes source published l c t ≡ false
-    → accepted source published l (c ∷ cs) t ≡ accepted source published l cs (left-by source published l c t)
+      : (c : Call) (cs : List Call) (t : Bytes) → takes source published l c t ≡ false
+      → accepted source published l (c ∷ cs) t ≡ accepted source published l cs (left-by source published l c t)
   unfolding accepted
   accepted-refused c cs t e = rw (e, accepted)
 
@@ -121,80 +122,84 @@ module _ (source : Source) (proper : Proper-source source) (published : List ℕ
     pub above : below s shape ≡ true
     pub admits-each : Each (Admitted-by shape) (accepted source published l calls t)
     pub least
-      : (u : Shape) → ascending u ≡ true → below s u ≡ true → Each (Must-admit u) (accepted source published l calls t)
-      → below shape u ≡ true
+        : (u : Shape) → ascending u ≡ true → below s u ≡ true → Each (Must-admit u) (accepted source published l calls t)
+        → below shape u ≡ true
 
   join-stands
-    : {c : Call} {t : Bytes} {s : Shape} {v : Value} → Stands l t s → Accepted source published l c t s v
-    → Stands l (left-by source published l c t) (join s (shape-of v))
+      : {c : Call} {t : Bytes} {s : Shape} {v : Value} → Stands l t s → Accepted source published l c t s v
+      → Stands l (left-by source published l c t) (join s (shape-of v))
   join-stands {c} {t} {s} {v} h a =
-      record
-        { text = accepted-left source published l c t s v a .1;
-          sorted = join-ascending s (shape-of v) (h .sorted) (shape-of-ascending v);
-          good = join-good s (shape-of v) (h .good) (shape-of-good v (proper .good l (c .sample) v (a .reads-sample .value)));
-          fits = a .fits }
+      record {
+        text = accepted-left source published l c t s v a .1;
+        sorted = join-ascending s (shape-of v) (h .sorted) (shape-of-ascending v);
+        good = join-good s (shape-of v) (h .good) (shape-of-good v (proper .good l (c .sample) v (a .reads-sample .value)));
+        fits = a .fits;
+      }
 
   -- an accepted call, then the rest
   reaches-taken
-    : (c : Call) (cs : List Call) (t : Bytes) (s : Shape) (v : Value) → Stands l t s → Accepted source published l c t s v
-    → Reaches cs (left-by source published l c t) (join s (shape-of v)) → Reaches (c ∷ cs) t s
+      : (c : Call) (cs : List Call) (t : Bytes) (s : Shape) (v : Value) → Stands l t s → Accepted source published l c t s v
+      → Reaches cs (left-by source published l c t) (join s (shape-of v)) → Reaches (c ∷ cs) t s
   unfolding reached
   reaches-taken c cs t s v h a k =
       let j : ascending (join s (shape-of v)) ≡ true = join-ascending s (shape-of v) (h .sorted) (shape-of-ascending v) in
       let e = accepted-taken c cs t (accepted-left source published l c t s v a .0) in
-      record
-        { shape = k .shape;
-          stands = k .stands;
-          above =
+      record {
+        shape = k .shape;
+        stands = k .stands;
+        above =
             below-trans s (join s (shape-of v)) (k .shape) (h .sorted) j (k .stands .sorted)
             (join-upper-left s (shape-of v) (h .sorted) (shape-of-ascending v)) (k .above);
-          admits-each =
+        admits-each =
             subst (Each (Admitted-by (k .shape))) (sym e)
-            (each-one
-            (v,
+            (each-one (
+              v,
               a .reads-sample,
               below-sample (k .shape) (k .stands .sorted) (a .reads-sample)
-              (below-trans (shape-of v) (join s (shape-of v)) (k .shape) (shape-of-ascending v) j (k .stands .sorted)
-              (join-upper-right s (shape-of v) (h .sorted) (shape-of-ascending v)) (k .above)))
+                  (below-trans (shape-of v) (join s (shape-of v)) (k .shape) (shape-of-ascending v) j (k .stands .sorted)
+                  (join-upper-right s (shape-of v) (h .sorted) (shape-of-ascending v)) (k .above)),
+            )
             (k .admits-each));
-          least =
+        least =
             λ u b q w.
-              let w′ : Each (Must-admit u) (c .sample ∷ accepted source published l cs (left-by source published l c t)) =
-                subst (Each (Must-admit u)) e w in
-              k .least u b
-              (join-least s (shape-of v) u (h .sorted) (shape-of-ascending v) b q
-              (sample-below u b (a .reads-sample) (each-first w′ v (a .reads-sample))))
-              (each-rest w′) }
+            let w′ : Each (Must-admit u) (c .sample ∷ accepted source published l cs (left-by source published l c t)) =
+            subst (Each (Must-admit u)) e w in
+            k .least u b
+            (join-least s (shape-of v) u (h .sorted) (shape-of-ascending v) b q
+            (sample-below u b (a .reads-sample) (each-first w′ v (a .reads-sample))))
+            (each-rest w′);
+      }
 
   reaches-refused
-    : (c : Call) (cs : List Call) (t : Bytes) (s : Shape) → takes source published l c t ≡ false
-    → Reaches cs (left-by source published l c t) s → Reaches (c ∷ cs) t s
+      : (c : Call) (cs : List Call) (t : Bytes) (s : Shape) → takes source published l c t ≡ false
+      → Reaches cs (left-by source published l c t) s → Reaches (c ∷ cs) t s
   unfolding reached
   reaches-refused c cs t s e k =
-      record
-        { shape = k .shape;
-          stands = k .stands;
-          above = k .above;
-          admits-each = subst (Each (Admitted-by (k .shape))) (sym (accepted-refused c cs t e)) (k .admits-each);
-          least = λ u b q w. k .least u b q (subst (Each (Must-admit u)) (accepted-refused c cs t e) w) }
+      record {
+        shape = k .shape;
+        stands = k .stands;
+        above = k .above;
+        admits-each = subst (Each (Admitted-by (k .shape))) (sym (accepted-refused c cs t e)) (k .admits-each);
+        least = λ u b q w. k .least u b q (subst (Each (Must-admit u)) (accepted-refused c cs t e) w);
+      }
 
   reaches-none : (t : Bytes) (s : Shape) → Stands l t s → Reaches [] t s
   unfolding reached accepted
   reaches-none t s h =
       record
-        { shape = s; stands = h; above = below-refl s (h .sorted); admits-each = each-none; least = λ u b q w. q }
+      { shape = s; stands = h; above = below-refl s (h .sorted); admits-each = each-none; least = λ u b q w. q }
 
   -- the shape that the call read is the one whose text it was handed
   same-shape
-    : {c : Call} {t : Bytes} {s z : Shape} {v : Value} → Stands l t s → Accepted source published l c t z v
-    → Accepted source published l c t s v
+      : {c : Call} {t : Bytes} {s z : Shape} {v : Value} → Stands l t s → Accepted source published l c t z v
+      → Accepted source published l c t s v
   same-shape {c} {t} {s} {z} {v} h a =
       subst (λ (x : Shape). Accepted source published l c t x v) (ok-same (a .reads-shape) (stands-reads h)) a
 
   -- the first call, given what the rest reaches from any text
   reaches-first
-    : (c : Call) (cs : List Call) (t : Bytes) (s : Shape) → Stands l t s
-    → ((t′ : Bytes) (s′ : Shape) → Stands l t′ s′ → Reaches cs t′ s′) → Reaches (c ∷ cs) t s
+      : (c : Call) (cs : List Call) (t : Bytes) (s : Shape) → Stands l t s
+      → ((t′ : Bytes) (s′ : Shape) → Stands l t′ s′ → Reaches cs t′ s′) → Reaches (c ∷ cs) t s
   reaches-first c cs t s h rest = go (takes source published l c t) refl
     where
       go : (b : Bool) → takes source published l c t ≡ b → Reaches (c ∷ cs) t s
@@ -215,30 +220,31 @@ module _ (source : Source) (proper : Proper-source source) (published : List ℕ
 
   -- a call below a shape that fits, with long enough buffers, is accepted
   fits-below
-    : (top : Shape) (text : Bytes) → Stands l text top → (c : Call) (t : Bytes) (s : Shape) (v : Value) → Stands l t s
-    → Reads source l (c .sample) v → below s top ≡ true → below (shape-of v) top ≡ true → Long-enough published text c
-    → Accepted source published l c t s v
+      : (top : Shape) (text : Bytes) → Stands l text top → (c : Call) (t : Bytes) (s : Shape) (v : Value) → Stands l t s
+      → Reads source l (c .sample) v → below s top ≡ true → below (shape-of v) top ≡ true → Long-enough published text c
+      → Accepted source published l c t s v
   fits-below top text k c t s v h r p q long =
       let sv : ascending (shape-of v) ≡ true = shape-of-ascending v in
       let j : ascending (join s (shape-of v)) ≡ true = join-ascending s (shape-of v) (h .sorted) sv in
       let m : below (join s (shape-of v)) top ≡ true = join-least s (shape-of v) top (h .sorted) sv (k .sorted) p q in
       let f = shape-fits l top (k .fits) in
       let w : length (write-shape (join s (shape-of v))) ≤ length (write-shape top) = write-mono _ top j (k .sorted) m in
-      record
-        { work = long .work;
-          short-text = stands-short h;
-          reads-shape = stands-reads h;
-          reads-sample = r;
-          fits =
+      record {
+        work = long .work;
+        short-text = stands-short h;
+        reads-shape = stands-reads h;
+        reads-sample = r;
+        fits =
             fits-shape l (join s (shape-of v)) (le-trans (forms-mono _ top j (k .sorted) m) (f .0))
             (le-trans (levels-mono _ top j (k .sorted) m) (f .1)) (le-trans w (f .2));
-          room = le-trans w (subst (λ (x : Bytes). length x ≤ length (c .output)) (k .text) (long .room)) }
+        room = le-trans w (subst (λ (x : Bytes). length x ≤ length (c .output)) (k .text) (long .room));
+      }
 
   -- every call of another order is accepted
   all-accepted
-    : (top : Shape) (text : Bytes) → Stands l text top → (others : List Call) (t : Bytes) (s : Shape) → Stands l t s → below s top ≡ true
-    → Each (Admitted-by top) (map (λ c. c .sample) others) → Each (Long-enough published text) others
-    → accepted source published l others t ≡ map (λ c. c .sample) others
+      : (top : Shape) (text : Bytes) → Stands l text top → (others : List Call) (t : Bytes) (s : Shape) → Stands l t s → below s top ≡ true
+      → Each (Admitted-by top) (map (λ c. c .sample) others) → Each (Long-enough published text) others
+      → accepted source published l others t ≡ map (λ c. c .sample) others
   unfolding accepted
   all-accepted top text k [] t s h p each long = refl
   all-accepted top text k (c ∷ cs) t s h p each long =
@@ -252,11 +258,11 @@ module _ (source : Source) (proper : Proper-source source) (published : List ℕ
 
   -- "In any other order, given long enough buffers, these samples are all accepted too and reach the same bytes."
   pub another-order
-    : (calls others : List Call) (t : Bytes) (s : Shape) (h : Stands l t s)
-    → Reordered (accepted source published l calls t) (map (λ c. c .sample) others)
-    → Each (Long-enough published (reached source published l calls t)) others
-    → (accepted source published l others t ≡ map (λ c. c .sample) others)
-    × (reached source published l others t ≡ reached source published l calls t)
+      : (calls others : List Call) (t : Bytes) (s : Shape) (h : Stands l t s)
+      → Reordered (accepted source published l calls t) (map (λ c. c .sample) others)
+      → Each (Long-enough published (reached source published l calls t)) others
+      → (accepted source published l others t ≡ map (λ c. c .sample) others)
+      × (reached source published l others t ≡ reached source published l calls t)
   another-order calls others t s h o long = (all, texts)
     where
       here : Reaches calls t s

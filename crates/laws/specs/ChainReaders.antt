@@ -21,7 +21,7 @@ use Rattle.definitions.specs.Operations.{Done, Source, Judged, passed, stopped,
 use Rattle.laws.specs.Good.{Good-shape}
 use Rattle.laws.specs.Soundness.{Safe, sound}
 use Rattle.laws.specs.SoundShapes.{check-ascending}
-use Rattle.laws.specs.SoundReading.{read-scoped, read-proper}
+use Rattle.laws.specs.ReaderFacts.{reader-scoped, reader-proper}
 use Rattle.laws.specs.RoundLaws.{reader-read-good, check-good, shape-reads-back}
 use Rattle.laws.specs.Tests.{ltb-lt, ltb-le}
 use Rattle.laws.specs.Judging.{Numbered, Positive, bind-positive, work-positive, text-positive, in-text-positive, shape-out-positive, bind-passed, bind-of, bind-stopped, work-short, work-long, text-passed, in-text-passed, text-reads, shape-over, shape-out-passed, shape-fits, result-over, result-out-over, result-out-fits, deliver-short, deliver-room, finish-zero, finish-written, front}
@@ -56,35 +56,37 @@ module _ (published lent : List ℕ) (l : Limits) where
     pub checks : check-reader r s ≡ ok u
     pub fits : shape-over l u ≡ false
     pub wrote
-      : take (check-operation published lent l reader text output .answer .length) (check-operation published lent l reader text output .output)
-      ≡ write-shape u
+        : take (check-operation published lent l reader text output .answer .length) (check-operation published lent l reader text output .output)
+        ≡ write-shape u
 
   checked-passed
-    : (reader text output : Bytes) (o : Text-out) → checked reader text ≡ passed o → length (o .bytes) ≤ length output
-    → (r : Result) × (s : Shape) × (u : Shape) × Passed reader text output r s u
+      : (reader text output : Bytes) (o : Text-out) → checked reader text ≡ passed o → length (o .bytes) ≤ length output
+      → (r : Result) × (s : Shape) × (u : Shape) × Passed reader text output r s u
   unfolding check-operation
   checked-passed reader text output o e room =
       let (w, e₁, f₁) = bind-passed (judge-work published lent) _ o e in
       let (r, e₂, f₂) = bind-passed (judge-text 1 l read-reader reader) _ o f₁ in
       let (s, e₃, f₃) = bind-passed (judge-text 2 l read-shape text) _ o f₂ in
       let (u, e₄, f₄) = bind-passed (in-text 1 (check-reader r s)) _ o f₃ in
-      let (x, y) = shape-out-passed l u o f₄ in
-      (r,
+      let (x, y) = shape-out-passed l u o f₄ in (
+        r,
         s,
         u,
-        record
-          { short-reader = text-passed 1 l read-reader reader r e₂ .0;
-            reads-reader = text-passed 1 l read-reader reader r e₂ .1;
-            reads-shape = text-passed 2 l read-shape text s e₃ .1;
-            checks = in-text-passed 1 (check-reader r s) u e₄;
-            fits = x;
-            wrote =
+        record {
+          short-reader = text-passed 1 l read-reader reader r e₂ .0;
+          reads-reader = text-passed 1 l read-reader reader r e₂ .1;
+          reads-shape = text-passed 2 l read-shape text s e₃ .1;
+          checks = in-text-passed 1 (check-reader r s) u e₄;
+          fits = x;
+          wrote =
               front output o (check-operation published lent l reader text output) (finish-written output o e room) .1
-              ∙ ap (λ (t : Text-out). t .bytes) y })
+              ∙ ap (λ (t : Text-out). t .bytes) y;
+        },
+      )
 
   pub check-passed
-    : (reader text output : Bytes) → check-operation published lent l reader text output .answer .number ≡ 0
-    → (r : Result) × (s : Shape) × (u : Shape) × Passed reader text output r s u
+      : (reader text output : Bytes) → check-operation published lent l reader text output .answer .number ≡ 0
+      → (r : Result) × (s : Shape) × (u : Shape) × Passed reader text output r s u
   unfolding check-operation
   check-passed reader text output e =
       let f = finish-zero output (checked reader text) (checked-positive reader text) e in
@@ -107,61 +109,61 @@ module _ (source : Source) (published lent : List ℕ) (l : Limits) where
   run-is reader document output = refl
 
   module _
-    (reader document output : Bytes) (r : Result) (v : Value) (u : Shape) (short-reader : length reader ≤ l .bytes)
-    (reads-reader : read-reader l reader ≡ ok r) (reads : Reads source l document v)
+      (reader document output : Bytes) (r : Result) (v : Value) (u : Shape) (short-reader : length reader ≤ l .bytes)
+      (reads-reader : read-reader l reader ≡ ok r) (reads : Reads source l document v)
     where
-    abbrev End : Done → Type 0
-    End = Ends published lent l r v u output
+      abbrev End : Done → Type 0
+      End = Ends published lent l r v u output
 
-    -- where the work slices are long enough, run comes to what running the reader comes to
-    ran-runs : short published lent ≡ false → ran reader document ≡ in-text 1 (run-reader r l v) >>= λ x. result-out l x
-    ran-runs e =
-        bind-of _ (work-long published lent e)
-        ∙ bind-of _ (text-reads 1 l read-reader reader r short-reader reads-reader)
-        ∙ bind-of _ (text-reads 2 l source document v (reads .short-enough) (reads .value))
+      -- where the work slices are long enough, run comes to what running the reader comes to
+      ran-runs : short published lent ≡ false → ran reader document ≡ in-text 1 (run-reader r l v) >>= λ x. result-out l x
+      ran-runs e =
+          bind-of _ (work-long published lent e)
+          ∙ bind-of _ (text-reads 1 l read-reader reader r short-reader reads-reader)
+          ∙ bind-of _ (text-reads 2 l source document v (reads .short-enough) (reads .value))
 
-    ends-delivered : (x : Ran Value) → run-reader r l v ≡ ok x → admits u (x .result) ≡ true
-      → End (deliver output (record { bytes = plain (x .result); steps = x .steps }))
-    ends-delivered x e a = go (ltb (length output) (length (plain (x .result)))) refl
-      where
-        o : Text-out
-        o = record { bytes = plain (x .result); steps = x .steps }
+      ends-delivered : (x : Ran Value) → run-reader r l v ≡ ok x → admits u (x .result) ≡ true
+          → End (deliver output (record { bytes = plain (x .result); steps = x .steps }))
+      ends-delivered x e a = go (ltb (length output) (length (plain (x .result)))) refl
+        where
+          o : Text-out
+          o = record { bytes = plain (x .result); steps = x .steps }
 
-        go : (b : Bool) → ltb (length output) (length (plain (x .result))) ≡ b → End (deliver output o)
-        go true q = subst End (sym (deliver-short output o q)) (no-room x e (ltb-lt _ _ q))
-        go false q = subst End (sym (deliver-room output o q)) (gives x e a)
+          go : (b : Bool) → ltb (length output) (length (plain (x .result))) ≡ b → End (deliver output o)
+          go true q = subst End (sym (deliver-short output o q)) (no-room x e (ltb-lt _ _ q))
+          go false q = subst End (sym (deliver-room output o q)) (gives x e a)
 
-    ends-result : (x : Ran Value) → run-reader r l v ≡ ok x → admits u (x .result) ≡ true → End (finish output (result-out l x))
-    unfolding finish
-    ends-result x e a = go (result-over l (x .result)) refl
-      where
-        go : (b : Bool) → result-over l (x .result) ≡ b → End (finish output (result-out l x))
-        go true q = subst (λ (m : Judged Text-out). End (finish output m)) (sym (result-out-over l x q)) (too-large x e q)
-        go false q = subst (λ (m : Judged Text-out). End (finish output m)) (sym (result-out-fits l x q)) (ends-delivered x e a)
+      ends-result : (x : Ran Value) → run-reader r l v ≡ ok x → admits u (x .result) ≡ true → End (finish output (result-out l x))
+      unfolding finish
+      ends-result x e a = go (result-over l (x .result)) refl
+        where
+          go : (b : Bool) → result-over l (x .result) ≡ b → End (finish output (result-out l x))
+          go true q = subst (λ (m : Judged Text-out). End (finish output m)) (sym (result-out-over l x q)) (too-large x e q)
+          go false q = subst (λ (m : Judged Text-out). End (finish output m)) (sym (result-out-fits l x q)) (ends-delivered x e a)
 
-    ends-run
-      : (o : Outcome ℕ (Ran Value)) → run-reader r l v ≡ o → Safe u o → End (finish output (in-text 1 o >>= λ x. result-out l x))
-    unfolding finish in-text _>>=_
-    ends-run (ok x) e h = ends-result x e (h .0)
-    ends-run (refused n p) e h =
-        subst (λ (k : ℕ). End (record { answer = refusal k 1 p; output = output })) (sym h)
-        (out-of-steps p (subst (λ (k : ℕ). run-reader r l v ≡ refused k p) h e))
+      ends-run
+          : (o : Outcome ℕ (Ran Value)) → run-reader r l v ≡ o → Safe u o → End (finish output (in-text 1 o >>= λ x. result-out l x))
+      unfolding finish in-text _>>=_
+      ends-run (ok x) e h = ends-result x e (h .0)
+      ends-run (refused n p) e h =
+          subst (λ (k : ℕ). End (record { answer = refusal k 1 p; output = output })) (sym h)
+          (out-of-steps p (subst (λ (k : ℕ). run-reader r l v ≡ refused k p) h e))
 
-    pub run-ends : Safe u (run-reader r l v) → End (run-operation source published lent l reader document output)
-    unfolding finish in-text _>>=_
-    run-ends h = subst End (sym (run-is reader document output)) (go (short published lent) refl)
-      where
-        go : (b : Bool) → short published lent ≡ b → End (finish output (ran reader document))
-        go true q = subst (λ (m : Judged Text-out). End (finish output m)) (sym (bind-stopped _ (work-short published lent q))) (short-work q)
-        go false q = subst (λ (m : Judged Text-out). End (finish output m)) (sym (ran-runs q)) (ends-run (run-reader r l v) refl h)
+      pub run-ends : Safe u (run-reader r l v) → End (run-operation source published lent l reader document output)
+      unfolding finish in-text _>>=_
+      run-ends h = subst End (sym (run-is reader document output)) (go (short published lent) refl)
+        where
+          go : (b : Bool) → short published lent ≡ b → End (finish output (ran reader document))
+          go true q = subst (λ (m : Judged Text-out). End (finish output m)) (sym (bind-stopped _ (work-short published lent q))) (short-work q)
+          go false q = subst (λ (m : Judged Text-out). End (finish output m)) (sym (ran-runs q)) (ends-run (run-reader r l v) refl h)
 
 -- ---- both
 
 -- a reader that passes against the text of a shape
 pub passes
-  : (source : Source) → Proper-source source → (for-check for-run : List ℕ) (l : Limits) (text : Bytes) (s : Shape) → Stands l text s
-  → (reader output : Bytes) (lent : List ℕ) → check-operation for-check lent l reader text output .answer .number ≡ 0
-  → Passes source for-check for-run l s reader lent output text
+    : (source : Source) → Proper-source source → (for-check for-run : List ℕ) (l : Limits) (text : Bytes) (s : Shape) → Stands l text s
+    → (reader output : Bytes) (lent : List ℕ) → check-operation for-check lent l reader text output .answer .number ≡ 0
+    → Passes source for-check for-run l s reader lent output text
 passes source proper for-check for-run l text s h reader output lent e =
     let p = check-passed for-check lent l reader text output e in
     go (p .0) (p .2) (subst (λ (x : Shape). Passed for-check lent l reader text output (p .0) x (p .2)) (ok-same (p .3 .reads-shape) (stands-reads h)) (p .3))
@@ -171,13 +173,14 @@ passes source proper for-check for-run l text s h reader output lent e =
         let f = shape-fits l u (p .fits) in
         let a : ascending u ≡ true = check-ascending r s u (h .sorted) (p .checks) in
         let g : Good-shape u = check-good r s u (reader-read-good l reader r (p .reads-reader)) (h .good) (p .checks) in
-        record
-          { result = u;
-            wrote = ap (λ (t : Bytes). read-shape l t) (p .wrote) ∙ shape-reads-back l u g a (f .0) (f .1);
-            form = r;
-            reads = p .reads-reader;
-            ends =
+        record {
+          result = u;
+          wrote = ap (λ (t : Bytes). read-shape l t) (p .wrote) ∙ shape-reads-back l u g a (f .0) (f .1);
+          form = r;
+          reads = p .reads-reader;
+          ends =
               λ document output′ lent′ v d m.
-                run-ends source for-run lent′ l reader document output′ r v u (p .short-reader) (p .reads-reader) d
-                (sound r l s v u (h .sorted) (proper .names-once l document v (d .value)) (read-scoped l reader r (p .reads-reader))
-                (read-proper l reader r (p .reads-reader)) (p .checks) m) }
+              run-ends source for-run lent′ l reader document output′ r v u (p .short-reader) (p .reads-reader) d
+              (sound r l s v u (h .sorted) (proper .names-once l document v (d .value)) (reader-scoped l reader r (p .reads-reader))
+              (reader-proper l reader r (p .reads-reader)) (p .checks) m);
+        }

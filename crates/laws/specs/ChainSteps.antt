@@ -36,13 +36,13 @@ module _ (source : Source) (published : List ℕ) (l : Limits) where
     pub room : length (write-shape (join s (shape-of v))) ≤ length (c .output)
 
   left-taken
-    : (c : Call) (t : Bytes) → takes source published l c t ≡ true
-    → left-by source published l c t ≡ take (infers source published l c t .answer .length) (infers source published l c t .output)
+      : (c : Call) (t : Bytes) → takes source published l c t ≡ true
+      → left-by source published l c t ≡ take (infers source published l c t .answer .length) (infers source published l c t .output)
   unfolding left-by
   left-taken c t e = rw (e, left-by)
 
   judged-accepted : (c : Call) (t : Bytes) (s : Shape) (v : Value) → Accepted c t s v
-    → judged c t ≡ passed (record { bytes = write-shape (join s (shape-of v)); steps = 0 })
+      → judged c t ≡ passed (record { bytes = write-shape (join s (shape-of v)); steps = 0 })
   judged-accepted c t s v a =
       bind-of _ (work-long published (c .lent) (a .work))
       ∙ bind-of _ (text-reads 1 l read-shape t s (a .short-text) (a .reads-shape))
@@ -50,9 +50,9 @@ module _ (source : Source) (published : List ℕ) (l : Limits) where
       ∙ shape-out-fits l (join s (shape-of v)) (a .fits)
 
   infers-accepted
-    : (c : Call) (t : Bytes) (s : Shape) (v : Value) → Accepted c t s v
-    → (infers source published l c t .answer .number ≡ 0)
-    × (take (infers source published l c t .answer .length) (infers source published l c t .output) ≡ write-shape (join s (shape-of v)))
+      : (c : Call) (t : Bytes) (s : Shape) (v : Value) → Accepted c t s v
+      → (infers source published l c t .answer .number ≡ 0)
+      × (take (infers source published l c t .answer .length) (infers source published l c t .output) ≡ write-shape (join s (shape-of v)))
   unfolding infers infer-operation
   infers-accepted c t s v a =
       let o : Text-out = record { bytes = write-shape (join s (shape-of v)); steps = 0 } in
@@ -60,13 +60,13 @@ module _ (source : Source) (published : List ℕ) (l : Limits) where
 
   -- an accepted call leaves the text of the join
   pub accepted-left
-    : (c : Call) (t : Bytes) (s : Shape) (v : Value) → Accepted c t s v
-    → (takes source published l c t ≡ true) × (left-by source published l c t ≡ write-shape (join s (shape-of v)))
+      : (c : Call) (t : Bytes) (s : Shape) (v : Value) → Accepted c t s v
+      → (takes source published l c t ≡ true) × (left-by source published l c t ≡ write-shape (join s (shape-of v)))
   unfolding takes
   accepted-left c t s v a = (yes-taken, left-taken c t yes-taken ∙ infers-accepted c t s v a .1)
     where
       yes-taken : takes source published l c t ≡ true
-      yes-taken = eq-eqb _ 0 (infers-accepted c t s v a .0)
+      yes-taken = eq-eqb (infers-accepted c t s v a .0)
 
   -- a call that is not accepted leaves the text as it was
   pub refused-left : (c : Call) (t : Bytes) → takes source published l c t ≡ false → left-by source published l c t ≡ t
@@ -74,24 +74,26 @@ module _ (source : Source) (published : List ℕ) (l : Limits) where
   refused-left c t e = rw (e, left-by)
 
   passed-accepted
-    : (c : Call) (t : Bytes) (o : Text-out) → judged c t ≡ passed o → length (o .bytes) ≤ length (c .output)
-    → (s : Shape) × (v : Value) × Accepted c t s v
+      : (c : Call) (t : Bytes) (o : Text-out) → judged c t ≡ passed o → length (o .bytes) ≤ length (c .output)
+      → (s : Shape) × (v : Value) × Accepted c t s v
   passed-accepted c t o e room =
       let (w, e₁, f₁) = bind-passed (judge-work published (c .lent)) _ o e in
       let (s, e₂, f₂) = bind-passed (judge-text 1 l read-shape t) _ o f₁ in
       let (v, e₃, f₃) = bind-passed (judge-text 2 l source (c .sample)) _ o f₂ in
-      let (x, y) = shape-out-passed l (join s (shape-of v)) o f₃ in
-      (s,
+      let (x, y) = shape-out-passed l (join s (shape-of v)) o f₃ in (
+        s,
         v,
-        record
-          { work = work-passed published (c .lent) e₁;
-            short-text = text-passed 1 l read-shape t s e₂ .0;
-            reads-shape = text-passed 1 l read-shape t s e₂ .1;
-            reads-sample =
+        record {
+          work = work-passed published (c .lent) e₁;
+          short-text = text-passed 1 l read-shape t s e₂ .0;
+          reads-shape = text-passed 1 l read-shape t s e₂ .1;
+          reads-sample =
               record
-                { short-enough = text-passed 2 l source (c .sample) v e₃ .0; value = text-passed 2 l source (c .sample) v e₃ .1 };
-            fits = x;
-            room = subst (λ (o : Text-out). length (o .bytes) ≤ length (c .output)) y room })
+              { short-enough = text-passed 2 l source (c .sample) v e₃ .0; value = text-passed 2 l source (c .sample) v e₃ .1 };
+          fits = x;
+          room = subst (λ (o : Text-out). length (o .bytes) ≤ length (c .output)) y room;
+        },
+      )
 
   source-numbered : Proper-source source → (d : Bytes) → Numbered (source l d)
   source-numbered proper d = go (source l d) refl
@@ -101,7 +103,7 @@ module _ (source : Source) (published : List ℕ) (l : Limits) where
       go (refused n p) e = proper .numbered l d n p e
 
   judged-positive
-    : Proper-source source → (c : Call) (t : Bytes) → Numbered (read-shape l t) → Positive (judged c t)
+      : Proper-source source → (c : Call) (t : Bytes) → Numbered (read-shape l t) → Positive (judged c t)
   judged-positive proper c t numbered =
       bind-positive _ _ (work-positive published (c .lent)) λ w.
       bind-positive _ _ (text-positive 1 l read-shape t numbered) λ s.
@@ -114,9 +116,9 @@ module _ (source : Source) (published : List ℕ) (l : Limits) where
 
   -- a call whose number is 0 was accepted for these reasons
   pub taken-accepted
-    : Proper-source source → (c : Call) (t : Bytes) → Numbered (read-shape l t)
-    → takes source published l c t ≡ true → (s : Shape) × (v : Value) × Accepted c t s v
+      : Proper-source source → (c : Call) (t : Bytes) → Numbered (read-shape l t)
+      → takes source published l c t ≡ true → (s : Shape) × (v : Value) × Accepted c t s v
   unfolding takes
   taken-accepted proper c t numbered e =
-      let f = finish-zero (c .output) (judged c t) (judged-positive proper c t numbered) (infers-number c t (eqb-eq _ 0 e)) in
+      let f = finish-zero (c .output) (judged c t) (judged-positive proper c t numbered) (infers-number c t (eqb-eq e)) in
       passed-accepted c t (f .0) (f .1) (f .2)

@@ -57,7 +57,7 @@ clash {A} {o} {a} {n} {p} e f = subst Is-ok (sym f ∙ e) tt
 
 -- without distinct names a shape would let a value through that it does not admit
 pub repeated-name-slips-through
-  : ((s : Shape) (v : Value) → ascending s ≡ true → below (shape-of v) s ≡ true → admits s v ≡ true) → ⊥
+    : ((s : Shape) (v : Value) → ascending s ≡ true → below (shape-of v) s ≡ true → admits s v ≡ true) → ⊥
 unfolding evaluate twice with-a int-shape an-int
 repeated-name-slips-through h = false≢true (h with-a twice refl refl)
 
@@ -69,7 +69,7 @@ unsorted-shape-is-not-below-itself h =
 
 -- with the order turned round the shape of a value would lie above all that admit it
 pub order-turned-round
-  : ((s : Shape) (v : Value) → distinct v ≡ true → ascending s ≡ true → admits s v ≡ true → below s (shape-of v) ≡ true) → ⊥
+    : ((s : Shape) (v : Value) → distinct v ≡ true → ascending s ≡ true → admits s v ≡ true → below s (shape-of v) ≡ true) → ⊥
 unfolding evaluate distinct with-a int-shape
 order-turned-round h =
     false≢true (h (only-rec (rec-of (field (bytes "a") only-null no-fields))) (Value.rec no-members) refl refl refl)
@@ -82,13 +82,13 @@ int-reader = Result.convert 0 Conversion.to-int (Place.it 5 0)
 
 -- without the check a reader gets stuck on a document that the shape admits
 pub unchecked-reader-gets-stuck
-  : ((r : Result) (l : Limits) (s : Shape) (v : Value) (p : ℕ) → admits s v ≡ true → run-reader r l v ≡ refused 12 p → ⊥) → ⊥
+    : ((r : Result) (l : Limits) (s : Shape) (v : Value) (p : ℕ) → admits s v ≡ true → run-reader r l v ≡ refused 12 p → ⊥) → ⊥
 unfolding evaluate int-reader
 unchecked-reader-gets-stuck h = h int-reader standard only-null Value.null 0 refl refl
 
 -- a reader that passed gets stuck on a document that the shape does not admit
 pub document-not-admitted-gets-stuck
-  : ((r : Result) (l : Limits) (s u : Shape) (v : Value) (p : ℕ) → check-reader r s ≡ ok u → run-reader r l v ≡ refused 12 p → ⊥) → ⊥
+    : ((r : Result) (l : Limits) (s u : Shape) (v : Value) (p : ℕ) → check-reader r s ≡ ok u → run-reader r l v ≡ refused 12 p → ⊥) → ⊥
 unfolding evaluate int-reader int-shape
 document-not-admitted-gets-stuck h = h int-reader standard int-shape int-shape Value.null 0 refl refl
 
@@ -115,7 +115,7 @@ five-lists-text =
 
 -- with a nesting limit one larger than the reader's, texts of the grammar would be accepted that are not
 pub one-level-too-deep
-  : ((l : Limits) (s : Bytes) (x : Tree) → JSON-text s x → nesting (meaning x) ≤ l .nesting + 1 → read-json l s ≡ ok (meaning x)) → ⊥
+    : ((l : Limits) (s : Bytes) (x : Tree) → JSON-text s x → nesting (meaning x) ≤ l .nesting + 1 → read-json l s ≡ ok (meaning x)) → ⊥
 unfolding evaluate five-lists meaning smallest
 one-level-too-deep h =
     clash {n = 6} {p = 4} refl (h smallest (bytes "[[[[[]]]]]") five-lists five-lists-text (lit≤ tt))
@@ -143,10 +143,10 @@ scant d = record { sample = d; output = replicate 15 0; lent = [] }
 
 -- in another order, with an output one byte shorter than the text reached, a sample is refused
 pub short-output-loses-a-sample
-  : ((calls others : List Call)
-      → Reordered (accepted read-json [] standard calls start) (map (λ c. c .sample) others)
-      → accepted read-json [] standard others start ≡ map (λ c. c .sample) others)
-  → ⊥
+    : ((calls others : List Call)
+    → Reordered (accepted read-json [] standard calls start) (map (λ c. c .sample) others)
+    → accepted read-json [] standard others start ≡ map (λ c. c .sample) others)
+    → ⊥
 unfolding evaluate start accepted takes left-by infers ample scant
 short-output-loses-a-sample h =
     false≢true (ap one-left (h (ample (bytes "1") ∷ ample (bytes "2.5") ∷ []) (ample (bytes "2.5") ∷ scant (bytes "1") ∷ []) swap-first))
@@ -170,9 +170,9 @@ odd-distinct l document v e = subst Distinct-ok e refl
 
 -- from a source whose names are distinct and no UTF-8, the text reached is no shape text
 pub name-that-is-no-utf8-loses-the-shape
-  : ((source : Source) → ((l : Limits) (document : Bytes) (v : Value) → source l document ≡ ok v → distinct v ≡ true)
-      → (calls : List Call) → (s : Shape) × (read-shape standard (reached source [] standard calls start) ≡ ok s))
-  → ⊥
+    : ((source : Source) → ((l : Limits) (document : Bytes) (v : Value) → source l document ≡ ok v → distinct v ≡ true)
+    → (calls : List Call) → (s : Shape) × (read-shape standard (reached source [] standard calls start) ≡ ok s))
+    → ⊥
 unfolding evaluate start reached takes left-by infers ample odd-source
 name-that-is-no-utf8-loses-the-shape h =
     clash {n = 7} {p = 20} refl (h odd-source odd-distinct (record { sample = []; output = replicate 60 0; lent = [] } ∷ []) .1)

@@ -10,17 +10,18 @@ use Rattle.laws.specs.ChainReached.{Reaches, reaches, stands-start, stan
 use Rattle.laws.specs.ChainReaders.{passes}
 
 pub demand-3
-  : (source : Source) → Proper-source source → (for-infer for-check for-run : List ℕ) (l : Limits) → In-range l → (calls : List Call)
-  → Demand-3 source for-infer for-check for-run l calls
+    : (source : Source) → Proper-source source → (for-infer for-check for-run : List ℕ) (l : Limits) → In-range l → (calls : List Call)
+    → Demand-3 source for-infer for-check for-run l calls
 demand-3 source proper for-infer for-check for-run l range calls =
-    record
-      { shape = r .shape;
-        well-formed = r .stands .sorted;
-        reads-as = stands-reads (r .stands);
-        admits-each = r .admits-each;
-        lies-below = λ u a e. r .least u a (nothing-below u) e;
-        other-order = λ others o long. another-order source proper for-infer l calls others start nothing (stands-start l range) o long;
-        never-stuck = λ reader checked lent e. passes source proper for-check for-run l _ (r .shape) (r .stands) reader checked lent e }
+    record {
+      shape = r .shape;
+      well-formed = r .stands .sorted;
+      reads-as = stands-reads (r .stands);
+      admits-each = r .admits-each;
+      lies-below = λ u a e. r .least u a (nothing-below u) e;
+      other-order = λ others o long. another-order source proper for-infer l calls others start nothing (stands-start l range) o long;
+      never-stuck = λ reader checked lent e. passes source proper for-check for-run l _ (r .shape) (r .stands) reader checked lent e;
+    }
   where
     r : Reaches source proper for-infer l calls start nothing
     r = reaches source proper for-infer l calls start nothing (stands-start l range)

@@ -192,23 +192,26 @@ module _ {Q A : Type 0} (step : Q → Placed → Step Q) (whole : Q → Option A
     where
       next : ℕ → Q → Outcome ℕ A
       next n′ q′ = read-tokens step whole l n′ end q′ ts
+
       more : {d : ℕ} {ds : List ℕ} → suc n ≤ l .values → d ≤ l .nesting → Fits l (suc n) ds → Fits l n (d ∷ ds)
       more i j f = record { count-fits = let z = f .count-fits in omega arith; depth-fits = let z = f .depth-fits in omega arith }
+
       entered
-        : (d : ℕ) (r : Q) → step q t ≡ opens d r → (b : Bool) → full-forms l (suc n) d ≡ b
-        → Path (Outcome ℕ A) (elim b [ true ↦ refused 8 (t .at) | false ↦ next (suc n) r ]) (ok a)
-        → ((m : ℕ) (r : Q) → m ≤ l .values → next m r ≡ ok a → Accepted step whole l m r ts a)
-        → Accepted step whole l n q (t ∷ ts) a
+          : (d : ℕ) (r : Q) → step q t ≡ opens d r → (b : Bool) → full-forms l (suc n) d ≡ b
+          → Path (Outcome ℕ A) (elim b [ true ↦ refused 8 (t .at) | false ↦ next (suc n) r ]) (ok a)
+          → ((m : ℕ) (r : Q) → m ≤ l .values → next m r ≡ ok a → Accepted step whole l m r ts a)
+          → Accepted step whole l n q (t ∷ ts) a
       entered d r f true g e rest = refused-ok e
       entered d r f false g e rest =
           let i : suc n ≤ l .values = not-below-test _ _ (or-false-left (ltb (l .values) (suc n)) (ltb (l .nesting) d) g) in
           let j : d ≤ l .nesting = not-below-test _ _ (or-false-right (ltb (l .values) (suc n)) (ltb (l .nesting) d) g) in
           let w = rest (suc n) r i e in
           record { depths = d ∷ w .depths; last = w .last; walk = enter f (w .walk); is-whole = w .is-whole; fits = more i j (w .fits) }
+
       by-step
-        : (x : Step Q) → step q t ≡ x → judge-step l n (t .at) x next ≡ ok a
-        → ((m : ℕ) (r : Q) → m ≤ l .values → next m r ≡ ok a → Accepted step whole l m r ts a)
-        → Accepted step whole l n q (t ∷ ts) a
+          : (x : Step Q) → step q t ≡ x → judge-step l n (t .at) x next ≡ ok a
+          → ((m : ℕ) (r : Q) → m ≤ l .values → next m r ≡ ok a → Accepted step whole l m r ts a)
+          → Accepted step whole l n q (t ∷ ts) a
       by-step misplaced f g rest = refused-ok g
       by-step (go r) f g rest =
           let w = rest n r h g in
@@ -229,7 +232,9 @@ module _ {Q A : Type 0} (step : Q → Placed → Step Q) (whole : Q → Option A
           none-over
           (test-not-below {m = l .values} {n = suc n} (let z = f .count-fits in omega arith))
           (test-not-below {m = l .nesting} {n = d} (let z = f .depth-fits in omega arith))
+
       rest : Fits l (suc n) ds
       rest = record { count-fits = let z = f .count-fits in omega arith; depth-fits = let z = f .depth-fits in omega arith }
+
       again : read-tokens step whole l (suc n + length ds) end u us ≡ read-tokens step whole l (n + length (d ∷ ds)) end u us
       again = ap (λ m. read-tokens step whole l m end u us) (let z : suc n + length ds ≡ n + suc (length ds) = omega arith in z)

@@ -88,8 +88,8 @@ look-each P [] h w a e = absurd (Option·none-ne-some a e)
 look-each {A} P (named n b ∷ rows) h w a e = by-test (same w n) refl e (look-each P rows (h .1) w a)
   where
     by-test
-      : (c : Bool) → same w n ≡ c → Path (Option A) (elim c [ true ↦ some b | false ↦ look-word rows w ]) (some a)
-      → (look-word rows w ≡ some a → P w a) → P w a
+        : (c : Bool) → same w n ≡ c → Path (Option A) (elim c [ true ↦ some b | false ↦ look-word rows w ]) (some a)
+        → (look-word rows w ≡ some a → P w a) → P w a
     by-test true f g rest = subst₂ P (sym (same-eq w n f)) (Option·some-injective b a g) (h .0)
     by-test false f g rest = rest g
 

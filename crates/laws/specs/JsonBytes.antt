@@ -35,7 +35,7 @@ between-one : (c b : ℕ) → between c c b ≡ true → b ≡ c
 unfolding between
 between-one c b e =
     le-antisymm (leb→le b c (test-true (leb b c) (and-right (leb c b) (leb b c) e)))
-      (leb→le c b (test-true (leb c b) (and-left (leb c b) (leb b c) e)))
+    (leb→le c b (test-true (leb c b) (and-left (leb c b) (leb b c) e)))
 
 -- what is to be shown of each row of a table, and of a byte that none has
 abbrev Rows : {A : Type 0} (P : Option A → Type 0) → ℕ → List (Row A) → Type 0
@@ -106,14 +106,17 @@ pub value-byte : (o : Open) (b : ℕ) → Value-byte o b (value-move o b)
 unfolding value-move value-rows spell bytes true-name false-name null-name
 value-byte o b =
     look-cases P b (value-rows o)
-      (at quote, (at bracket, (at brace, (at letter-t, (at letter-f, (at letter-n, number (look (next begin) b) refl))))))
+    (at quote, (at bracket, (at brace, (at letter-t, (at letter-f, (at letter-n, number (look (next begin) b) refl))))))
   where
     number-or-none : Option Phase → Move
     number-or-none z = elim z [ some p ↦ Move.begin-number (State.in-number p (extend p no-digits b) o) | none ↦ Move.broken ]
+
     P : Option State → Type 0
     P z = Value-byte o b (elim z [ some q ↦ Move.begin-value o q | none ↦ number-or-none (look (next begin) b) ])
+
     number : (z : Option Phase) → look (next begin) b ≡ z → Value-byte o b (number-or-none z)
     number none e = nothing e
     number (some p) e = digit e
+
     at : {c : ℕ} {m : Move} → Value-byte o c m → between c c b ≡ true → Value-byte o b m
     at {c} {m} v e = subst (λ x. Value-byte o x m) (sym (between-one c b e)) v

@@ -33,13 +33,22 @@ full-cause
 unfolding full
 full-cause {l} {n} {k} f e a h =
     record {
-      context = k; before = f; first = a .first; others = a .others; split = a .split; no-space = a .no-space; rest = a .rest; tree = a .tree
-      ; behind = a .behind; begins = a .begins
-      ; over = over (or-cases (ltb (l .values) n) (ltb (l .nesting) (suc (depth (opened k)))) h)
+      context = k;
+      before = f;
+      first = a .first;
+      others = a .others;
+      split = a .split;
+      no-space = a .no-space;
+      rest = a .rest;
+      tree = a .tree;
+      behind = a .behind;
+      begins = a .begins;
+      over = over (or-cases (ltb (l .values) n) (ltb (l .nesting) (suc (depth (opened k)))) h);
     }
   where
     less : (i j : ℕ) → ltb i j ≡ true → i < j
     less i j g = ltb→lt i j (subst T (sym g) tt)
+
     over : (ltb (l .values) n ≡ true) ⊎ (ltb (l .nesting) (suc (depth (opened k))) ≡ true) → (l .values < suc (begun k)) ⊎ (l .nesting < suc (open-around k))
     over (inl g) = inl (less (l .values) (suc (begun k)) (subst (λ (z : ℕ). ltb (l .values) z ≡ true) e g))
     over (inr g) = inr (less (l .nesting) (suc (open-around k)) (subst (λ (z : ℕ). ltb (l .nesting) (suc z) ≡ true) (depth-opened k) g))
@@ -49,10 +58,15 @@ beyond-cause
     → ((b : ℕ) (w : Bytes) → here ≡ b ∷ w → look (next p) b ≡ none) → beyond d ≡ true → Beyond s r
 beyond-cause {here} {run} {d} {k} f e g c h o =
     record {
-      context = k; before = f; run = run; behind = here; digits = d; split = e
-      ; complete = subst (λ (z : Bytes). Rfc.number z d here) (sym e) (number-sound g c here)
-      ; longest = λ b w y d′ c′ u n y′. number-longest g b (h b w y) c′ u d′ n y′
-      ; over = o
+      context = k;
+      before = f;
+      run = run;
+      behind = here;
+      digits = d;
+      split = e;
+      complete = subst (λ (z : Bytes). Rfc.number z d here) (sym e) (number-sound g c here);
+      longest = λ b w y d′ c′ u n y′. number-longest g b (h b w y) c′ u d′ n y′;
+      over = o;
     }
 
 -- ---- what reading comes to
@@ -135,8 +149,8 @@ scan-told {s} {q} l pre [] e w k x =
     ended h = refuses-3 pre [] e (at-end (walk-begins w) (walk-unfinished w h))
 scan-told {q} l pre (b ∷ r) e w k x =
     judge-told l pre (λ n kept q. scan l n kept q r) (move-sound x) k e
-      (λ a h. refuses-3 pre (b ∷ r) e (at-byte (walk-begins w) (walk-breaks b w a)))
-      (λ n kept p y a h. scan-told l (pre ++ b ∷ []) r (one-more pre b r e) (walk-append w (step a stay)) h y)
+    (λ a h. refuses-3 pre (b ∷ r) e (at-byte (walk-begins w) (walk-breaks b w a)))
+    (λ n kept p y a h. scan-told l (pre ++ b ∷ []) r (one-more pre b r e) (walk-append w (step a stay)) h y)
 
 -- a whole text
 pub json-told : (l : Limits) (s : Bytes) → Told l s (scan l 0 s start s)

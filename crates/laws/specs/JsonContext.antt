@@ -101,7 +101,7 @@ module _ {n : ℕ} (k : Context) where
   unfolding begun meaning size
   count-array-end ts x e =
       let h : size-items (meaning-trees (trees-onto ts (tree x no-trees))) ≡ size-items (meaning-trees ts) + (size (meaning x) + 0) =
-            ap size-items (meaning-trees-onto ts (tree x no-trees)) ∙ size-items-onto (meaning-trees ts) (item (meaning x) no-items) in
+      ap size-items (meaning-trees-onto ts (tree x no-trees)) ∙ size-items-onto (meaning-trees ts) (item (meaning x) no-items) in
       omega arith
 
   pub count-object-end
@@ -110,7 +110,7 @@ module _ {n : ℕ} (k : Context) where
   unfolding begun meaning size
   count-object-end ns m x e =
       let h : size-members (meaning-named (named-onto ns (named m x no-named))) ≡ size-members (meaning-named ns) + (size (meaning x) + 0) =
-            ap size-members (meaning-named-onto ns (named m x no-named)) ∙ size-members-onto (meaning-named ns) (member m (meaning x) no-members) in
+      ap size-members (meaning-named-onto ns (named m x no-named)) ∙ size-members-onto (meaning-named ns) (member m (meaning x) no-members) in
       omega arith
 
 -- ---- white space behind
@@ -141,22 +141,22 @@ before-name-next (Before-name.next-name f v w) c = Before-name.next-name f v (st
 abbrev pub Array-from : Bytes → Trees → Context → Bytes → Type 0
 Array-from s ts k t =
     (b : Bytes) × Before s k b
-      × ((x : Tree) (xs : Trees) (u w r : Bytes) → Rfc.value t x u → Rfc.more-values u xs w → Rfc.end-array w r
-        → Rfc.array b (trees-onto ts (tree x xs)) r)
+    × ((x : Tree) (xs : Trees) (u w r : Bytes) → Rfc.value t x u → Rfc.more-values u xs w → Rfc.end-array w r
+    → Rfc.array b (trees-onto ts (tree x xs)) r)
 
 -- where an object began of which a member may begin at t, and that it is one with this member and others behind it
 abbrev pub Object-from : Bytes → Named → Context → Bytes → Type 0
 Object-from s ns k t =
     (b : Bytes) × Before s k b
-      × ((n : Bytes) (x : Tree) (xs : Named) (u w r : Bytes) → Rfc.member t n x u → Rfc.more-members u xs w
-        → Rfc.end-object w r → Rfc.object b (named-onto ns (named n x xs)) r)
+    × ((n : Bytes) (x : Tree) (xs : Named) (u w r : Bytes) → Rfc.member t n x u → Rfc.more-members u xs w
+    → Rfc.end-object w r → Rfc.object b (named-onto ns (named n x xs)) r)
 
 -- the same where a member's value may begin at t
 abbrev pub Member-from : Bytes → Named → Bytes → Context → Bytes → Type 0
 Member-from s ns n k t =
     (b : Bytes) × Before s k b
-      × ((x : Tree) (xs : Named) (u w r : Bytes) → Rfc.value t x u → Rfc.more-members u xs w → Rfc.end-object w r
-        → Rfc.object b (named-onto ns (named n x xs)) r)
+    × ((x : Tree) (xs : Named) (u w r : Bytes) → Rfc.value t x u → Rfc.more-members u xs w → Rfc.end-object w r
+    → Rfc.object b (named-onto ns (named n x xs)) r)
 
 abbrev pub Close : Bytes → Context → Bytes → Type 0
 Close s top t = Unit {0}

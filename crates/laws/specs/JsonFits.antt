@@ -98,9 +98,10 @@ module _ (l : Limits) where
   room-to : (n : ℕ) (o : Open) → not (full l (suc n) o) ≡ true → (suc n ≤ l .values) × (suc (depth o) ≤ l .nesting)
   unfolding full
   room-to n o e =
-      let h : (ltb (l .values) (suc n) || ltb (l .nesting) (suc (depth o))) ≡ false = not-true (full l (suc n) o) e in
-      (within (l .values) (suc n) (or-false-left (ltb (l .values) (suc n)) (ltb (l .nesting) (suc (depth o))) h),
-       within (l .nesting) (suc (depth o)) (or-false-right (ltb (l .values) (suc n)) (ltb (l .nesting) (suc (depth o))) h))
+      let h : (ltb (l .values) (suc n) || ltb (l .nesting) (suc (depth o))) ≡ false = not-true (full l (suc n) o) e in (
+        within (l .values) (suc n) (or-false-left (ltb (l .values) (suc n)) (ltb (l .nesting) (suc (depth o))) h),
+        within (l .nesting) (suc (depth o)) (or-false-right (ltb (l .values) (suc n)) (ltb (l .nesting) (suc (depth o))) h),
+      )
     where
       within : (m n : ℕ) → ltb m n ≡ false → n ≤ m
       within m n e = nltb→le m n (subst (λ (z : Bool). T (not z)) (sym e) tt)
@@ -115,6 +116,7 @@ module _ (l : Limits) where
           at : (z : Bool) → ltb m n ≡ z → ltb m n ≡ false
           at true e = absurd (let k : m < n = ltb→lt m n (subst T (sym e) tt) in let z : ⊥ = omega arith in z)
           at false e = e
+
       fails : (m n : ℕ) → n ≤ m → (b : Bool) → (ltb m n || b) ≡ b
       fails m n h b = ap (λ (z : Bool). z || b) (below m n h)
 
@@ -143,7 +145,7 @@ module _ (l : Limits) where
     fit-to (Tree.bool b) n o e = scalar-to n o Numbers-fit.bool-fits e
     fit-to (Tree.number d) n o e =
         scalar-to n o (Numbers-fit.number-fits (not-true (beyond d) (and-left (not (beyond d)) (not (full l (suc n) o)) e)))
-          (and-right (not (beyond d)) (not (full l (suc n) o)) e)
+        (and-right (not (beyond d)) (not (full l (suc n) o)) e)
     fit-to (Tree.text t) n o e = scalar-to n o Numbers-fit.text-fits e
     fit-to (Tree.list ts) n o e =
         let (h, g) = room-to n o (and-left (not (full l (suc n) o)) (fit-trees (limited l) ts no-items (suc n) o) e) in
@@ -153,10 +155,10 @@ module _ (l : Limits) where
         let (h, g) = room-to n o (and-left (not (full l (suc n) o)) (fit-named (limited l) ns no-members (suc n) o) e) in
         let k = named-to ns no-members (suc n) o h g (and-right (not (full l (suc n) o)) (fit-named (limited l) ns no-members (suc n) o) e) in
         record {
-          numbers = Numbers-fit.rec-fits (k .numbers)
-          ; names = and-left (distinct-members (meaning-named ns)) (apart (meaning-named ns) no-members) (k .names)
-          ; values = omega (arith, k .values)
-          ; depth = omega (arith, k .depth)
+          numbers = Numbers-fit.rec-fits (k .numbers);
+          names = and-left (distinct-members (meaning-named ns)) (apart (meaning-named ns) no-members) (k .names);
+          values = omega (arith, k .values);
+          depth = omega (arith, k .depth);
         }
 
     trees-to
@@ -167,10 +169,10 @@ module _ (l : Limits) where
         let k = fit-to x n (in-list vs o) (and-left (fit (limited l) x n (in-list vs o)) (fit-trees (limited l) ts (item (meaning x) vs) (n + size (meaning x)) o) e) in
         let m = trees-to ts (item (meaning x) vs) (n + size (meaning x)) o (k .values) g (and-right (fit (limited l) x n (in-list vs o)) (fit-trees (limited l) ts (item (meaning x) vs) (n + size (meaning x)) o) e) in
         record {
-          numbers = Trees-fit.tree-fits (k .numbers) (m .numbers)
-          ; names = and-intro (k .names) (m .names)
-          ; values = omega (arith, m .values)
-          ; depth = omega (arith, k .depth, m .depth)
+          numbers = Trees-fit.tree-fits (k .numbers) (m .numbers);
+          names = and-intro (k .names) (m .names);
+          values = omega (arith, m .values);
+          depth = omega (arith, k .depth, m .depth);
         }
 
     named-to
@@ -183,10 +185,10 @@ module _ (l : Limits) where
         let k = fit-to x n (in-rec ms a o) (and-right (not (has-name a ms)) (fit (limited l) x n (in-rec ms a o)) e₁) in
         let m = named-to ns (member a (meaning x) ms) (n + size (meaning x)) o (k .values) g e₂ in
         record {
-          numbers = Named-fit.named-fits (k .numbers) (m .numbers)
-          ; names = names-to (has-name a ms) (has-name a (meaning-named ns)) (distinct (meaning x)) (distinct-members (meaning-named ns)) (apart (meaning-named ns) ms) (apart-member (meaning-named ns) a (meaning x) ms) (and-left (not (has-name a ms)) (fit (limited l) x n (in-rec ms a o)) e₁) (k .names) (m .names)
-          ; values = omega (arith, m .values)
-          ; depth = omega (arith, k .depth, m .depth)
+          numbers = Named-fit.named-fits (k .numbers) (m .numbers);
+          names = names-to (has-name a ms) (has-name a (meaning-named ns)) (distinct (meaning x)) (distinct-members (meaning-named ns)) (apart (meaning-named ns) ms) (apart-member (meaning-named ns) a (meaning x) ms) (and-left (not (has-name a ms)) (fit (limited l) x n (in-rec ms a o)) e₁) (k .names) (m .names);
+          values = omega (arith, m .values);
+          depth = omega (arith, k .depth, m .depth);
         }
 
   -- ---- a tree that keeps the limits passes
@@ -219,8 +221,8 @@ module _ (l : Limits) where
     trees-from no-trees vs n o f e h g = refl
     trees-from (tree x ts) vs n o (Trees-fit.tree-fits f fs) e h g =
         and-intro
-          (fit-from x n (in-list vs o) f (and-left (distinct (meaning x)) (distinct-items (meaning-trees ts)) e) (omega arith) (omega arith))
-          (trees-from ts (item (meaning x) vs) (n + size (meaning x)) o fs (and-right (distinct (meaning x)) (distinct-items (meaning-trees ts)) e) (omega arith) (omega arith))
+        (fit-from x n (in-list vs o) f (and-left (distinct (meaning x)) (distinct-items (meaning-trees ts)) e) (omega arith) (omega arith))
+        (trees-from ts (item (meaning x) vs) (n + size (meaning x)) o fs (and-right (distinct (meaning x)) (distinct-items (meaning-trees ts)) e) (omega arith) (omega arith))
 
     named-from
         : (ns : Named) (ms : Members) (n : ℕ) (o : Open) → Named-fit ns → (distinct-members (meaning-named ns) && apart (meaning-named ns) ms) ≡ true
@@ -229,7 +231,7 @@ module _ (l : Limits) where
     named-from (named a x ns) ms n o (Named-fit.named-fits f fs) e h g =
         let (e₁, e₂, e₃) = names-from (has-name a ms) (has-name a (meaning-named ns)) (distinct (meaning x)) (distinct-members (meaning-named ns)) (apart (meaning-named ns) ms) (apart-member (meaning-named ns) a (meaning x) ms) e in
         and-intro (and-intro e₁ (fit-from x n (in-rec ms a o) f e₂ (omega arith) (omega arith)))
-          (named-from ns (member a (meaning x) ms) (n + size (meaning x)) o fs e₃ (omega arith) (omega arith))
+        (named-from ns (member a (meaning x) ms) (n + size (meaning x)) o fs e₃ (omega arith) (omega arith))
 
   -- ---- a whole text
 

@@ -147,7 +147,7 @@ module _ (j : Tests) where
   unfolding judge-by move
   enter-scalar {o} g′ u g n kept b t e h k =
       ends-from (move-run j n kept (State.gap g) b t e)
-        (ends-unless (j .crowded (suc n) o) 6 kept (b ∷ t) (omega arith) (k ∙ ap (λ (m : ℕ). scan-by j m kept (State.gap g′) u) (sym (add-one n))))
+      (ends-unless (j .crowded (suc n) o) 6 kept (b ∷ t) (omega arith) (k ∙ ap (λ (m : ℕ). scan-by j m kept (State.gap g′) u) (sym (add-one n))))
 
   array-enter
       : {c : Bytes → Come} {t t′ u : Bytes} {f : Bool} (g : Gap) (o : Open) (n : ℕ) (kept : Bytes) → Rfc.begin-array t t′ → Takes g o
@@ -156,7 +156,7 @@ module _ (j : Tests) where
   unfolding white white-table found look between is value-move value-rows
   array-enter g o n kept (char-of {t = s} v w) k h e =
       ends-from (ws-run j n kept g v)
-        (enter g n kept 0x5B s (takes-byte g o 0x5B k refl refl) (le-trans h (ws-length w)) (ends-from (ws-run j (suc n) kept (Gap.first-item o) w) e))
+      (enter g n kept 0x5B s (takes-byte g o 0x5B k refl refl) (le-trans h (ws-length w)) (ends-from (ws-run j (suc n) kept (Gap.first-item o) w) e))
 
   object-enter
       : {c : Bytes → Come} {t t′ u : Bytes} {f : Bool} (g : Gap) (o : Open) (n : ℕ) (kept : Bytes) → Rfc.begin-object t t′ → Takes g o
@@ -165,7 +165,7 @@ module _ (j : Tests) where
   unfolding white white-table found look between is value-move value-rows
   object-enter g o n kept (char-of {t = s} v w) k h e =
       ends-from (ws-run j n kept g v)
-        (enter g n kept 0x7B s (takes-byte g o 0x7B k refl refl) (le-trans h (ws-length w)) (ends-from (ws-run j (suc n) kept (Gap.first-name o) w) e))
+      (enter g n kept 0x7B s (takes-byte g o 0x7B k refl refl) (le-trans h (ws-length w)) (ends-from (ws-run j (suc n) kept (Gap.first-name o) w) e))
 
   string-forward
       : {s t u : Bytes} (g : Gap) (o : Open) (n : ℕ) (kept : Bytes) → Rfc.string s t u → Takes g o
@@ -184,11 +184,11 @@ module _ (j : Tests) where
       let from : Bytes = b ∷ (ys ++ u) in
       let l : length (ys ++ u) ≡ length ys + length u = length-append ys u in
       ends-from
-        (ap (scan-by j n kept (State.gap g)) e ∙ move-run j n kept (State.gap g) b (ys ++ u) (takes-digit g o b k x)
-        ∙ number-run j (suc n) from o u f ∙ number-stops j (suc n) from p d o c h)
-        (ends-if (j .over d) 4 from (omega arith)
-          (ends-unless (j .crowded (suc n) o) 6 from from (omega arith)
-            (ap (λ (m : ℕ). scan-by j m from (State.gap (put (Value.number (number-of d)) o)) u) (sym (add-one n)))))
+      (ap (scan-by j n kept (State.gap g)) e ∙ move-run j n kept (State.gap g) b (ys ++ u) (takes-digit g o b k x)
+      ∙ number-run j (suc n) from o u f ∙ number-stops j (suc n) from p d o c h)
+      (ends-if (j .over d) 4 from (omega arith)
+      (ends-unless (j .crowded (suc n) o) 6 from from (omega arith)
+      (ap (λ (m : ℕ). scan-by j m from (State.gap (put (Value.number (number-of d)) o)) u) (sym (add-one n)))))
 
   number-forward
       : {s u : Bytes} {d : Numeral} (g : Gap) (o : Open) (n : ℕ) (kept : Bytes) → Rfc.number s d u → Stop u → Takes g o
@@ -216,23 +216,23 @@ module _ (j : Tests) where
   list-shut
       : {w u : Bytes} (v : Value) (vs : Items) (o : Open) (n : ℕ) (kept : Bytes) → Rfc.end-array w u
       → scan-by j (suc n + size v + size-items vs) kept (State.gap (Gap.after-item (items-onto vs (item v no-items)) o)) w
-          ≡ scan-by j (n + size (Value.list (item v vs))) kept (State.gap (put (Value.list (item v vs)) o)) u
+      ≡ scan-by j (n + size (Value.list (item v vs))) kept (State.gap (put (Value.list (item v vs)) o)) u
   unfolding size
   list-shut {u} v vs o n kept e =
       let c : suc n + size v + size-items vs ≡ n + suc (size v + size-items vs) = omega arith in
       mark-run j (suc n + size v + size-items vs) kept (Gap.after-item (items-onto vs (item v no-items)) o)
-        (put (Value.list (items-onto (items-onto vs (item v no-items)) no-items)) o) e (bracket-after (items-onto vs (item v no-items)) o)
+      (put (Value.list (items-onto (items-onto vs (item v no-items)) no-items)) o) e (bracket-after (items-onto vs (item v no-items)) o)
       ∙ ap₂ (λ (m : ℕ) (is : Items). scan-by j m kept (State.gap (put (Value.list is) o)) u) c (items-in-order v vs)
 
   rec-shut
       : {w u : Bytes} (a : Bytes) (v : Value) (ms : Members) (o : Open) (n : ℕ) (kept : Bytes) → Rfc.end-object w u
       → scan-by j (suc n + size v + size-members ms) kept (State.gap (Gap.after-member (members-onto ms (member a v no-members)) o)) w
-          ≡ scan-by j (n + size (Value.rec (member a v ms))) kept (State.gap (put (Value.rec (member a v ms)) o)) u
+      ≡ scan-by j (n + size (Value.rec (member a v ms))) kept (State.gap (put (Value.rec (member a v ms)) o)) u
   unfolding size
   rec-shut {u} a v ms o n kept e =
       let c : suc n + size v + size-members ms ≡ n + suc (size v + size-members ms) = omega arith in
       mark-run j (suc n + size v + size-members ms) kept (Gap.after-member (members-onto ms (member a v no-members)) o)
-        (put (Value.rec (members-onto (members-onto ms (member a v no-members)) no-members)) o) e (brace-after (members-onto ms (member a v no-members)) o)
+      (put (Value.rec (members-onto (members-onto ms (member a v no-members)) no-members)) o) e (brace-after (members-onto ms (member a v no-members)) o)
       ∙ ap₂ (λ (m : ℕ) (is : Members). scan-by j m kept (State.gap (put (Value.rec is) o)) u) c (members-in-order a v ms)
 
   -- ---- values
@@ -257,67 +257,67 @@ module _ (j : Tests) where
         → To (n + size (meaning (Tree.list ts))) (put (meaning (Tree.list ts)) o) u (fit j (Tree.list ts) n o) (scan-by j n kept (State.gap g) s)
     array-forward {u} (Rfc.empty-array b e) g o k n kept =
         array-enter g o n kept b k (le-of-lt (structural-length e))
-          (arrives kept (mark-run j (suc n) kept (Gap.first-item o) (put (Value.list no-items) o) e (bracket-first o) ∙ recount (sym (add-one n)) (put (Value.list no-items) o) kept u))
+        (arrives kept (mark-run j (suc n) kept (Gap.first-item o) (put (Value.list no-items) o) e (bracket-first o) ∙ recount (sym (add-one n)) (put (Value.list no-items) o) kept u))
     array-forward {u} (Rfc.values {x} {ts} b v vs e) g o k n kept =
         array-enter g o n kept b k (omega (arith, value-length v, more-values-length vs, structural-length e))
-          (ends-at
-            (ends-then (value-forward v (values-stop vs (mark-stop end-bracket e)) (Gap.first-item o) (in-list no-items o) (takes-item o) (suc n) kept)
-              (more-values-length vs)
-              (λ kept′. more-values-forward vs (mark-stop end-bracket e) (item (meaning x) no-items) o (suc n + size (meaning x)) kept′))
-            (le-of-lt (structural-length e))
-            (λ kept′. list-shut (meaning x) (meaning-trees ts) o n kept′ e))
+        (ends-at
+        (ends-then (value-forward v (values-stop vs (mark-stop end-bracket e)) (Gap.first-item o) (in-list no-items o) (takes-item o) (suc n) kept)
+        (more-values-length vs)
+        (λ kept′. more-values-forward vs (mark-stop end-bracket e) (item (meaning x) no-items) o (suc n + size (meaning x)) kept′))
+        (le-of-lt (structural-length e))
+        (λ kept′. list-shut (meaning x) (meaning-trees ts) o n kept′ e))
 
     -- from behind a value of an array to behind the last one
     more-values-forward
         : {s u : Bytes} {ts : Trees} → Rfc.more-values s ts u → Stop u → (vs : Items) (o : Open) (n : ℕ) (kept : Bytes)
         → To (n + size-items (meaning-trees ts)) (Gap.after-item (items-onto (meaning-trees ts) vs) o) u (fit-trees j ts vs n o)
-            (scan-by j n kept (State.gap (Gap.after-item vs o)) s)
+        (scan-by j n kept (State.gap (Gap.after-item vs o)) s)
     more-values-forward {s} Rfc.no-value h vs o n kept = arrives kept (recount (sym (add-zero n)) (Gap.after-item vs o) kept s)
     more-values-forward {u} (Rfc.next-value {x} {ts} c v m) h vs o n kept =
         ends-from (mark-run j n kept (Gap.after-item vs o) (Gap.value (in-list vs o)) c (comma-after vs o))
-          (ends-at
-            (ends-then (value-forward v (values-stop m h) (Gap.value (in-list vs o)) (in-list vs o) (takes-value (in-list vs o)) n kept)
-              (more-values-length m) (λ kept′. more-values-forward m h (item (meaning x) vs) o (n + size (meaning x)) kept′))
-            (le-refl (length u))
-            (λ kept′. recount (add-assoc n (size (meaning x)) (size-items (meaning-trees ts))) (Gap.after-item (items-onto (meaning-trees ts) (item (meaning x) vs)) o) kept′ u))
+        (ends-at
+        (ends-then (value-forward v (values-stop m h) (Gap.value (in-list vs o)) (in-list vs o) (takes-value (in-list vs o)) n kept)
+        (more-values-length m) (λ kept′. more-values-forward m h (item (meaning x) vs) o (n + size (meaning x)) kept′))
+        (le-refl (length u))
+        (λ kept′. recount (add-assoc n (size (meaning x)) (size-items (meaning-trees ts))) (Gap.after-item (items-onto (meaning-trees ts) (item (meaning x) vs)) o) kept′ u))
 
     object-forward
         : {s u : Bytes} {ns : Named} → Rfc.object s ns u → (g : Gap) (o : Open) → Takes g o → (n : ℕ) (kept : Bytes)
         → To (n + size (meaning (Tree.rec ns))) (put (meaning (Tree.rec ns)) o) u (fit j (Tree.rec ns) n o) (scan-by j n kept (State.gap g) s)
     object-forward {u} (Rfc.empty-object b e) g o k n kept =
         object-enter g o n kept b k (le-of-lt (structural-length e))
-          (arrives kept (mark-run j (suc n) kept (Gap.first-name o) (put (Value.rec no-members) o) e (brace-first o) ∙ recount (sym (add-one n)) (put (Value.rec no-members) o) kept u))
+        (arrives kept (mark-run j (suc n) kept (Gap.first-name o) (put (Value.rec no-members) o) e (brace-first o) ∙ recount (sym (add-one n)) (put (Value.rec no-members) o) kept u))
     object-forward {u} (Rfc.members {n = m} {x} {ns} b v vs e) g o k n kept =
         object-enter g o n kept b k (omega (arith, member-length v, more-members-length vs, structural-length e))
-          (ends-at
-            (ends-then (member-forward v (members-stop vs (mark-stop end-brace e)) (Gap.first-name o) no-members o (names-first o) (suc n) kept)
-              (more-members-length vs)
-              (λ kept′. more-members-forward vs (mark-stop end-brace e) (member m (meaning x) no-members) o (suc n + size (meaning x)) kept′))
-            (le-of-lt (structural-length e))
-            (λ kept′. rec-shut m (meaning x) (meaning-named ns) o n kept′ e))
+        (ends-at
+        (ends-then (member-forward v (members-stop vs (mark-stop end-brace e)) (Gap.first-name o) no-members o (names-first o) (suc n) kept)
+        (more-members-length vs)
+        (λ kept′. more-members-forward vs (mark-stop end-brace e) (member m (meaning x) no-members) o (suc n + size (meaning x)) kept′))
+        (le-of-lt (structural-length e))
+        (λ kept′. rec-shut m (meaning x) (meaning-named ns) o n kept′ e))
 
     member-forward
         : {s u m : Bytes} {x : Tree} → Rfc.member s m x u → Stop u → (g : Gap) (ms : Members) (o : Open) → Names g ms o → (n : ℕ) (kept : Bytes)
         → To (n + size (meaning x)) (Gap.after-member (member m (meaning x) ms) o) u (not (j .twice m ms) && fit j x n (in-rec ms m o))
-            (scan-by j n kept (State.gap g) s)
+        (scan-by j n kept (State.gap g) s)
     member-forward {s} {m} {x} (Rfc.name-value {u = w} a c v) h g ms o k n kept =
         ends-from (name-run j n kept g ms o a k)
-          (ends-if (j .twice m ms) 5 s (omega (arith, string-length a, structural-length c, value-length v))
-            (ends-from (mark-run j n s (Gap.colon ms m o) (Gap.value (in-rec ms m o)) c (colon-name ms m o))
-              (value-forward v h (Gap.value (in-rec ms m o)) (in-rec ms m o) (takes-value (in-rec ms m o)) n s)))
+        (ends-if (j .twice m ms) 5 s (omega (arith, string-length a, structural-length c, value-length v))
+        (ends-from (mark-run j n s (Gap.colon ms m o) (Gap.value (in-rec ms m o)) c (colon-name ms m o))
+        (value-forward v h (Gap.value (in-rec ms m o)) (in-rec ms m o) (takes-value (in-rec ms m o)) n s)))
 
     more-members-forward
         : {s u : Bytes} {ns : Named} → Rfc.more-members s ns u → Stop u → (ms : Members) (o : Open) (n : ℕ) (kept : Bytes)
         → To (n + size-members (meaning-named ns)) (Gap.after-member (members-onto (meaning-named ns) ms) o) u (fit-named j ns ms n o)
-            (scan-by j n kept (State.gap (Gap.after-member ms o)) s)
+        (scan-by j n kept (State.gap (Gap.after-member ms o)) s)
     more-members-forward {s} Rfc.no-member h ms o n kept = arrives kept (recount (sym (add-zero n)) (Gap.after-member ms o) kept s)
     more-members-forward {u} (Rfc.next-member {n = a} {x} {ns} c v m) h ms o n kept =
         ends-from (mark-run j n kept (Gap.after-member ms o) (Gap.next-name ms o) c (comma-member ms o))
-          (ends-at
-            (ends-then (member-forward v (members-stop m h) (Gap.next-name ms o) ms o (names-next ms o) n kept)
-              (more-members-length m) (λ kept′. more-members-forward m h (member a (meaning x) ms) o (n + size (meaning x)) kept′))
-            (le-refl (length u))
-            (λ kept′. recount (add-assoc n (size (meaning x)) (size-members (meaning-named ns))) (Gap.after-member (members-onto (meaning-named ns) (member a (meaning x) ms)) o) kept′ u))
+        (ends-at
+        (ends-then (member-forward v (members-stop m h) (Gap.next-name ms o) ms o (names-next ms o) n kept)
+        (more-members-length m) (λ kept′. more-members-forward m h (member a (meaning x) ms) o (n + size (meaning x)) kept′))
+        (le-refl (length u))
+        (λ kept′. recount (add-assoc n (size (meaning x)) (size-members (meaning-named ns))) (Gap.after-member (members-onto (meaning-named ns) (member a (meaning x) ms)) o) kept′ u))
 
   -- a whole text
   pub text-forward
@@ -326,5 +326,5 @@ module _ (j : Tests) where
   unfolding scan-by judge-by end-move gap-end put
   text-forward {s} {x} (Rfc.json-text {t} {u} w v w′) =
       ends-from (ws-run j 0 s (Gap.value root) w)
-        (ends-at (value-forward v (end-stop w′) (Gap.value root) root (takes-value root) 0 s) (ws-length w′)
-          (λ kept. ws-run j (0 + size (meaning x)) kept (Gap.whole (meaning x)) w′))
+      (ends-at (value-forward v (end-stop w′) (Gap.value root) root (takes-value root) 0 s) (ws-length w′)
+      (λ kept. ws-run j (0 + size (meaning x)) kept (Gap.whole (meaning x)) w′))

@@ -66,8 +66,8 @@ unfolding move after
 walk-number o number-stay = stay
 walk-number o (number-then {p} {d} {b} e f) =
     step
-      (ap (λ (z : Option Phase). after (elim z as (λ x. Move) [ some q ↦ Move.go (State.in-number q (extend q d b) o) | none ↦ number-end p d o (λ g. gap-move g b) ])) e)
-      (walk-number o f)
+    (ap (λ (z : Option Phase). after (elim z as (λ x. Move) [ some q ↦ Move.go (State.in-number q (extend q d b) o) | none ↦ number-end p d o (λ g. gap-move g b) ])) e)
+    (walk-number o f)
 
 walk-word : (c : ℕ) (cs : Bytes) (v : Value) (o : Open) → Walk (State.in-literal c cs v o) (c ∷ cs) (State.gap (put v o))
 unfolding move after spell
@@ -89,10 +89,10 @@ live-number : (p : Phase) (d : Numeral) (o : Open) → complete p ≡ true → L
 unfolding move after
 live-number p d o c =
     live-step 0x20
-      (ap (λ (z : Option Phase). after (elim z as (λ x. Move) [ some q ↦ Move.go (State.in-number q (extend q d 0x20) o) | none ↦ number-end p d o (λ g. gap-move g 0x20) ])) (space-stops ws-char.space p)
-      ∙ ap after (number-ends p d o (λ g. gap-move g 0x20) c)
-      ∙ ap after (space-move (put (Value.number (number-of d)) o) ws-char.space))
-      (close o (Value.number (number-of d)))
+    (ap (λ (z : Option Phase). after (elim z as (λ x. Move) [ some q ↦ Move.go (State.in-number q (extend q d 0x20) o) | none ↦ number-end p d o (λ g. gap-move g 0x20) ])) (space-stops ws-char.space p)
+    ∙ ap after (number-ends p d o (λ g. gap-move g 0x20) c)
+    ∙ ap after (space-move (put (Value.number (number-of d)) o) ws-char.space))
+    (close o (Value.number (number-of d)))
 
 live-name : (g : Gap) (ms : Members) (o : Open) → Names g ms o → Live (State.gap g)
 unfolding move after gap-move white white-table found look between

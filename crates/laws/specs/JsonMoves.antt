@@ -69,12 +69,12 @@ judge-limited l n kept s (end-name t ms q) f g e =
     ap (λ (z : Outcome Bytes Value). elim (has-name t ms) as (λ b. Outcome Bytes Value) [ true ↦ refused 5 kept | false ↦ z ]) (e n kept q)
 judge-limited l n kept s (end-number d o m) f g e =
     ap
-      (λ (z : Outcome Bytes Value).
-        elim (beyond d) as (λ b. Outcome Bytes Value) [
-          | true ↦ refused 4 kept
-          | false ↦ elim (full l n o) as (λ b. Outcome Bytes Value) [ true ↦ refused 6 kept | false ↦ z ]
-        ])
-      (judge-limited l n kept s m f g e)
+    (λ (z : Outcome Bytes Value).
+    elim (beyond d) as (λ b. Outcome Bytes Value) [
+      | true ↦ refused 4 kept
+      | false ↦ elim (full l n o) as (λ b. Outcome Bytes Value) [ true ↦ refused 6 kept | false ↦ z ]
+    ])
+    (judge-limited l n kept s m f g e)
 judge-limited l n kept s (end-text v) f g e = refl
 
 pub scan-limited
@@ -83,7 +83,7 @@ unfolding scan scan-by
 scan-limited l n kept q [] = judge-limited l n kept [] (end-move q) (λ n′ kept′ q′. refused 3 []) (λ n′ kept′ q′. refused 3 []) (λ n′ kept′ q′. refl)
 scan-limited l n kept q (b ∷ r) =
     judge-limited l n kept (b ∷ r) (move q b) (λ n′ kept′ q′. scan l n′ kept′ q′ r) (λ n′ kept′ q′. scan-by (limited l) n′ kept′ q′ r)
-      (λ n′ kept′ q′. scan-limited l n′ kept′ q′ r)
+    (λ n′ kept′ q′. scan-limited l n′ kept′ q′ r)
 
 -- ---- outcomes told apart
 

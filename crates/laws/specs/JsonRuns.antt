@@ -128,7 +128,7 @@ pub takes-digit
 unfolding look next int-rows between
 takes-digit g o b {p} t e =
     takes-byte g o b t (white-cases (λ z. z ≡ false) b (λ c. absurd (space-no-digit e c)) refl)
-      (is-cases (λ z. z ≡ false) "]" b (λ f. absurd (Option·none-ne-some p (subst (λ (z : ℕ). look (next begin) z ≡ some p) f e))) refl)
+    (is-cases (λ z. z ≡ false) "]" b (λ f. absurd (Option·none-ne-some p (subst (λ (z : ℕ). look (next begin) z ≡ some p) f e))) refl)
     ∙ digit-byte (value-byte o b) e
 
 -- ---- the structural characters
@@ -211,7 +211,7 @@ module _ (j : Tests) (n : ℕ) (kept : Bytes) where
   pub close-run
       : {s t r : Bytes} (w : Role) → Rfc.chars s t (0x22 ∷ r)
       → scan-by j n kept (State.in-text w Inside.chars []) s
-          ≡ judge-by j n kept (0x22 ∷ r) (close-move w t) (λ n′ kept′ q′. scan-by j n′ kept′ q′ r)
+      ≡ judge-by j n kept (0x22 ∷ r) (close-move w t) (λ n′ kept′ q′. scan-by j n′ kept′ q′ r)
   unfolding move text-move text-step char-step is
   close-run {t} {r} w c =
       let (xs, e, f) = chars-steps c in
@@ -225,7 +225,7 @@ module _ (j : Tests) (n : ℕ) (kept : Bytes) where
   number-run o y number-stay = refl
   number-run o y (number-then {p} {d} {xs} {b} e f) =
       move-run (State.in-number p d o) b (xs ++ y)
-        (ap (λ (z : Option Phase). elim z as (λ x. Move) [ some q ↦ Move.go (State.in-number q (extend q d b) o) | none ↦ number-end p d o (λ g. gap-move g b) ]) e)
+      (ap (λ (z : Option Phase). elim z as (λ x. Move) [ some q ↦ Move.go (State.in-number q (extend q d b) o) | none ↦ number-end p d o (λ g. gap-move g b) ]) e)
       ∙ number-run o y f
 
   -- what judging a complete number comes to
@@ -244,8 +244,8 @@ module _ (j : Tests) (n : ℕ) (kept : Bytes) where
   number-stops p d o c stop-end = ap (λ (m : Move). judge-by j n kept [] m (λ n′ kept′ q′. refused 3 [])) (number-ends p d o gap-end c)
   number-stops p d o c (stop-byte {b} {r} h) =
       move-run (State.in-number p d o) b r
-        (ap (λ (z : Option Phase). elim z as (λ x. Move) [ some q ↦ Move.go (State.in-number q (extend q d b) o) | none ↦ number-end p d o (λ g. gap-move g b) ]) (h p)
-        ∙ number-ends p d o (λ g. gap-move g b) c)
+      (ap (λ (z : Option Phase). elim z as (λ x. Move) [ some q ↦ Move.go (State.in-number q (extend q d b) o) | none ↦ number-end p d o (λ g. gap-move g b) ]) (h p)
+      ∙ number-ends p d o (λ g. gap-move g b) c)
 
 -- from a name's opening quote to behind its closing one
 pub name-run

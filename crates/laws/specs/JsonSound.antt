@@ -120,19 +120,19 @@ value-byte-sound {r} quote f e =
     begins-value f e (starts-with r (not-space refl) (Rfc.is-string (Rfc.quoted Rfc.no-chars))) (in-string f refl text-stay (ap suc e))
 value-byte-sound {r} {k} bracket f e =
     begins-value f e (starts-with r (not-space refl) (Rfc.is-array (Rfc.empty-array (char-of ws-none ws-none) (char-of ws-none ws-none))))
-      (at-item (Before.first-value f (char-of ws-none ws-none)) (count-array k e))
+    (at-item (Before.first-value f (char-of ws-none ws-none)) (count-array k e))
 value-byte-sound {r} {k} brace f e =
     begins-value f e (starts-with r (not-space refl) (Rfc.is-object (Rfc.empty-object (char-of ws-none ws-none) (char-of ws-none ws-none))))
-      (at-name (Before-name.first-name f (char-of ws-none ws-none)) (count-object k e))
+    (at-name (Before-name.first-name f (char-of ws-none ws-none)) (count-object k e))
 value-byte-sound {r} letter-t f e =
     begins-value f e (starts-with r (not-space refl) Rfc.is-true)
-      (in-word {x = Tree.bool true} f (λ w g. subst (λ z. Rfc.value (0x74 ∷ z) (Tree.bool true) w) (sym g) Rfc.is-true) (ap suc e) refl)
+    (in-word {x = Tree.bool true} f (λ w g. subst (λ z. Rfc.value (0x74 ∷ z) (Tree.bool true) w) (sym g) Rfc.is-true) (ap suc e) refl)
 value-byte-sound {r} letter-f f e =
     begins-value f e (starts-with r (not-space refl) Rfc.is-false)
-      (in-word {x = Tree.bool false} f (λ w g. subst (λ z. Rfc.value (0x66 ∷ z) (Tree.bool false) w) (sym g) Rfc.is-false) (ap suc e) refl)
+    (in-word {x = Tree.bool false} f (λ w g. subst (λ z. Rfc.value (0x66 ∷ z) (Tree.bool false) w) (sym g) Rfc.is-false) (ap suc e) refl)
 value-byte-sound {r} letter-n f e =
     begins-value f e (starts-with r (not-space refl) Rfc.is-null)
-      (in-word {x = Tree.null} f (λ w g. subst (λ z. Rfc.value (0x6E ∷ z) Tree.null w) (sym g) Rfc.is-null) (ap suc e) refl)
+    (in-word {x = Tree.null} f (λ w g. subst (λ z. Rfc.value (0x6E ∷ z) Tree.null w) (sym g) Rfc.is-null) (ap suc e) refl)
 value-byte-sound (digit g) f e = begins-number (in-digits f refl (number-then g number-stay) (ap suc e))
 value-byte-sound (nothing g) f e = broken-so
 
@@ -145,8 +145,8 @@ name-sound
 unfolding name-move
 name-sound {s} {kept} {r} {n} {b} {ns} {k} f e =
     is-cases
-      (λ z. Sound s n kept (b ∷ r) r (elim z [ true ↦ Move.begin-name (State.in-text (Role.as-name (meaning-named ns) (opened k)) Inside.chars []) | false ↦ Move.broken ]))
-      "\"" b (λ g. begins-name (in-name f (ap (λ (z : ℕ). z ∷ r) g) text-stay e)) broken-so
+    (λ z. Sound s n kept (b ∷ r) r (elim z [ true ↦ Move.begin-name (State.in-text (Role.as-name (meaning-named ns) (opened k)) Inside.chars []) | false ↦ Move.broken ]))
+    "\"" b (λ g. begins-name (in-name f (ap (λ (z : ℕ). z ∷ r) g) text-stay e)) broken-so
 
 -- behind `[`
 item-sound
@@ -155,8 +155,8 @@ item-sound
 unfolding token-move opened meaning
 item-sound {s} {kept} {r} {n} {b} {k} f e =
     is-cases
-      (λ z. Sound s n kept (b ∷ r) r (elim z [ true ↦ Move.go (State.gap (put (Value.list no-items) (opened k))) | false ↦ value-move (opened (in-array no-trees k)) b ]))
-      "]" b (λ g. goes (close (subst (λ (z : ℕ). Before s (in-array no-trees k) (z ∷ r)) g f))) (value-sound f e)
+    (λ z. Sound s n kept (b ∷ r) r (elim z [ true ↦ Move.go (State.gap (put (Value.list no-items) (opened k))) | false ↦ value-move (opened (in-array no-trees k)) b ]))
+    "]" b (λ g. goes (close (subst (λ (z : ℕ). Before s (in-array no-trees k) (z ∷ r)) g f))) (value-sound f e)
   where
     close : Before s (in-array no-trees k) (0x5D ∷ r) → Reached s n kept (State.gap (put (meaning (Tree.list no-trees)) (opened k))) r
     close (Before.first-value h w) =
@@ -169,8 +169,8 @@ first-name-sound
 unfolding token-move meaning
 first-name-sound {s} {kept} {r} {n} {b} {k} f e =
     is-cases
-      (λ z. Sound s n kept (b ∷ r) r (elim z [ true ↦ Move.go (State.gap (put (Value.rec no-members) (opened k))) | false ↦ name-move no-members (opened k) b ]))
-      "}" b (λ g. goes (close (subst (λ (z : ℕ). Before-name s no-named k (z ∷ r)) g f))) (name-sound f e)
+    (λ z. Sound s n kept (b ∷ r) r (elim z [ true ↦ Move.go (State.gap (put (Value.rec no-members) (opened k))) | false ↦ name-move no-members (opened k) b ]))
+    "}" b (λ g. goes (close (subst (λ (z : ℕ). Before-name s no-named k (z ∷ r)) g f))) (name-sound f e)
   where
     close : Before-name s no-named k (0x7D ∷ r) → Reached s n kept (State.gap (put (meaning (Tree.rec no-named)) (opened k))) r
     close (Before-name.first-name h w) =
@@ -183,8 +183,8 @@ colon-sound
 unfolding token-move opened begun
 colon-sound {s} {kept} {u} {m} {r} {n} {b} {ns} {k} f a w e =
     is-cases
-      (λ z. Sound s n kept (b ∷ r) r (elim z [ true ↦ Move.go (State.gap (Gap.value (opened (in-object ns m k)))) | false ↦ Move.broken ]))
-      ":" b (λ g. goes (at-value (Before.member-value f a (char-of (subst (λ (z : ℕ). ws u (z ∷ r)) g w) ws-none)) e)) broken-so
+    (λ z. Sound s n kept (b ∷ r) r (elim z [ true ↦ Move.go (State.gap (Gap.value (opened (in-object ns m k)))) | false ↦ Move.broken ]))
+    ":" b (λ g. goes (at-value (Before.member-value f a (char-of (subst (λ (z : ℕ). ws u (z ∷ r)) g w) ws-none)) e)) broken-so
 
 -- a closing bracket
 array-end
@@ -195,7 +195,7 @@ unfolding meaning items-onto
 array-end {s} {kept} {u} {r} {n} {x} ts k f v w e =
     let (b, g, h) = value-close f in
     subst (λ z. Reached s n kept (State.gap (put (Value.list z) (opened k))) r) (meaning-trees-onto ts (tree x no-trees))
-      (at-behind g (Rfc.is-array (h x no-trees u u r v Rfc.no-value (char-of w ws-none))) ws-none (count-array-end k ts x e))
+    (at-behind g (Rfc.is-array (h x no-trees u u r v Rfc.no-value (char-of w ws-none))) ws-none (count-array-end k ts x e))
 
 -- a closing brace
 object-end
@@ -206,7 +206,7 @@ unfolding meaning members-onto
 object-end {s} {kept} {u} {m} {r} {n} {x} ns k f v w e =
     let (b, g, h) = value-close f in
     subst (λ z. Reached s n kept (State.gap (put (Value.rec z) (opened k))) r) (meaning-named-onto ns (named m x no-named))
-      (at-behind g (Rfc.is-object (h x no-named u u r v Rfc.no-member (char-of w ws-none))) ws-none (count-object-end k ns m x e))
+    (at-behind g (Rfc.is-object (h x no-named u u r v Rfc.no-member (char-of w ws-none))) ws-none (count-object-end k ns m x e))
 
 -- behind a value
 behind-sound
@@ -216,22 +216,24 @@ unfolding token-move put opened meaning
 behind-sound top f v w e = broken-so
 behind-sound {s} {kept} {u} {r} {n} {b} {x} (in-array ts k) f v w e =
     is-cases
-      (λ z. Sound s n kept (b ∷ r) r (elim z [ true ↦ Move.go (State.gap (Gap.value (opened (in-array (tree x ts) k)))) | false ↦ shut (is "]" b) ]))
-      "," b (λ g. goes (at-value (Before.next-value f v (char-of (at g) ws-none)) (count-value k ts x e)))
-      (is-cases (λ z. Sound s n kept (b ∷ r) r (shut z)) "]" b (λ g. goes (array-end ts k f v (at g) e)) broken-so)
+    (λ z. Sound s n kept (b ∷ r) r (elim z [ true ↦ Move.go (State.gap (Gap.value (opened (in-array (tree x ts) k)))) | false ↦ shut (is "]" b) ]))
+    "," b (λ g. goes (at-value (Before.next-value f v (char-of (at g) ws-none)) (count-value k ts x e)))
+    (is-cases (λ z. Sound s n kept (b ∷ r) r (shut z)) "]" b (λ g. goes (array-end ts k f v (at g) e)) broken-so)
   where
     shut : Bool → Move
     shut z = elim z [ true ↦ Move.go (State.gap (put (Value.list (items-onto (meaning-trees (tree x ts)) no-items)) (opened k))) | false ↦ Move.broken ]
+
     at : {c : ℕ} → b ≡ c → ws u (c ∷ r)
     at {c} g = subst (λ (z : ℕ). ws u (z ∷ r)) g w
 behind-sound {s} {kept} {u} {r} {n} {b} {x} (in-object ns m k) f v w e =
     is-cases
-      (λ z. Sound s n kept (b ∷ r) r (elim z [ true ↦ Move.go (State.gap (Gap.next-name (meaning-named (named m x ns)) (opened k))) | false ↦ shut (is "}" b) ]))
-      "," b (λ g. goes (at-next {ns = named m x ns} (Before-name.next-name f v (char-of (at g) ws-none)) (count-member k ns m x e)))
-      (is-cases (λ z. Sound s n kept (b ∷ r) r (shut z)) "}" b (λ g. goes (object-end ns k f v (at g) e)) broken-so)
+    (λ z. Sound s n kept (b ∷ r) r (elim z [ true ↦ Move.go (State.gap (Gap.next-name (meaning-named (named m x ns)) (opened k))) | false ↦ shut (is "}" b) ]))
+    "," b (λ g. goes (at-next {ns = named m x ns} (Before-name.next-name f v (char-of (at g) ws-none)) (count-member k ns m x e)))
+    (is-cases (λ z. Sound s n kept (b ∷ r) r (shut z)) "}" b (λ g. goes (object-end ns k f v (at g) e)) broken-so)
   where
     shut : Bool → Move
     shut z = elim z [ true ↦ Move.go (State.gap (put (Value.rec (members-onto (meaning-named (named m x ns)) no-members)) (opened k))) | false ↦ Move.broken ]
+
     at : {c : ℕ} → b ≡ c → ws u (c ∷ r)
     at {c} g = subst (λ (z : ℕ). ws u (z ∷ r)) g w
 
@@ -300,12 +302,13 @@ number-end-sound {s} {kept} {here} {r} {xs} {n} {c} {p} {d} {k} behind f h g e n
   where
     starts : Starts kept
     starts = subst Starts (sym h) (starts-number (xs ++ here) g)
+
     at
         : (z : Bool) → complete p ≡ z
         → Sound s n kept here r (elim z [ true ↦ Move.end-number d (opened k) (behind (put (Value.number (number-of d)) (opened k))) | false ↦ Move.broken-number (opened k) ])
     at true q =
         ends-number f e starts (c ∷ xs) h g q none-next
-          (m (Rfc.is-number (subst (λ (z : Bytes). Rfc.number z d here) (sym h) (number-sound g q here))) (count-scalar k (Tree.number d) refl e))
+        (m (Rfc.is-number (subst (λ (z : Bytes). Rfc.number z d here) (sym h) (number-sound g q here))) (count-scalar k (Tree.number d) refl e))
     at false q = broken-number-so f e starts
 
 digits-sound
@@ -317,10 +320,10 @@ digits-sound {s} {kept} {r} {xs} {n} {b} {c} {p} {d} {k} f h g e = at (look (nex
     at
         : (z : Option Phase) → look (next p) b ≡ z
         → Sound s n kept (b ∷ r) r
-            (elim z [ some q ↦ Move.go (State.in-number q (extend q d b) (opened k)) | none ↦ number-end p d (opened k) (λ g. gap-move g b) ])
+        (elim z [ some q ↦ Move.go (State.in-number q (extend q d b) (opened k)) | none ↦ number-end p d (opened k) (λ g. gap-move g b) ])
     at none q =
         number-end-sound (λ g. gap-move g b) f h g e (λ b′ w y. subst (λ (z : ℕ). look (next p) z ≡ none) (head-eq-of-cons-eq y) q)
-          (λ v y. gap-behind-sound f v ws-none y)
+        (λ v y. gap-behind-sound f v ws-none y)
     at (some q) y = goes (in-digits f (longer b xs r h) (number-steps-append g (number-then y number-stay)) e)
 
 word-sound
@@ -332,6 +335,7 @@ word-sound {s} {kept} {t} {r} {n} {b} {c} {x} {k} cs f h e one = at (eqb b c) re
     spelled : (cs : Bytes) → ((w : Bytes) → b ∷ r ≡ c ∷ (cs ++ w) → Rfc.value t x w) → b ≡ c → Reached s n kept (spell cs (meaning x) (opened k)) r
     spelled [] h q = at-behind f (h r (ap (λ (z : ℕ). z ∷ r) q)) ws-none (count-scalar k x one e)
     spelled (c′ ∷ cs) h q = in-word f (λ w y. h w (ap₂ (λ (z : ℕ) (zs : Bytes). z ∷ zs) q y)) e one
+
     at : (z : Bool) → eqb b c ≡ z → Sound s n kept (b ∷ r) r (elim z [ true ↦ Move.go (spell cs (meaning x) (opened k)) | false ↦ Move.broken ])
     at true q = goes (spelled cs h (eqb-true b c q))
     at false q = broken-so

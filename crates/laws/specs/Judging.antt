@@ -93,21 +93,21 @@ unfolding result-out
 result-out-over l x e = rw (e, result-out)
 
 pub result-out-fits
-  : (l : Limits) (x : Ran Value) → result-over l (x .result) ≡ false
-  → result-out l x ≡ passed (record { bytes = plain (x .result); steps = x .steps })
+    : (l : Limits) (x : Ran Value) → result-over l (x .result) ≡ false
+    → result-out l x ≡ passed (record { bytes = plain (x .result); steps = x .steps })
 unfolding result-out
 result-out-fits l x e = rw (e, result-out)
 
 pub deliver-short
-  : (output : Bytes) (t : Text-out) → ltb (length output) (length (t .bytes)) ≡ true
-  → deliver output t ≡ record { answer = too-short (length (t .bytes)); output = output }
+    : (output : Bytes) (t : Text-out) → ltb (length output) (length (t .bytes)) ≡ true
+    → deliver output t ≡ record { answer = too-short (length (t .bytes)); output = output }
 unfolding deliver
 deliver-short output t e = rw (e, deliver)
 
 pub deliver-room
-  : (output : Bytes) (t : Text-out) → ltb (length output) (length (t .bytes)) ≡ false
-  → deliver output t
-  ≡ record { answer = written (length (t .bytes)) (t .steps); output = t .bytes ++ drop (length (t .bytes)) output }
+    : (output : Bytes) (t : Text-out) → ltb (length output) (length (t .bytes)) ≡ false
+    → deliver output t
+    ≡ record { answer = written (length (t .bytes)) (t .steps); output = t .bytes ++ drop (length (t .bytes)) output }
 unfolding deliver
 deliver-room output t e = rw (e, deliver)
 
@@ -131,7 +131,7 @@ passed-same {a = a} e = ap (passed-of a) e
 
 -- a pipeline that passed: its first part passed, and so did the rest
 pub bind-passed
-  : {A B : Type 0} (m : Judged A) (f : A → Judged B) (b : B) → m >>= f ≡ passed b → (a : A) × (m ≡ passed a) × (f a ≡ passed b)
+    : {A B : Type 0} (m : Judged A) (f : A → Judged B) (b : B) → m >>= f ≡ passed b → (a : A) × (m ≡ passed a) × (f a ≡ passed b)
 unfolding _>>=_
 bind-passed (passed a) f b e = (a, refl, e)
 bind-passed (stopped r) f b e = stopped-not-passed e
@@ -157,8 +157,8 @@ in-text-passed k (ok b) a e = ap ok (passed-same e)
 in-text-passed k (refused n p) a e = stopped-not-passed e
 
 pub text-passed
-  : {A : Type 0} (k : ℕ) (l : Limits) (read : Limits → Bytes → Outcome ℕ A) (s : Bytes) (a : A) → judge-text k l read s ≡ passed a
-  → (length s ≤ l .bytes) × (read l s ≡ ok a)
+    : {A : Type 0} (k : ℕ) (l : Limits) (read : Limits → Bytes → Outcome ℕ A) (s : Bytes) (a : A) → judge-text k l read s ≡ passed a
+    → (length s ≤ l .bytes) × (read l s ≡ ok a)
 text-passed k l read s a e = go (ltb (l .bytes) (length s)) refl
   where
     go : (b : Bool) → ltb (l .bytes) (length s) ≡ b → (length s ≤ l .bytes) × (read l s ≡ ok a)
@@ -166,8 +166,8 @@ text-passed k l read s a e = go (ltb (l .bytes) (length s)) refl
     go false q = (ltb-le (l .bytes) (length s) q, in-text-passed k (read l s) a (sym (text-short k l read s q) ∙ e))
 
 pub shape-out-passed
-  : (l : Limits) (s : Shape) (t : Text-out) → shape-out l s ≡ passed t
-  → (shape-over l s ≡ false) × (t ≡ record { bytes = write-shape s; steps = 0 })
+    : (l : Limits) (s : Shape) (t : Text-out) → shape-out l s ≡ passed t
+    → (shape-over l s ≡ false) × (t ≡ record { bytes = write-shape s; steps = 0 })
 shape-out-passed l s t e = go (shape-over l s) refl
   where
     go : (b : Bool) → shape-over l s ≡ b → (shape-over l s ≡ false) × (t ≡ record { bytes = write-shape s; steps = 0 })
@@ -176,17 +176,18 @@ shape-out-passed l s t e = go (shape-over l s) refl
 
 -- the shape is within the limits, in parts
 pub shape-fits
-  : (l : Limits) (s : Shape) → shape-over l s ≡ false
-  → (forms s ≤ l .values) × (levels s ≤ l .nesting) × (length (write-shape s) ≤ l .bytes)
+    : (l : Limits) (s : Shape) → shape-over l s ≡ false
+    → (forms s ≤ l .values) × (levels s ≤ l .nesting) × (length (write-shape s) ≤ l .bytes)
 shape-fits l s e =
     let a : ltb (l .values) (forms s) || ltb (l .nesting) (levels s) ≡ false = or-false-left _ (ltb (l .bytes) (length (write-shape s))) e in
-    let b : ltb (l .bytes) (length (write-shape s)) ≡ false = or-false-right (ltb (l .values) (forms s) || ltb (l .nesting) (levels s)) _ e in
-    (ltb-le _ _ (or-false-left (ltb (l .values) (forms s)) (ltb (l .nesting) (levels s)) a),
+    let b : ltb (l .bytes) (length (write-shape s)) ≡ false = or-false-right (ltb (l .values) (forms s) || ltb (l .nesting) (levels s)) _ e in (
+      ltb-le _ _ (or-false-left (ltb (l .values) (forms s)) (ltb (l .nesting) (levels s)) a),
       ltb-le _ _ (or-false-right (ltb (l .values) (forms s)) (ltb (l .nesting) (levels s)) a),
-      ltb-le _ _ b)
+      ltb-le _ _ b,
+    )
 
 pub fits-shape
-  : (l : Limits) (s : Shape) → forms s ≤ l .values → levels s ≤ l .nesting → length (write-shape s) ≤ l .bytes → shape-over l s ≡ false
+    : (l : Limits) (s : Shape) → forms s ≤ l .values → levels s ≤ l .nesting → length (write-shape s) ≤ l .bytes → shape-over l s ≡ false
 fits-shape l s f d b = rw (le-ltb _ _ f, le-ltb _ _ d, le-ltb _ _ b) refl
 
 -- ---- numbers of refusals
@@ -199,8 +200,8 @@ work-positive published lent = go (short published lent) refl
     go false q = rw (work-long published lent q) tt
 
 pub text-positive
-  : {A : Type 0} (k : ℕ) (l : Limits) (read : Limits → Bytes → Outcome ℕ A) (s : Bytes) → Numbered (read l s)
-  → Positive (judge-text k l read s)
+    : {A : Type 0} (k : ℕ) (l : Limits) (read : Limits → Bytes → Outcome ℕ A) (s : Bytes) → Numbered (read l s)
+    → Positive (judge-text k l read s)
 text-positive k l read s h = go (ltb (l .bytes) (length s)) refl
   where
     go : (b : Bool) → ltb (l .bytes) (length s) ≡ b → Positive (judge-text k l read s)
@@ -218,13 +219,13 @@ shape-out-positive l s = go (shape-over l s) refl
 
 -- success: what passed was short enough, and is written
 pub finish-zero
-  : (output : Bytes) (m : Judged Text-out) → Positive m → finish output m .answer .number ≡ 0
-  → (t : Text-out) × (m ≡ passed t) × (length (t .bytes) ≤ length output)
+    : (output : Bytes) (m : Judged Text-out) → Positive m → finish output m .answer .number ≡ 0
+    → (t : Text-out) × (m ≡ passed t) × (length (t .bytes) ≤ length output)
 unfolding finish too-short
 finish-zero output (passed t) h e = go (ltb (length output) (length (t .bytes))) refl
   where
     go : (b : Bool) → ltb (length output) (length (t .bytes)) ≡ b
-      → (u : Text-out) × (passed t ≡ passed u) × (length (u .bytes) ≤ length output)
+        → (u : Text-out) × (passed t ≡ passed u) × (length (u .bytes) ≤ length output)
     go true q =
         let z : _≡_ {A = ℕ} 15 0 = sym (ap (λ (d : Done). d .answer .number) (deliver-short output t q)) ∙ e in
         absurd (let w : ⊥ = omega arith in w)
@@ -233,16 +234,16 @@ finish-zero output (stopped r) h e = absurd (let z : ⊥ = omega arith in z)
 
 -- the answer and the output of a success
 pub finish-written
-  : (output : Bytes) {m : Judged Text-out} (t : Text-out) → m ≡ passed t → length (t .bytes) ≤ length output
-  → finish output m
-  ≡ record { answer = written (length (t .bytes)) (t .steps); output = t .bytes ++ drop (length (t .bytes)) output }
+    : (output : Bytes) {m : Judged Text-out} (t : Text-out) → m ≡ passed t → length (t .bytes) ≤ length output
+    → finish output m
+    ≡ record { answer = written (length (t .bytes)) (t .steps); output = t .bytes ++ drop (length (t .bytes)) output }
 unfolding finish
 finish-written output t e h = ap (λ m. finish output m) e ∙ deliver-room output t (le-ltb _ _ h)
 
 -- what is written stands at the front of the output
 pub front
-  : (output : Bytes) (t : Text-out) (d : Done)
-  → d ≡ record { answer = written (length (t .bytes)) (t .steps); output = t .bytes ++ drop (length (t .bytes)) output }
-  → (d .answer .number ≡ 0) × (take (d .answer .length) (d .output) ≡ t .bytes)
+    : (output : Bytes) (t : Text-out) (d : Done)
+    → d ≡ record { answer = written (length (t .bytes)) (t .steps); output = t .bytes ++ drop (length (t .bytes)) output }
+    → (d .answer .number ≡ 0) × (take (d .answer .length) (d .output) ≡ t .bytes)
 unfolding written
 front output t d e = rw e (refl, take-append-seam (t .bytes) _)

@@ -29,8 +29,6 @@ pub mod SoundKinds
 pub mod SoundFields
 pub mod SoundShapes
 pub mod Soundness
-pub mod SoundTokens
-pub mod SoundReading
 pub mod Ranges
 pub mod NumberSteps
 pub mod NumberSound

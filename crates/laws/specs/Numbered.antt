@@ -20,8 +20,8 @@ use Rattle.laws.specs.Judging.{Numbered}
 -- ---- texts of forms
 
 numbered-judge
-  : {Q A : Type 0} (l : Limits) (n at : ℕ) (s : Step Q) (on : ℕ → Q → Outcome ℕ A) → ((m : ℕ) (q : Q) → Numbered (on m q))
-  → Numbered (judge-step l n at s on)
+    : {Q A : Type 0} (l : Limits) (n at : ℕ) (s : Step Q) (on : ℕ → Q → Outcome ℕ A) → ((m : ℕ) (q : Q) → Numbered (on m q))
+    → Numbered (judge-step l n at s on)
 unfolding judge-step
 numbered-judge l n at misplaced on h = lit< tt
 numbered-judge l n at (go q) on h = h n q
@@ -37,8 +37,8 @@ numbered-end end none = lit< tt
 numbered-end end (some a) = tt
 
 pub numbered-tokens
-  : {Q A : Type 0} (step : Q → Placed → Step Q) (whole : Q → Option A) (l : Limits) (n end : ℕ) (q : Q) (ts : List Placed)
-  → Numbered (read-tokens step whole l n end q ts)
+    : {Q A : Type 0} (step : Q → Placed → Step Q) (whole : Q → Option A) (l : Limits) (n end : ℕ) (q : Q) (ts : List Placed)
+    → Numbered (read-tokens step whole l n end q ts)
 unfolding read-tokens
 numbered-tokens step whole l n end q [] = numbered-end end (whole q)
 numbered-tokens step whole l n end q (t ∷ ts) =
@@ -60,7 +60,7 @@ numbered-reader l s = numbered-result l (length s) (tokens s)
 -- ---- checking
 
 numbered-bind
-  : {A B : Type 0} (o : Outcome ℕ A) (f : A → Outcome ℕ B) → Numbered o → ((a : A) → Numbered (f a)) → Numbered (o >>= f)
+    : {A B : Type 0} (o : Outcome ℕ A) (f : A → Outcome ℕ B) → Numbered o → ((a : A) → Numbered (f a)) → Numbered (o >>= f)
 unfolding _>>=_
 numbered-bind (ok a) f h k = k a
 numbered-bind (refused n p) f h k = h
@@ -91,6 +91,7 @@ numbered-place (Place.field at n p) env =
 
 mutual
   unfolding check
+
   numbered-check : (r : Result) (env : List Shape) → Numbered (check r env)
   numbered-check (Result.convert at c p) env =
       numbered-bind (check-place p env) _ (numbered-place p env) λ s. numbered-wants at (convert-kinds c) s _ tt

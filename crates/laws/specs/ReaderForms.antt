@@ -98,20 +98,20 @@ pub reader-accepted-to
 reader-accepted-to l s r e =
     let a = reader-accepted l s r e in
     let w =
-        subst
-        (λ q. Walk step (want (result-open text-end)) (tokens s) (a .depths) q [])
-        (whole-result-state (a .last) (a .is-whole))
-        (a .walk)
+    subst
+    (λ q. Walk step (want (result-open text-end)) (tokens s) (a .depths) q [])
+    (whole-result-state (a .last) (a .is-whole))
+    (a .walk)
     in
     let f = walk-right w in
     let g =
-        fits-to
-        (result-depths r 0)
-        (result-forms r)
-        (result-levels r)
-        (depths-result-forms r 0)
-        (depths-result-levels r 0)
-        (subst (Fits l 0) (walk-unique {w = whole-result r} w (reader-right-walk f) .0) (a .fits))
+    fits-to
+    (result-depths r 0)
+    (result-forms r)
+    (result-levels r)
+    (depths-result-forms r 0)
+    (depths-result-levels r 0)
+    (subst (Fits l 0) (walk-unique {w = whole-result r} w (reader-right-walk f) .0) (a .fits))
     in
     (f, g .0, g .1)
 
@@ -139,20 +139,20 @@ pub place-accepted-to
 place-accepted-to l s p e =
     let a = place-accepted l s p e in
     let w =
-        subst
-        (λ q. Walk step (want (place-open place-end)) (tokens s) (a .depths) q [])
-        (whole-place-state (a .last) (a .is-whole))
-        (a .walk)
+    subst
+    (λ q. Walk step (want (place-open place-end)) (tokens s) (a .depths) q [])
+    (whole-place-state (a .last) (a .is-whole))
+    (a .walk)
     in
     let f = place-right w in
     let g =
-        fits-to
-        (place-depths p 0)
-        (place-forms p)
-        (place-levels p)
-        (depths-place-forms p 0)
-        (depths-place-levels p 0)
-        (subst (Fits l 0) (walk-unique {w = whole-place p} w (place-right-walk f) .0) (a .fits))
+    fits-to
+    (place-depths p 0)
+    (place-forms p)
+    (place-levels p)
+    (depths-place-forms p 0)
+    (depths-place-levels p 0)
+    (subst (Fits l 0) (walk-unique {w = whole-place p} w (place-right-walk f) .0) (a .fits))
     in
     (f, g .0, g .1)
 

@@ -309,15 +309,16 @@ unfolding word-number
 number-read w d e = by-spelled (spelled begin no-digits w) refl e
   where
     by-beyond
-      : (f : Numeral) → spelled begin no-digits w ≡ some f → (b : Bool) → beyond f ≡ b
-      → Path (Option Numeral) (elim b [ true ↦ none | false ↦ some f ]) (some d) → Number-word w d
+        : (f : Numeral) → spelled begin no-digits w ≡ some f → (b : Bool) → beyond f ≡ b
+        → Path (Option Numeral) (elim b [ true ↦ none | false ↦ some f ]) (some d) → Number-word w d
     by-beyond f g true h e = absurd (Option·none-ne-some d e)
     by-beyond f g false h e =
         subst (Number-word w) (Option·some-injective f d e) (number-word g h)
+
     by-spelled
-      : (o : Option Numeral) → spelled begin no-digits w ≡ o
-      → Path (Option Numeral) (elim o [ none ↦ none | some f ↦ elim (beyond f) [ true ↦ none | false ↦ some f ] ]) (some d)
-      → Number-word w d
+        : (o : Option Numeral) → spelled begin no-digits w ≡ o
+        → Path (Option Numeral) (elim o [ none ↦ none | some f ↦ elim (beyond f) [ true ↦ none | false ↦ some f ] ]) (some d)
+        → Number-word w d
     by-spelled none g e = absurd (Option·none-ne-some d e)
     by-spelled (some f) g e = by-beyond f g (beyond f) refl e
 
@@ -361,16 +362,16 @@ step-back (want (it-index x o)) t ts z b =
     (λ k. Rest (want (it-index x o)) (at (t .at) k ∷ ts) z)
     (λ w. where-some (word-number w) (λ d. index-step x o d))
     (λ w.
-      some-back
-      (λ r. Rest r ts z)
-      (word-number w)
-      (λ d. index-step x o d)
-      (λ d e.
-        true-back
-        (λ r. Rest r ts z)
-        (index-fits (place-bindings o) d)
-        (go (want (place-close (Place.it x (d .coefficient)) o)))
-        (λ h r. rest-index (index-read (place-bindings o) w d (number-read w d e) h) r)))
+    some-back
+    (λ r. Rest r ts z)
+    (word-number w)
+    (λ d. index-step x o d)
+    (λ d e.
+    true-back
+    (λ r. Rest r ts z)
+    (index-fits (place-bindings o) d)
+    (go (want (place-close (Place.it x (d .coefficient)) o)))
+    (λ h r. rest-index (index-read (place-bindings o) w d (number-read w d e) h) r)))
     (t .token)
     b
 step-back (want (field-name x o)) t ts z b =
@@ -421,11 +422,11 @@ step-back (want (num-number x o)) t ts z b =
     (λ k. Rest (want (num-number x o)) (at (t .at) k ∷ ts) z)
     (λ w. where-some (word-number w) (λ d. literal-step x o (Value.number (number-of d))))
     (λ w.
-      some-back
-      (λ r. Rest r ts z)
-      (word-number w)
-      (λ d. literal-step x o (Value.number (number-of d)))
-      (λ d e r. rest-num (number-read w d e) r))
+    some-back
+    (λ r. Rest r ts z)
+    (word-number w)
+    (λ d. literal-step x o (Value.number (number-of d)))
+    (λ d e r. rest-num (number-read w d e) r))
     (t .token)
     b
 step-back (want (str-text x o)) t ts z b =
@@ -457,9 +458,10 @@ walk-right {r} w =
     from-start (walk-back (λ q ts. Rest q ts (whole-result r)) (λ q t ts. step-back q t ts (whole-result r)) w rest-whole-result)
   where
     at-whole
-      : {s a : Result} {ts us : List Placed} → Result-form 1 ts s us → Rest (whole-result s) us (whole-result a)
-      → Result-form 1 ts a []
+        : {s a : Result} {ts us : List Placed} → Result-form 1 ts s us → Rest (whole-result s) us (whole-result a)
+        → Result-form 1 ts a []
     at-whole f rest-whole-result = f
+
     from-start : {a : Result} {ts : List Placed} → Rest (want (result-open text-end)) ts (whole-result a) → Result-form 1 ts a []
     from-start (rest-result f r) = at-whole f r
 
@@ -471,7 +473,8 @@ place-right {p} w =
     from-start (walk-back (λ q ts. Rest q ts (whole-place p)) (λ q t ts. step-back q t ts (whole-place p)) w rest-whole-place)
   where
     at-whole
-      : {s a : Place} {ts us : List Placed} → Place-form 1 ts s us → Rest (whole-place s) us (whole-place a) → Place-form 1 ts a []
+        : {s a : Place} {ts us : List Placed} → Place-form 1 ts s us → Rest (whole-place s) us (whole-place a) → Place-form 1 ts a []
     at-whole f rest-whole-place = f
+
     from-start : {a : Place} {ts : List Placed} → Rest (want (place-open place-end)) ts (whole-place a) → Place-form 1 ts a []
     from-start (rest-place f r) = at-whole f r

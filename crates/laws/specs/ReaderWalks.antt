@@ -107,36 +107,36 @@ mutual
   depths-result-levels (Result.count p q) d = let a = depths-place-levels q (suc d) in omega arith
   depths-result-levels (Result.each p q r) d =
       let a =
-          both
-          (place-depths q (suc d))
-          (result-depths r (suc d))
-          (place-levels q)
-          (result-levels r)
-          (suc d)
-          (depths-place-levels q (suc d))
-          (depths-result-levels r (suc d))
+      both
+      (place-depths q (suc d))
+      (result-depths r (suc d))
+      (place-levels q)
+      (result-levels r)
+      (suc d)
+      (depths-place-levels q (suc d))
+      (depths-result-levels r (suc d))
       in
       within (place-depths q (suc d) ++ result-depths r (suc d)) (max (place-levels q) (result-levels r)) d a
   depths-result-levels (Result.when p t q r₁ r₂) d =
       let a =
-          both
-          (result-depths r₁ (suc d))
-          (result-depths r₂ (suc d))
-          (result-levels r₁)
-          (result-levels r₂)
-          (suc d)
-          (depths-result-levels r₁ (suc d))
-          (depths-result-levels r₂ (suc d))
+      both
+      (result-depths r₁ (suc d))
+      (result-depths r₂ (suc d))
+      (result-levels r₁)
+      (result-levels r₂)
+      (suc d)
+      (depths-result-levels r₁ (suc d))
+      (depths-result-levels r₂ (suc d))
       in
       let b =
-          both
-          (place-depths q (suc d))
-          (result-depths r₁ (suc d) ++ result-depths r₂ (suc d))
-          (place-levels q)
-          (max (result-levels r₁) (result-levels r₂))
-          (suc d)
-          (depths-place-levels q (suc d))
-          a
+      both
+      (place-depths q (suc d))
+      (result-depths r₁ (suc d) ++ result-depths r₂ (suc d))
+      (place-levels q)
+      (max (result-levels r₁) (result-levels r₂))
+      (suc d)
+      (depths-place-levels q (suc d))
+      a
       in
       within
       (place-depths q (suc d) ++ (result-depths r₁ (suc d) ++ result-depths r₂ (suc d)))
@@ -145,24 +145,24 @@ mutual
       b
   depths-result-levels (Result.choose p r₁ r₂ r₃) d =
       let a =
-          both
-          (result-depths r₂ (suc d))
-          (result-depths r₃ (suc d))
-          (result-levels r₂)
-          (result-levels r₃)
-          (suc d)
-          (depths-result-levels r₂ (suc d))
-          (depths-result-levels r₃ (suc d))
+      both
+      (result-depths r₂ (suc d))
+      (result-depths r₃ (suc d))
+      (result-levels r₂)
+      (result-levels r₃)
+      (suc d)
+      (depths-result-levels r₂ (suc d))
+      (depths-result-levels r₃ (suc d))
       in
       let b =
-          both
-          (result-depths r₁ (suc d))
-          (result-depths r₂ (suc d) ++ result-depths r₃ (suc d))
-          (result-levels r₁)
-          (max (result-levels r₂) (result-levels r₃))
-          (suc d)
-          (depths-result-levels r₁ (suc d))
-          a
+      both
+      (result-depths r₁ (suc d))
+      (result-depths r₂ (suc d) ++ result-depths r₃ (suc d))
+      (result-levels r₁)
+      (max (result-levels r₂) (result-levels r₃))
+      (suc d)
+      (depths-result-levels r₁ (suc d))
+      a
       in
       within
       (result-depths r₁ (suc d) ++ (result-depths r₂ (suc d) ++ result-depths r₃ (suc d)))
@@ -351,8 +351,8 @@ place-walk (field-form {p = x} {x = y} {y = z} {n = n} {q = q} h f) o e =
     (place-opens o x)
     (field-named x o)
     (on
-      (field-called x o n y)
-      (walk-then (place-walk f (in-field x n o) e) (place-closed (Place.field x n q) o z)))
+    (field-called x o n y)
+    (walk-then (place-walk f (in-field x n o) e) (place-closed (Place.field x n q) o z)))
 
 -- a name more before
 apart-more : (n : Bytes) (r : Result) (ps qs : Pairs) → Apart ps qs → among-pairs n qs ≡ false → Apart (pair n r ps) qs
@@ -397,30 +397,30 @@ mutual
       (result-opens o x)
       (each-named x o)
       (walk-append
-        (place-walk f (in-result x maps o) e)
-        (walk-then (result-walk g (in-form x (each-body q) o) (ap suc e)) (result-closed (Result.each x q r) o z)))
+      (place-walk f (in-result x maps o) e)
+      (walk-then (result-walk g (in-form x (each-body q) o) (ap suc e)) (result-closed (Result.each x q r) o z)))
   result-walk (when-form {p = x} {x = v} {y = z} {t = t} {q = q} {r₁ = r₁} {r₂ = r₂} h w f g i) o e =
       head-enter
       h
       (result-opens o x)
       (when-named x o)
       (on
-        (test-named w x o v)
-        (walk-append
-          (place-walk f (in-result x (tests t) o) e)
-          (walk-append
-            (result-walk g (in-form x (when-first t q) o) (ap suc e))
-            (walk-then (result-walk i (in-form x (when-second t q r₁) o) (ap suc e)) (result-closed (Result.when x t q r₁ r₂) o z)))))
+      (test-named w x o v)
+      (walk-append
+      (place-walk f (in-result x (tests t) o) e)
+      (walk-append
+      (result-walk g (in-form x (when-first t q) o) (ap suc e))
+      (walk-then (result-walk i (in-form x (when-second t q r₁) o) (ap suc e)) (result-closed (Result.when x t q r₁ r₂) o z)))))
   result-walk (if-form {p = x} {y = z} {r₁ = r₁} {r₂ = r₂} {r₃ = r₃} h f g i) o e =
       head-enter
       h
       (result-opens o x)
       (if-named x o)
       (walk-append
-        (result-walk f (in-form x if-first o) e)
-        (walk-append
-          (result-walk g (in-form x (if-second r₁) o) e)
-          (walk-then (result-walk i (in-form x (if-third r₁ r₂) o) e) (result-closed (Result.choose x r₁ r₂ r₃) o z))))
+      (result-walk f (in-form x if-first o) e)
+      (walk-append
+      (result-walk g (in-form x (if-second r₁) o) e)
+      (walk-then (result-walk i (in-form x (if-third r₁ r₂) o) e) (result-closed (Result.choose x r₁ r₂ r₃) o z))))
   result-walk (num-form {p = x} {x = v} {y = z} {n = n} h w) o e =
       head-enter
       h
@@ -456,5 +456,5 @@ mutual
       c
       (λ z. pack-called n x ps o z (a .0))
       (walk-append
-        (result-walk f (in-form x (pack-part ps n) o) e)
-        (pairs-walk g x (pair n r ps) o e (apart-more n r ps qs (a .1) h) y vs i))
+      (result-walk f (in-form x (pack-part ps n) o) e)
+      (pairs-walk g x (pair n r ps) o e (apart-more n r ps qs (a .1) h) y vs i))

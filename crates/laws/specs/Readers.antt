@@ -1,10 +1,8 @@
 -- Well-formed readers: what refusal 7 sees to for reader texts. Assumes nothing.
 use Prim.Native.Nat.{ℕ, suc}
-use mathlib.Core.Path.{_≡_}
 use mathlib.Core.Bool.{Bool, true, not, _&&_}
 use lib.Dec.{ltb}
 use Rattle.definitions.specs.Reader.{Place, Result, Pairs, no-pairs, pair, among-pairs}
-use Rattle.laws.specs.Bools.{and-left, and-right}
 use Rattle.laws.specs.Distinct.{distinct}
 
 -- the place's binding is among k
@@ -46,9 +44,3 @@ unfoldable mutual
   proper-pairs (pair n r ps) = not (among-pairs n ps) && proper r && proper-pairs ps
 
 -- ---- the parts of a conjunction
-
-pub and-two : (a b : Bool) → a && b ≡ true → (a ≡ true) × (b ≡ true)
-and-two a b h = (and-left a b h, and-right a b h)
-
-pub and-three : (a b c : Bool) → a && b && c ≡ true → (a ≡ true) × (b ≡ true) × (c ≡ true)
-and-three a b c h = (and-left a b (and-left (a && b) c h), and-right a b (and-left (a && b) c h), and-right (a && b) c h)

@@ -16,7 +16,8 @@ use Rattle.definitions.specs.Checking.{convert-kinds, list-kinds}
 use Rattle.definitions.specs.Running.{Ran, gives, member-of, members-of, converted, items-of, int-value, test-kinds, truth, run-place, run-items, run, run-pairs, run-reader}
 use Rattle.laws.specs.Bools.{and-intro}
 use Rattle.laws.specs.Distinct.{distinct, distinct-items, distinct-members}
-use Rattle.laws.specs.Readers.{and-two, and-three, proper, proper-pairs}
+use Rattle.laws.specs.Readers.{proper, proper-pairs}
+use Rattle.laws.specs.Bools.{and-two, and-three}
 use Rattle.laws.specs.SoundHolds.{Holds, gave, any, holds-any, holds-number, holds-of, holds-both, holds-bind, holds-stuck, holds-enter, holds-either, holds-truth, holds-field}
 
 -- ---- steps and refusals

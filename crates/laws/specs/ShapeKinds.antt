@@ -144,21 +144,21 @@ words-from (run-more {b = b} {k = j} {ks = js} e run) s kinds-end under same =
 words-from (run-more {b = b} {k = j} {ks = js} e run) s {ks} {ls} {us = us} (kinds-next {x = x} {k = k} {ts = ts} a f g) under same =
     ⊎-elim
     (λ (h : rank k ≡ b).
-      subst
-      (λ i. Kind-words s (j ∷ js) (at x (word (kind-name i)) ∷ ts) us)
-      (rank-injective (e ∙ sym h))
-      (has-kind
-        (same j ∙ kinds-keep g j (subst (λ i. among j (i ∷ ks) ≡ true) (rank-injective (e ∙ sym h)) (among-first j ks)))
-        (words-from
-          run
-          s
-          (subst (λ c. Kinds-on (suc c) (k ∷ ks) ts ls us) h g)
-          (λ i q. among-later i k ks (λ p. let z : ⊥ = omega arith in z) ∙ under i (omega arith))
-          same)))
+    subst
+    (λ i. Kind-words s (j ∷ js) (at x (word (kind-name i)) ∷ ts) us)
+    (rank-injective (e ∙ sym h))
+    (has-kind
+    (same j ∙ kinds-keep g j (subst (λ i. among j (i ∷ ks) ≡ true) (rank-injective (e ∙ sym h)) (among-first j ks)))
+    (words-from
+    run
+    s
+    (subst (λ c. Kinds-on (suc c) (k ∷ ks) ts ls us) h g)
+    (λ i q. among-later i k ks (λ p. let z : ⊥ = omega arith in z) ∙ under i (omega arith))
+    same)))
     (λ (h : b < rank k).
-      lacks-kind
-      (same j ∙ kinds-lack g j (omega arith) (among-later j k ks (λ p. let z : ⊥ = omega arith in z) ∙ under j (omega arith)))
-      (words-from run s (kinds-next h f g) (λ i q. under i (omega arith)) same))
+    lacks-kind
+    (same j ∙ kinds-lack g j (omega arith) (among-later j k ks (λ p. let z : ⊥ = omega arith in z) ∙ under j (omega arith)))
+    (words-from run s (kinds-next h f g) (λ i q. under i (omega arith)) same))
     (at-or-above a)
 
 -- words read from the start are the words of a shape with these kinds
@@ -174,8 +174,8 @@ unfolding numeric-from has-int
 numeric-int ls h = go (among Kind.dec ls) (among Kind.int ls) h
   where
     go
-      : (d i : Bool) → (d ≡ true → i ≡ true)
-      → has-int (elim d [ true ↦ int-and-dec | false ↦ elim i [ true ↦ int-only | false ↦ no-number ] ]) ≡ i
+        : (d i : Bool) → (d ≡ true → i ≡ true)
+        → has-int (elim d [ true ↦ int-and-dec | false ↦ elim i [ true ↦ int-only | false ↦ no-number ] ]) ≡ i
     go true i h = sym (h refl)
     go false true h = refl
     go false false h = refl
@@ -213,9 +213,10 @@ may-follow-has s ks k h f same = and-intro (ordered ks h) (only-dec k same f)
     ordered : (ks : List Kind) → bound ks ≤ rank k → in-order ks k ≡ true
     ordered [] h = refl
     ordered (j ∷ js) h = test-below h
+
     only-dec
-      : (k : Kind) → ((j : Kind) → rank j < rank k → among j ks ≡ has j s) → has k s ≡ true
-      → not (eqb (rank k) (rank Kind.dec)) || among Kind.int ks ≡ true
+        : (k : Kind) → ((j : Kind) → rank j < rank k → among j ks ≡ has j s) → has k s ≡ true
+        → not (eqb (rank k) (rank Kind.dec)) || among Kind.int ks ≡ true
     only-dec Kind.null same f = refl
     only-dec Kind.bool same f = refl
     only-dec Kind.int same f = refl
@@ -239,17 +240,17 @@ words-to run-end no-kinds ks h same under =
     record { kinds = ks; chain = kinds-end; agrees = λ k. same k (let z = rank-most k in omega arith) }
 words-to (run-more {b = b} e run) {s} (has-kind {k = j} {ts = ts} f g) ks h same under =
     let r =
-        words-to
-        run
-        g
-        (j ∷ ks)
-        (omega arith)
-        (λ k q.
-          ⊎-elim
-          (λ (p : rank j ≡ rank k). subst (λ i. among i (j ∷ ks) ≡ has i s) (rank-injective p) (among-first j ks ∙ sym f))
-          (λ (p : rank k < rank j). among-later k j ks (λ y. let z : ⊥ = omega arith in z) ∙ same k (omega arith))
-          (at-or-above {b = rank k} {c = rank j} (omega arith)))
-        (λ k q. among-later k j ks (λ p. let z : ⊥ = omega arith in z) ∙ under k (omega arith))
+    words-to
+    run
+    g
+    (j ∷ ks)
+    (omega arith)
+    (λ k q.
+    ⊎-elim
+    (λ (p : rank j ≡ rank k). subst (λ i. among i (j ∷ ks) ≡ has i s) (rank-injective p) (among-first j ks ∙ sym f))
+    (λ (p : rank k < rank j). among-later k j ks (λ y. let z : ⊥ = omega arith in z) ∙ same k (omega arith))
+    (at-or-above {b = rank k} {c = rank j} (omega arith)))
+    (λ k q. among-later k j ks (λ p. let z : ⊥ = omega arith in z) ∙ under k (omega arith))
     in
     record { kinds = r .kinds; chain = kinds-next {b = bound ks} {k = j} (omega arith) (may-follow-has s ks j (omega arith) f (λ k q. same k (omega arith))) (r .chain); agrees = r .agrees }
 words-to (run-more {b = b} e run) {s} (lacks-kind {k = j} f g) ks h same under =
@@ -259,10 +260,10 @@ words-to (run-more {b = b} e run) {s} (lacks-kind {k = j} f g) ks h same under =
     ks
     (omega arith)
     (λ k q.
-      ⊎-elim
-      (λ (p : rank j ≡ rank k). subst (λ i. among i ks ≡ has i s) (rank-injective p) (under j (omega arith) ∙ sym f))
-      (λ (p : rank k < rank j). same k (omega arith))
-      (at-or-above {b = rank k} {c = rank j} (omega arith)))
+    ⊎-elim
+    (λ (p : rank j ≡ rank k). subst (λ i. among i ks ≡ has i s) (rank-injective p) (under j (omega arith) ∙ sym f))
+    (λ (p : rank k < rank j). same k (omega arith))
+    (at-or-above {b = rank k} {c = rank j} (omega arith)))
     (λ k q. under k (omega arith))
 
 -- the words of a shape's kinds are read one behind the other

@@ -124,7 +124,7 @@ tail-end : {p : Parts} {o : Around} {a : Shape} {x : ℕ} {ts : List Placed} →
 tail-end {p} {o} {a} {ts = ts} r =
     ⊎-elim
     (λ (h : among Kind.rec (p .kinds) ≡ true).
-      rest-members (tail h no-member refl) (subst (λ s. Rest (put s o) ts a) (ended-with p h) r))
+    rest-members (tail h no-member refl) (subst (λ s. Rest (put s o) ts a) (ended-with p h) r))
     (λ (h : among Kind.rec (p .kinds) ≡ false). rest-members (no-tail h) (subst (λ s. Rest (put s o) ts a) (ended-without p h) r))
     (tell (among Kind.rec (p .kinds)))
 
@@ -192,8 +192,8 @@ unfolding put
 element-begins h r = by-form h (form-open r)
   where
     by-form
-      : {p : Parts} {o : Around} {a : Shape} {ts : List Placed} → among Kind.list (p .kinds) ≡ true
-      → Rest (want (shape-open (as-element p o))) ts a → Rest (want (kind-word p o)) ts a
+        : {p : Parts} {o : Around} {a : Shape} {ts : List Placed} → among Kind.list (p .kinds) ≡ true
+        → Rest (want (shape-open (as-element p o))) ts a → Rest (want (kind-word p o)) ts a
     by-form h (rest-open e r) = element-ends h e r
 
 member-back
@@ -206,7 +206,6 @@ member-back p o x (quoted t) ts a b = absurd b
 member-back p o x (word w) ts a b = absurd b
 member-back p o x broken ts a b = absurd b
 
-
 bracket-back
     : (p : Parts) (o : Around) (x : ℕ) (ts : List Placed) (a : Shape)
     → (Back (λ r. Rest r ts a) (bracket-step p o opening) → Rest (want (kind-word p o)) (at x opening ∷ ts) a)
@@ -215,14 +214,14 @@ unfolding bracket-step element-step want-open
 bracket-back p o x ts a = by-list (among Kind.list (p .kinds)) refl
   where
     by-list
-      : (l : Bool) → among Kind.list (p .kinds) ≡ l
-      → (Back
-          (λ r. Rest r ts a)
-          (elim l [ true ↦ element-step p o opening | false ↦ member-step p o opening ])
+        : (l : Bool) → among Kind.list (p .kinds) ≡ l
+        → (Back
+        (λ r. Rest r ts a)
+        (elim l [ true ↦ element-step p o opening | false ↦ member-step p o opening ])
         → Rest (want (kind-word p o)) (at x opening ∷ ts) a)
-      × (Back
-          (λ r. Rest r ts a)
-          (elim l [ true ↦ element-step p o closing | false ↦ member-step p o closing ])
+        × (Back
+        (λ r. Rest r ts a)
+        (elim l [ true ↦ element-step p o closing | false ↦ member-step p o closing ])
         → Rest (want (kind-word p o)) (at x closing ∷ ts) a)
     by-list true h = (element-begins h, λ b. absurd b)
     by-list false h = (λ b. no-more-kinds h (member-back p o x opening ts a b), λ b. no-more-kinds h (member-back p o x closing ts a b))
@@ -244,12 +243,12 @@ kind-back p o x (word w) ts a b =
     (look-word kind-words w)
     (λ k. where-true (may-follow (p .kinds) k) (go (want (kind-word (with-kind k p) o))))
     (λ k e c.
-      true-back
-      (λ r. Rest r ts a)
-      (may-follow (p .kinds) k)
-      (go (want (kind-word (with-kind k p) o)))
-      (λ h r. subst (λ v. Rest (want (kind-word p o)) (at x (word v) ∷ ts) a) (sym (kind-spelled w k e)) (kind-begins k h r))
-      c)
+    true-back
+    (λ r. Rest r ts a)
+    (may-follow (p .kinds) k)
+    (go (want (kind-word (with-kind k p) o)))
+    (λ h r. subst (λ v. Rest (want (kind-word p o)) (at x (word v) ∷ ts) a) (sym (kind-spelled w k e)) (kind-begins k h r))
+    c)
     b
 kind-back p o x broken ts a b = absurd b
 
@@ -310,5 +309,6 @@ walk-right {s} w = from-start (walk-back (λ q ts. Rest q ts s) (λ q t ts. step
   where
     at-whole : {s a : Shape} {ts us : List Placed} → Shape-form ts s us → Rest (whole s) us a → Shape-form ts a []
     at-whole f rest-whole = f
+
     from-start : {a : Shape} {ts : List Placed} → Rest (want (shape-open text-end)) ts a → Shape-form ts a []
     from-start (rest-open f r) = at-whole f r

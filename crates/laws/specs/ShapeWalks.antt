@@ -210,13 +210,13 @@ mutual
       (begins _)
       (shape-named o)
       (walk-append
-        (kinds-walk (read .chain) o)
-        (walk-append
-          (ew .walk)
-          (subst
-            (λ s. Walk step (ew .state) ws (record-depths r (suc (depth o))) (put s o) xs)
-            (agreed ls n b m t e r (read .agrees))
-            (record-walk g (parts ls e) o (ew .state) (ew .behind) refl (sym (read .agrees Kind.rec)) x xs refl))))
+      (kinds-walk (read .chain) o)
+      (walk-append
+      (ew .walk)
+      (subst
+      (λ s. Walk step (ew .state) ws (record-depths r (suc (depth o))) (put s o) xs)
+      (agreed ls n b m t e r (read .agrees))
+      (record-walk g (parts ls e) o (ew .state) (ew .behind) refl (sym (read .agrees Kind.rec)) x xs refl))))
 
   element-walk
       : {e : Element} {ts us : List Placed} → Element-form ts e us → (ls : List Kind) (o : Around)
@@ -226,7 +226,7 @@ mutual
       record {
         state = want (member-open (parts ls (list-of s)) o);
         behind = behind-element;
-        walk = shape-walk f (as-element (parts ls no-list) o) (want (kind-word (parts ls no-list) o)) (λ x. element-opens (parts ls no-list) o x (sym h))
+        walk = shape-walk f (as-element (parts ls no-list) o) (want (kind-word (parts ls no-list) o)) (λ x. element-opens (parts ls no-list) o x (sym h));
       }
 
   record-walk
@@ -251,19 +251,19 @@ mutual
       (members-open a y h)
       (member-named p o)
       (on
-        (member-called p o n z e)
-        (walk-append
-          (shape-walk f (as-member p n o) (want (shape-open (as-member p n o))) (shape-opens (as-member p n o)))
-          (on
-            (member-closed (with-member n s p) o _)
-            (members-walk
-              m
-              (with-member n s p)
-              o
-              (want (member-open (with-member n s p) o))
-              behind-element
-              (behind-follows n s (p .fields) fs b)
-              h
-              x
-              vs
-              i))))
+      (member-called p o n z e)
+      (walk-append
+      (shape-walk f (as-member p n o) (want (shape-open (as-member p n o))) (shape-opens (as-member p n o)))
+      (on
+      (member-closed (with-member n s p) o _)
+      (members-walk
+      m
+      (with-member n s p)
+      o
+      (want (member-open (with-member n s p) o))
+      behind-element
+      (behind-follows n s (p .fields) fs b)
+      h
+      x
+      vs
+      i))))

@@ -16,7 +16,7 @@ use Rattle.laws.specs.Bools.{and-left, and-right, and-intro, or-cases, o
 use Rattle.laws.specs.Names.{same-refl, same-eq, same-sym}
 use Rattle.laws.specs.Fields.{none-some, some-same, find-here, find-there, find-none}
 use Rattle.laws.specs.FieldsPut.{find-insert-here, find-insert-there}
-use Rattle.laws.specs.Readers.{and-two}
+use Rattle.laws.specs.Bools.{and-two}
 use Rattle.laws.specs.SoundKinds.{number-kind}
 
 -- ---- reading a member

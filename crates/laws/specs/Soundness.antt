@@ -18,7 +18,8 @@ use Rattle.definitions.specs.Running.{Ran, gives, field-value, converted, items
 use Rattle.laws.specs.Bools.{and-intro, not-true}
 use Rattle.laws.specs.Distinct.{distinct}
 use Rattle.laws.specs.AdmitsLaws.{shape-of-admits, admits-join-left, admits-join-right}
-use Rattle.laws.specs.Readers.{and-two, and-three, scoped-place, scoped, scoped-pairs, proper, proper-pairs}
+use Rattle.laws.specs.Readers.{scoped-place, scoped, scoped-pairs, proper, proper-pairs}
+use Rattle.laws.specs.Bools.{and-two, and-three}
 use Rattle.laws.specs.SoundHolds.{Holds, gave, any, holds-ok, holds-number, holds-of, holds-map, holds-both, holds-bind, holds-wants, holds-unstuck, holds-enter, holds-either, holds-listed}
 use Rattle.laws.specs.RunLaws.{distinct-none, distinct-bind, pairs-named, run-keeps-distinct}
 use Rattle.laws.specs.SoundKinds.{within-kind, convert-admits, count-admits, items-admitted, holds-condition, cut-admits, taken-admits, cut-ascending, taken-ascending}
