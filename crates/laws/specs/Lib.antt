@@ -91,3 +91,5 @@ pub mod ChainReached
 pub mod ChainReaders
 pub mod Demand3
 pub mod Counterexamples
+pub mod Statements
+pub mod Theorems

@@ -42,5 +42,3 @@ unfoldable mutual
   pub proper-pairs : Pairs → Bool
   proper-pairs no-pairs = true
   proper-pairs (pair n r ps) = not (among-pairs n ps) && proper r && proper-pairs ps
-
--- ---- the parts of a conjunction

@@ -1,0 +1,150 @@
+-- The promises of `definitions`, each tied to its demand (document 00). Everything that a reader has to believe of the
+-- theorems stands here and in what these statements name: `definitions`, the grammars (Rfc3629, Rfc8259, FormGrammar), the
+-- causes (Causes, FormCauses), trees and what fits (Tree), values of the paper (Distinct, Good, Readers) and the chain of
+-- calls (Chain). They hold for every set of limits where no range is named. Theorems proves them. Assumes nothing.
+use Prim.Native.Nat.{ℕ, _≤_, _<_}
+use mathlib.Core.Path.{_≡_}
+use mathlib.Core.Logic.{_↔_}
+use mathlib.Core.Bool.{Bool, true}
+use mathlib.Core.List.{List, []}
+use lib.ListN.{length}
+use Rattle.definitions.specs.declared.Limits.{Limits}
+use Rattle.definitions.specs.Bytes.{Bytes}
+use Rattle.definitions.specs.Outcome.{Outcome, ok, refused}
+use Rattle.definitions.specs.Value.{Value, size, nesting}
+use Rattle.definitions.specs.Json.{read-json}
+use Rattle.definitions.specs.Plain.{plain}
+use Rattle.definitions.specs.Shape.{Shape, ascending, forms, levels}
+use Rattle.definitions.specs.Order.{below}
+use Rattle.definitions.specs.Join.{join, shape-of}
+use Rattle.definitions.specs.Admits.{admits}
+use Rattle.definitions.specs.Tokens.{tokens}
+use Rattle.definitions.specs.ShapeText.{read-shape, write-shape}
+use Rattle.definitions.specs.Reader.{Result, read-reader}
+use Rattle.definitions.specs.Checking.{check-reader}
+use Rattle.definitions.specs.Running.{Ran, run-reader}
+use Rattle.definitions.specs.Operations.{Source}
+use Rattle.laws.specs.Distinct.{distinct}
+use Rattle.laws.specs.Tree.{Tree, meaning, Fits}
+use Rattle.laws.specs.Rfc8259.{JSON-text}
+use Rattle.laws.specs.Causes.{Cause, First}
+use Rattle.laws.specs.FormGrammar.{Shape-form, Result-form, result-forms, result-levels}
+use Rattle.laws.specs.Good.{Good-value, Good-shape}
+use Rattle.laws.specs.Readers.{scoped, proper}
+use Rattle.laws.specs.Soundness.{Safe}
+use Rattle.laws.specs.Chain.{Call, Proper-source, In-range, Demand-3}
+
+-- ---- documents: demand 2, "Documents are read as RFC 8259 and RFC 3629 define them"
+
+-- a document is accepted with a value exactly where the RFC's grammar derives a tree from it that means the value and
+-- keeps the paper's limits
+abbrev pub Documents-by-the-RFC : Type 0
+Documents-by-the-RFC =
+    (l : Limits) (s : Bytes) (v : Value)
+    → (read-json l s ≡ ok v) ↔ ((x : Tree) × JSON-text s x × Fits l x × (meaning x ≡ v))
+
+-- demand 1, "under its stated cause": the cause of a refusal stands at its place
+abbrev pub Documents-refused-for-cause : Type 0
+Documents-refused-for-cause = (l : Limits) (s : Bytes) (n p : ℕ) → read-json l s ≡ refused n p → Cause l s n p
+
+-- demand 1, "and under no other": every cause stands later, or there with a number no smaller
+abbrev pub Documents-refused-for-the-least : Type 0
+Documents-refused-for-the-least =
+    (l : Limits) (s : Bytes) (n p m q : ℕ) → read-json l s ≡ refused n p → Cause l s m q → First n p m q
+
+-- ---- shape texts and readers: demand 2, "shapes likewise"
+
+-- a shape text is accepted exactly where it is a right text within the limits
+abbrev pub Shapes-by-the-grammar : Type 0
+Shapes-by-the-grammar =
+    (l : Limits) (s : Bytes) (t : Shape)
+    → (read-shape l s ≡ ok t) ↔ (Shape-form (tokens s) t [] × (forms t ≤ l .values) × (levels t ≤ l .nesting))
+
+-- so is a reader, with one binding, the document
+abbrev pub Readers-by-the-grammar : Type 0
+Readers-by-the-grammar =
+    (l : Limits) (s : Bytes) (r : Result)
+    → (read-reader l s ≡ ok r) ↔ (Result-form 1 (tokens s) r [] × (result-forms r ≤ l .values) × (result-levels r ≤ l .nesting))
+
+-- ---- round trips: demand 2, "written so that, if short enough to read, they read back as the same value; shapes likewise"
+
+-- plain JSON of a document that was read reads back as the same value, and is never longer
+abbrev pub Documents-read-back : Type 0
+Documents-read-back =
+    (l : Limits) (s : Bytes) (v : Value) → read-json l s ≡ ok v → (read-json l (plain v) ≡ ok v) × (length (plain v) ≤ length s)
+
+-- so does what a run gives, within the limits of 14
+abbrev pub Results-read-back : Type 0
+Results-read-back =
+    (l : Limits) → In-range l → (text s : Bytes) (r : Result) (v : Value) (x : Ran Value) → read-reader l text ≡ ok r
+    → read-json l s ≡ ok v → run-reader r l v ≡ ok x → size (x .result) ≤ l .values → nesting (x .result) ≤ l .nesting
+    → read-json l (plain (x .result)) ≡ ok (x .result)
+
+-- so does every value of the paper with distinct names, and every shape of the paper, within the limits
+abbrev pub Values-read-back : Type 0
+Values-read-back =
+    (l : Limits) (v : Value) → Good-value v → distinct v ≡ true → size v ≤ l .values → nesting v ≤ l .nesting
+    → read-json l (plain v) ≡ ok v
+
+abbrev pub Shapes-read-back : Type 0
+Shapes-read-back =
+    (l : Limits) (s : Shape) → Good-shape s → ascending s ≡ true → forms s ≤ l .values → levels s ≤ l .nesting
+    → read-shape l (write-shape s) ≡ ok s
+
+-- ---- order and join: demand 2, "inferring, ordering .. give just the answers that document 01 defines", and what demand 3
+-- stands on
+
+-- on the shapes of the paper `below` is a partial order
+pub record Partial-order : Type 0 where
+  pub reflexive : (s : Shape) → ascending s ≡ true → below s s ≡ true
+  pub transitive
+      : (s t u : Shape) → ascending s ≡ true → ascending t ≡ true → ascending u ≡ true → below s t ≡ true → below t u ≡ true
+      → below s u ≡ true
+  pub antisymmetric
+      : (s t : Shape) → ascending s ≡ true → ascending t ≡ true → below s t ≡ true → below t s ≡ true → s ≡ t
+
+-- and `join` gives the least upper bound, again a shape of the paper
+pub record Least-upper-bound : Type 0 where
+  pub well-formed : (s t : Shape) → ascending s ≡ true → ascending t ≡ true → ascending (join s t) ≡ true
+  pub above-left : (s t : Shape) → ascending s ≡ true → ascending t ≡ true → below s (join s t) ≡ true
+  pub above-right : (s t : Shape) → ascending s ≡ true → ascending t ≡ true → below t (join s t) ≡ true
+  pub least
+      : (s t u : Shape) → ascending s ≡ true → ascending t ≡ true → ascending u ≡ true → below s u ≡ true → below t u ≡ true
+      → below (join s t) u ≡ true
+
+-- a shape admits a value with distinct names exactly where the value's shape is below it
+abbrev pub Admits-is-below : Type 0
+Admits-is-below =
+    (s : Shape) (v : Value) → distinct v ≡ true → ascending s ≡ true
+    → (admits s v ≡ true) ↔ (below (shape-of v) s ≡ true)
+
+-- forms, nesting and written bytes grow along the order, so that refusal 11 depends on no order of samples
+pub record Sizes-grow : Type 0 where
+  pub in-forms : (s t : Shape) → ascending s ≡ true → ascending t ≡ true → below s t ≡ true → forms s ≤ forms t
+  pub in-nesting : (s t : Shape) → ascending s ≡ true → ascending t ≡ true → below s t ≡ true → levels s ≤ levels t
+  pub in-bytes
+      : (s t : Shape) → ascending s ≡ true → ascending t ≡ true → below s t ≡ true
+      → length (write-shape s) ≤ length (write-shape t)
+
+-- ---- soundness: demand 3, "the reader never gets stuck on it: it gives a value that its own result shape admits, or
+-- meets the step .. limit"
+
+abbrev pub Checked-readers-are-safe : Type 0
+Checked-readers-are-safe =
+    (r : Result) (l : Limits) (s : Shape) (v : Value) (u : Shape) → ascending s ≡ true → distinct v ≡ true → scoped 1 r ≡ true
+    → proper r ≡ true → check-reader r s ≡ ok u → admits s v ≡ true → Safe u (run-reader r l v)
+
+-- ---- demand 3, whole
+
+-- for every source of documents that keeps to what is asked of one, every set of limits in range and every list of calls
+abbrev pub Demand-3-from : Source → Type 0
+Demand-3-from source =
+    (for-infer for-check for-run : List ℕ) (l : Limits) → In-range l → (calls : List Call)
+    → Demand-3 source for-infer for-check for-run l calls
+
+abbrev pub Demand-3-from-every-source : Type 0
+Demand-3-from-every-source = (source : Source) → Proper-source source → Demand-3-from source
+
+-- and so for JSON documents
+abbrev pub Demand-3-for-documents : Type 0
+Demand-3-for-documents = Demand-3-from read-json

@@ -1,0 +1,110 @@
+-- The statements of Statements.antt, proved: each by the lemmas of the files that it cites. Assumes nothing.
+use Prim.Native.Nat.{ℕ, _≤_, _<_}
+use native.Mathlib.Nat.{le-trans}
+use native.Mathlib.Omega.{arith}
+use mathlib.Core.Path.{_≡_, refl, sym, ap, _∙_, subst}
+use mathlib.Core.Bool.{true}
+use mathlib.Core.List.{List, [], _∷_}
+use lib.Dec.{lit≤}
+use Rattle.definitions.specs.declared.Limits.{Limits}
+use Rattle.definitions.specs.Bytes.{Bytes}
+use Rattle.definitions.specs.Outcome.{Outcome, ok, refused}
+use Rattle.definitions.specs.Number.{most-coefficient}
+use Rattle.definitions.specs.Value.{Value, size}
+use Rattle.definitions.specs.Json.{read-json}
+use Rattle.laws.specs.JsonAdequate.{json-accepted-to, json-accepted-from, json-distinct, json-refused}
+use Rattle.laws.specs.ShapeForms.{shape-accepted-to, shape-accepted-from}
+use Rattle.laws.specs.ReaderForms.{reader-accepted-to, reader-accepted-from}
+use Rattle.laws.specs.ReaderFacts.{reader-proper}
+use Rattle.laws.specs.RoundLaws.{plain-reads-back, plain-idempotent, plain-not-longer, json-read-good, reader-read-good, run-good, shape-reads-back}
+use Rattle.laws.specs.RunLaws.{run-distinct}
+use Rattle.laws.specs.OrderLaws.{below-refl, below-trans, below-antisym}
+use Rattle.laws.specs.JoinLaws.{join-ascending, join-upper-left, join-upper-right, join-least}
+use Rattle.laws.specs.AdmitsLaws.{admits-below, below-admits}
+use Rattle.laws.specs.SizeLaws.{forms-mono, levels-mono, write-mono}
+use Rattle.laws.specs.Soundness.{sound}
+use Rattle.laws.specs.Causes.{Cause, cause-3, cause-4, cause-5, cause-6}
+use Rattle.laws.specs.Chain.{Proper-source, In-range}
+use Rattle.laws.specs.Demand3.{demand-3}
+use Rattle.laws.specs.Statements.{Documents-by-the-RFC, Documents-refused-for-cause, Shapes-by-the-grammar, Readers-by-the-grammar, Documents-read-back, Results-read-back, Values-read-back, Shapes-read-back, Partial-order, Least-upper-bound, Admits-is-below, Sizes-grow, Checked-readers-are-safe, Demand-3-from-every-source, Demand-3-for-documents}
+
+-- ---- reading
+
+pub documents-by-the-RFC : Documents-by-the-RFC
+documents-by-the-RFC l s v =
+    (json-accepted-to l s v, λ (x, h, f, m). json-accepted-from l s x h f ∙ ap ok m)
+
+pub documents-refused-for-cause : Documents-refused-for-cause
+documents-refused-for-cause = json-refused
+
+pub shapes-by-the-grammar : Shapes-by-the-grammar
+shapes-by-the-grammar l s t = (shape-accepted-to l s t, λ (f, a, b). shape-accepted-from l s t f a b)
+
+pub readers-by-the-grammar : Readers-by-the-grammar
+readers-by-the-grammar l s r = (reader-accepted-to l s r, λ (f, a, b). reader-accepted-from l s r f a b)
+
+-- ---- round trips
+
+pub documents-read-back : Documents-read-back
+documents-read-back l s v e = (plain-idempotent l s v e, plain-not-longer l s v e)
+
+-- a document that was read has no more values than a coefficient can count
+read-small : (l : Limits) → In-range l → (s : Bytes) (v : Value) → read-json l s ≡ ok v → size v ≤ most-coefficient
+unfolding most-coefficient
+read-small l r s v e =
+    let (x, h, f, m) = json-accepted-to l s v e in
+    let k : size v ≤ l .values = subst (λ (w : Value). size w ≤ l .values) m (f .values) in
+    let n : l .values ≤ 512 = r .values .1 in
+    le-trans (le-trans k n) (lit≤ tt)
+
+pub results-read-back : Results-read-back
+results-read-back l range text s r v x t e run small shallow =
+    plain-reads-back l (x .result)
+    (run-good r l v x (reader-read-good l text r t) (json-read-good l s v e) (read-small l range s v e) run)
+    (run-distinct r l v x (json-distinct l s v e) (reader-proper l text r t) run)
+    small
+    shallow
+
+pub values-read-back : Values-read-back
+values-read-back = plain-reads-back
+
+pub shapes-read-back : Shapes-read-back
+shapes-read-back = shape-reads-back
+
+-- ---- order and join
+
+pub partial-order : Partial-order
+partial-order = record { reflexive = below-refl; transitive = below-trans; antisymmetric = below-antisym }
+
+pub least-upper-bound : Least-upper-bound
+least-upper-bound =
+    record { well-formed = join-ascending; above-left = join-upper-left; above-right = join-upper-right; least = join-least }
+
+pub admits-is-below : Admits-is-below
+admits-is-below s v d a = (admits-below s v d a, below-admits s v d a)
+
+pub sizes-grow : Sizes-grow
+sizes-grow = record { in-forms = forms-mono; in-nesting = levels-mono; in-bytes = write-mono }
+
+-- ---- soundness and demand 3
+
+pub checked-readers-are-safe : Checked-readers-are-safe
+checked-readers-are-safe = sound
+
+pub demand-3-from-every-source : Demand-3-from-every-source
+demand-3-from-every-source = demand-3
+
+cause-numbered : {l : Limits} {s : Bytes} {n p : ℕ} → Cause l s n p → 0 < n
+cause-numbered (cause-3 pre r e b) = lit≤ tt
+cause-numbered (cause-4 pre r e b) = lit≤ tt
+cause-numbered (cause-5 pre r e b) = lit≤ tt
+cause-numbered (cause-6 pre r e b) = lit≤ tt
+
+-- JSON keeps to what is asked of a source
+pub json-proper : Proper-source read-json
+json-proper =
+    record
+    { numbered = λ l s n p e. cause-numbered (json-refused l s n p e); names-once = json-distinct; good = json-read-good }
+
+pub demand-3-for-documents : Demand-3-for-documents
+demand-3-for-documents = demand-3 read-json json-proper
