@@ -126,3 +126,72 @@ module _ {Q : Type 0} {step : Q → Placed → Step Q} where
       : {n : Bytes} {ts us vs : List Placed} {ds : List ℕ} {q q₁ u : Q} → Name n ts us
       → ((x : ℕ) → step q (at x (quoted n)) ≡ go q₁) → Walk step q₁ us ds u vs → Walk step q ts ds u vs
   name-on (name {x = x}) f w = on (f x) w
+
+-- ---- what a step says of its token and of the state it leads to
+
+abbrev pub Says : {Q : Type 0} → (Token → Q → Type 0) → (Token → ℕ → Q → Type 0) → Token → Step Q → Type 0
+Says G O k misplaced = Unit {0}
+Says G O k (go r) = G k r
+Says G O k (opens d r) = O k d r
+
+module _ {Q : Type 0} (G : Token → Q → Type 0) (O : Token → ℕ → Q → Type 0) where
+  pub open-says : (s : Step Q) → Says G O opening s → (k : Token) → Says G O k (want-open k s)
+  unfolding want-open
+  open-says s h opening = h
+  open-says s h closing = tt
+  open-says s h (quoted t) = tt
+  open-says s h (word w) = tt
+  open-says s h broken = tt
+
+  pub close-says : (s : Step Q) → Says G O closing s → (k : Token) → Says G O k (want-close k s)
+  unfolding want-close
+  close-says s h opening = tt
+  close-says s h closing = h
+  close-says s h (quoted t) = tt
+  close-says s h (word w) = tt
+  close-says s h broken = tt
+
+  pub text-says : (s : Bytes → Step Q) → ((t : Bytes) → Says G O (quoted t) (s t)) → (k : Token) → Says G O k (want-text k s)
+  unfolding want-text
+  text-says s h opening = tt
+  text-says s h closing = tt
+  text-says s h (quoted t) = h t
+  text-says s h (word w) = tt
+  text-says s h broken = tt
+
+  pub word-says : (s : Bytes → Step Q) → ((w : Bytes) → Says G O (word w) (s w)) → (k : Token) → Says G O k (want-word k s)
+  unfolding want-word
+  word-says s h opening = tt
+  word-says s h closing = tt
+  word-says s h (quoted t) = tt
+  word-says s h (word w) = h w
+  word-says s h broken = tt
+
+  pub true-says : (k : Token) (b : Bool) (s : Step Q) → Says G O k s → Says G O k (where-true b s)
+  unfolding where-true
+  true-says k true s h = h
+  true-says k false s h = tt
+
+  pub some-says
+      : {A : Type 0} (k : Token) (o : Option A) (s : A → Step Q) → ((a : A) → o ≡ some a → Says G O k (s a))
+      → Says G O k (where-some o s)
+  unfolding where-some
+  some-says k none s h = tt
+  some-says k (some a) s h = h a refl
+
+  pub named-says
+      : {A : Type 0} (rows : List (Named A)) (s : A → Step Q) → Each (λ w a. Says G O (word w) (s a)) rows → (k : Token)
+      → Says G O k (want-named rows k s)
+  unfolding want-named
+  named-says {A} rows s h k =
+      word-says
+      (λ w. where-some (look-word rows w) s)
+      (λ w. some-says (word w) (look-word rows w) s (look-each (λ w a. Says G O (word w) (s a)) rows h w))
+      k
+
+  -- what is said of a step that leads on
+  pub says-go : {k : Token} {s : Step Q} {r : Q} → Says G O k s → s ≡ go r → G k r
+  says-go {k} h e = subst (Says G O k) e h
+
+  pub says-opens : {k : Token} {s : Step Q} {d : ℕ} {r : Q} → Says G O k s → s ≡ opens d r → O k d r
+  says-opens {k} h e = subst (Says G O k) e h

@@ -91,7 +91,7 @@ judge-told
     → Told l s (judge l n kept here m f)
 unfolding judge after ending
 judge-told l pre f broken-so k e brk on = brk refl refl
-judge-told {s} {kept} {here} {n} l pre f (broken-number-so {k = c} b g a) (p, h) e brk on = at (full l n (opened c)) refl
+judge-told {s} {kept} {here} {n} l pre f (broken-number-so {k = c} b g a later) (p, h) e brk on = at (full l n (opened c)) refl
   where
     at : (z : Bool) → full l n (opened c) ≡ z → Told l s (elim z [ true ↦ refused 6 kept | false ↦ refused 3 here ])
     at true y = refuses p h (cause-6 p kept h (full-cause b g a y))
@@ -110,7 +110,7 @@ judge-told {s} {kept} {r} {n} l pre f (ends-name {ns} {k = c} {t} {q} b a x) (p,
     at true y =
         refuses p h (cause-5 p kept h (record { context = c; members = ns; before = b; name = t; behind = r; complete = a; listed = y }))
     at false y = on n kept q x refl (p, h)
-judge-told {s} {kept} {here} {n} l pre f (ends-number {k = c} {d} {m} b g a run y steps full-run none-next x) (p, h) e brk on =
+judge-told {s} {kept} {here} {n} l pre f (ends-number {k = c} {d} {m} b g a later run y steps full-run none-next x) (p, h) e brk on =
     at (beyond d) refl (full l n (opened c)) refl (judge-told l pre f x (p, h) e brk on)
   where
     at

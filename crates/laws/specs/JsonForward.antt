@@ -22,8 +22,8 @@ use Rattle.laws.specs.Steps.{Text-steps, text-stay, text-then, Number-st
 use Rattle.laws.specs.StringTokens.{chars-steps}
 use Rattle.laws.specs.NumberTokens.{number-steps}
 use Rattle.laws.specs.JsonMoves.{Tests, judge-by, scan-by}
-use Rattle.laws.specs.JsonRuns.{Stop, comma, end-bracket, end-brace, mark-stop, end-stop, values-stop, members-stop, Takes, takes-value, takes-item, takes-byte, takes-digit, bracket-first, bracket-after, comma-after, brace-first, brace-after, comma-member, colon-name, Names, names-first, names-next, move-run, ws-run, mark-run, close-run, name-run, number-run, number-stops}
-use Rattle.laws.specs.JsonLengths.{ws-length, structural-length, string-length, value-length, member-length, more-values-length, more-members-length}
+use Rattle.laws.specs.JsonRuns.{Stop, comma, end-bracket, end-brace, mark-stop, stop-none, end-stop, values-stop, members-stop, Takes, takes-value, takes-item, takes-byte, takes-digit, bracket-first, bracket-after, comma-after, brace-first, brace-after, comma-member, colon-name, Names, names-first, names-next, move-run, ws-run, mark-run, close-run, name-run, number-run, Judged, number-stops}
+use Rattle.laws.specs.JsonLengths.{ws-length, structural-length, string-length, number-length, value-length, member-length, more-values-length, more-members-length}
 
 -- ---- which trees pass the tests
 
@@ -149,7 +149,7 @@ module _ (j : Tests) where
       ends-from (move-run j n kept (State.gap g) b t e)
       (ends-unless (j .crowded (suc n) o) 6 kept (b ∷ t) (omega arith) (k ∙ ap (λ (m : ℕ). scan-by j m kept (State.gap g′) u) (sym (add-one n))))
 
-  array-enter
+  pub array-enter
       : {c : Bytes → Come} {t t′ u : Bytes} {f : Bool} (g : Gap) (o : Open) (n : ℕ) (kept : Bytes) → Rfc.begin-array t t′ → Takes g o
       → length u ≤ length t′ → Ends c u f (scan-by j (suc n) kept (State.gap (Gap.first-item o)) t′)
       → Ends c u (not (j .crowded (suc n) o) && f) (scan-by j n kept (State.gap g) t)
@@ -158,7 +158,7 @@ module _ (j : Tests) where
       ends-from (ws-run j n kept g v)
       (enter g n kept 0x5B s (takes-byte g o 0x5B k refl refl) (le-trans h (ws-length w)) (ends-from (ws-run j (suc n) kept (Gap.first-item o) w) e))
 
-  object-enter
+  pub object-enter
       : {c : Bytes → Come} {t t′ u : Bytes} {f : Bool} (g : Gap) (o : Open) (n : ℕ) (kept : Bytes) → Rfc.begin-object t t′ → Takes g o
       → length u ≤ length t′ → Ends c u f (scan-by j (suc n) kept (State.gap (Gap.first-name o)) t′)
       → Ends c u (not (j .crowded (suc n) o) && f) (scan-by j n kept (State.gap g) t)
@@ -174,26 +174,27 @@ module _ (j : Tests) where
   string-forward {t} {u} g o n kept (Rfc.quoted {s} c) k =
       enter-scalar (put (Value.text t) o) u g n kept 0x22 s (takes-byte g o 0x22 k refl refl) (omega (arith, string-length (Rfc.quoted c))) (close-run j (suc n) kept (Role.as-value o) c)
 
-  number-steps-forward
-      : {s u xs : Bytes} {p : Phase} {d : Numeral} (g : Gap) (o : Open) (n : ℕ) (kept : Bytes) → s ≡ xs ++ u → Number-steps begin no-digits xs p d
-      → complete p ≡ true → Stop u → Takes g o
-      → To (n + 1) (put (Value.number (number-of d)) o) u (not (j .over d) && not (j .crowded (suc n) o)) (scan-by j n kept (State.gap g) s)
+  -- a number, judged at its end
+  pub number-judged
+      : {s xs : Bytes} {p : Phase} {d : Numeral} (g : Gap) (o : Open) (n : ℕ) (kept u : Bytes) → s ≡ xs ++ u → Number-steps begin no-digits xs p d
+      → complete p ≡ true → ((b : ℕ) (w : Bytes) → u ≡ b ∷ w → look (next p) b ≡ none) → Takes g o
+      → scan-by j n kept (State.gap g) s ≡ Judged j (suc n) s d o (scan-by j (suc n) s (State.gap (put (Value.number (number-of d)) o)) u)
   unfolding judge-by move complete
-  number-steps-forward g o n kept e number-stay c h k = absurd (false≢true c)
-  number-steps-forward {u} {p} {d} g o n kept e (number-then {q} {xs = ys} {b} x f) c h k =
-      let from : Bytes = b ∷ (ys ++ u) in
-      let l : length (ys ++ u) ≡ length ys + length u = length-append ys u in
-      ends-from
-      (ap (scan-by j n kept (State.gap g)) e ∙ move-run j n kept (State.gap g) b (ys ++ u) (takes-digit g o b k x)
-      ∙ number-run j (suc n) from o u f ∙ number-stops j (suc n) from p d o c h)
-      (ends-if (j .over d) 4 from (omega arith)
-      (ends-unless (j .crowded (suc n) o) 6 from from (omega arith)
-      (ap (λ (m : ℕ). scan-by j m from (State.gap (put (Value.number (number-of d)) o)) u) (sym (add-one n)))))
+  number-judged g o n kept u e number-stay c h k = absurd (false≢true c)
+  number-judged {s} {p} {d} g o n kept u e (number-then {q} {xs = ys} {b} x f) c h k =
+      ap (scan-by j n kept (State.gap g)) e ∙ move-run j n kept (State.gap g) b (ys ++ u) (takes-digit g o b k x)
+      ∙ ap (λ (z : Bytes). scan-by j (suc n) z (State.in-number q (extend q no-digits b) o) (ys ++ u)) (sym e)
+      ∙ number-run j (suc n) s o u f ∙ number-stops j (suc n) s p d o u c h
 
   number-forward
       : {s u : Bytes} {d : Numeral} (g : Gap) (o : Open) (n : ℕ) (kept : Bytes) → Rfc.number s d u → Stop u → Takes g o
       → To (n + 1) (put (Value.number (number-of d)) o) u (not (j .over d) && not (j .crowded (suc n) o)) (scan-by j n kept (State.gap g) s)
-  number-forward g o n kept a h k = let (xs, p, e, f, c) = number-steps a in number-steps-forward g o n kept e f c h k
+  number-forward {s} {u} {d} g o n kept a h k =
+      let (xs, p, e, f, c) = number-steps a in
+      ends-from (number-judged g o n kept u e f c (stop-none h p) k)
+      (ends-if (j .over d) 4 s (number-length a)
+      (ends-unless (j .crowded (suc n) o) 6 s s (number-length a)
+      (ap (λ (m : ℕ). scan-by j m s (State.gap (put (Value.number (number-of d)) o)) u) (sym (add-one n)))))
 
   module _ (g : Gap) (o : Open) (n : ℕ) (kept u : Bytes) (k : Takes g o) where
     false-forward : To (n + 1) (put (Value.bool false) o) u (not (j .crowded (suc n) o)) (scan-by j n kept (State.gap g) (0x66 ∷ 0x61 ∷ 0x6C ∷ 0x73 ∷ 0x65 ∷ u))
@@ -210,7 +211,7 @@ module _ (j : Tests) where
 
   -- ---- closing
 
-  recount : {m m′ : ℕ} → m ≡ m′ → (g : Gap) (kept u : Bytes) → scan-by j m kept (State.gap g) u ≡ scan-by j m′ kept (State.gap g) u
+  pub recount : {m m′ : ℕ} → m ≡ m′ → (g : Gap) (kept u : Bytes) → scan-by j m kept (State.gap g) u ≡ scan-by j m′ kept (State.gap g) u
   recount e g kept u = ap (λ (m : ℕ). scan-by j m kept (State.gap g) u) e
 
   list-shut

@@ -116,19 +116,19 @@ live (in-word {c} {cs} {x} {k} f h e one) = live-walk (walk-word c cs (meaning x
 -- ---- what has been walked begins a text
 
 -- the state behind a move
-sound-after : {s kept here r : Bytes} {n : ℕ} {m : Move} {q : State} → Sound s n kept here r m → after m ≡ some q → (n′ : ℕ) × (kept′ : Bytes) × Reached s n′ kept′ q r
+pub sound-after : {s kept here r : Bytes} {n : ℕ} {m : Move} {q : State} → Sound s n kept here r m → after m ≡ some q → (n′ : ℕ) × (kept′ : Bytes) × Reached s n′ kept′ q r
 unfolding after
 sound-after {q} broken-so e = absurd (Option·none-ne-some q e)
-sound-after {q} (broken-number-so f g h) e = absurd (Option·none-ne-some q e)
+sound-after {q} (broken-number-so f g h l) e = absurd (Option·none-ne-some q e)
 sound-after {s} {kept} {r} {n} {q} (goes {q = p} x) e = (n, kept, subst (λ z. Reached s n kept z r) (Option·some-injective p q e) x)
 sound-after {s} {kept} {r} {n} {q} (begins-value {q = p} f g h x) e = (suc n, kept, subst (λ z. Reached s (suc n) kept z r) (Option·some-injective p q e) x)
 sound-after {s} {here} {r} {n} {q} (begins-number {q = p} x) e = (suc n, here, subst (λ z. Reached s (suc n) here z r) (Option·some-injective p q e) x)
 sound-after {s} {here} {r} {n} {q} (begins-name {q = p} x) e = (n, here, subst (λ z. Reached s n here z r) (Option·some-injective p q e) x)
 sound-after {s} {kept} {r} {n} {q} (ends-name {q = p} f g x) e = (n, kept, subst (λ z. Reached s n kept z r) (Option·some-injective p q e) x)
-sound-after (ends-number f g h run y z c d x) e = sound-after x e
+sound-after (ends-number f g h l run y z c d x) e = sound-after x e
 sound-after {q} (ends-text f g) e = absurd (Option·none-ne-some q e)
 
-walk-sound
+pub walk-sound
     : {s kept : Bytes} {n : ℕ} {p q : State} {xs : Bytes} (r : Bytes) → Walk p xs q → Reached s n kept p (xs ++ r)
     → (n′ : ℕ) × (kept′ : Bytes) × Reached s n′ kept′ q r
 walk-sound {kept} {n} r stay x = (n, kept, x)
@@ -184,10 +184,10 @@ mutual
       and-intro (free-fit x n (in-rec ms m o)) (free-fit-named ns (member m (meaning x) ms) (n + size (meaning x)) o)
 
 -- what a scan without tests comes to on a JSON text
-free-text : {s : Bytes} {x : Tree} → JSON-text s x → scan-by free 0 s start s ≡ ok (meaning x)
+pub free-text : {s : Bytes} {x : Tree} → JSON-text s x → scan-by free 0 s start s ≡ ok (meaning x)
 free-text {s} {x} h = ends-arrive (text-forward free h) (free-fit x 0 root) .1
 
-free-after
+pub free-after
     : (n : ℕ) (kept s : Bytes) (m : Move) (q : State) (f : ℕ → Bytes → State → Outcome Bytes Value) → after m ≡ some q
     → (n′ : ℕ) × (kept′ : Bytes) × (judge-by free n kept s m f ≡ f n′ kept′ q)
 unfolding after judge-by free
@@ -212,18 +212,18 @@ free-walk n kept r (step {p} {q} {b} {xs} e f) =
     (n₂, kept₂, h ∙ g)
 
 -- a move that ends reading at a byte
-sound-broken
+pub sound-broken
     : {s kept r r′ : Bytes} {n b : ℕ} {m : Move} (i : ℕ) (k : Bytes) (f : ℕ → Bytes → State → Outcome Bytes Value) → Sound s n kept (b ∷ r) r′ m
     → after m ≡ none → judge-by free i k (b ∷ r) m f ≡ refused 3 (b ∷ r)
 unfolding after judge-by free
 sound-broken i k f broken-so e = refl
-sound-broken i k f (broken-number-so x y z) e = refl
+sound-broken i k f (broken-number-so x y z l) e = refl
 sound-broken i k f (goes {q} x) e = absurd (Option·some-ne-none q e)
 sound-broken i k f (begins-value {q} x y z w) e = absurd (Option·some-ne-none q e)
 sound-broken i k f (begins-number {q} x) e = absurd (Option·some-ne-none q e)
 sound-broken i k f (begins-name {q} x) e = absurd (Option·some-ne-none q e)
 sound-broken i k f (ends-name {q} x y z) e = absurd (Option·some-ne-none q e)
-sound-broken i k f (ends-number x y z run g h c d m) e = sound-broken i k f m e
+sound-broken i k f (ends-number x y z l run g h c d m) e = sound-broken i k f m e
 sound-broken i k f (ends-text x y) e = absurd (cons≢nil x)
 
 -- no text goes on so

@@ -3,7 +3,7 @@
 use Prim.Native.Nat.{ℕ, zero, suc}
 use mathlib.Core.Path.{_≡_, refl, sym, _∙_, ap, subst}
 use mathlib.Core.Bool.{Bool, true, false}
-use mathlib.Core.List.{List, [], _∷_, _++_, reverse, reverse-reverse}
+use mathlib.Core.List.{List, [], _∷_, _++_, reverse, reverse-reverse, nil≢cons, head-eq-of-cons-eq}
 use mathlib.Core.Option.{Option, none, some, Option·none-ne-some, Option·some-injective}
 use Rattle.definitions.specs.Bytes.{Bytes, between, look, is, white, white-table, found}
 use Rattle.definitions.specs.Outcome.{Outcome, ok, refused}
@@ -61,6 +61,10 @@ mark-stops end-brace = phases (λ p. look (next p) 0x7D ≡ none) refl refl refl
 ws-stop : {s r : Bytes} → ws s r → Stop r → Stop s
 ws-stop ws-none h = h
 ws-stop (ws-more c w) h = stop-byte (space-stops c)
+
+pub stop-none : {u : Bytes} → Stop u → (p : Phase) (b : ℕ) (w : Bytes) → u ≡ b ∷ w → look (next p) b ≡ none
+stop-none stop-end p b w e = absurd (nil≢cons e)
+stop-none (stop-byte h) p b w e = subst (λ (z : ℕ). look (next p) z ≡ none) (head-eq-of-cons-eq e) (h p)
 
 pub end-stop : {s : Bytes} → ws s [] → Stop s
 end-stop w = ws-stop w stop-end
@@ -236,15 +240,15 @@ module _ (j : Tests) (n : ℕ) (kept : Bytes) where
         | false ↦ elim (j .crowded n o) as (λ z. Outcome Bytes Value) [ true ↦ refused 6 kept | false ↦ a ]
       ]
 
-  -- behind a number
+  -- behind a number that goes on with no byte that is left
   pub number-stops
-      : {u : Bytes} (p : Phase) (d : Numeral) (o : Open) → complete p ≡ true → Stop u
+      : (p : Phase) (d : Numeral) (o : Open) (u : Bytes) → complete p ≡ true → ((b : ℕ) (w : Bytes) → u ≡ b ∷ w → look (next p) b ≡ none)
       → scan-by j n kept (State.in-number p d o) u ≡ Judged d o (scan-by j n kept (State.gap (put (Value.number (number-of d)) o)) u)
   unfolding scan-by judge-by move end-move number-end
-  number-stops p d o c stop-end = ap (λ (m : Move). judge-by j n kept [] m (λ n′ kept′ q′. refused 3 [])) (number-ends p d o gap-end c)
-  number-stops p d o c (stop-byte {b} {r} h) =
+  number-stops p d o [] c h = ap (λ (m : Move). judge-by j n kept [] m (λ n′ kept′ q′. refused 3 [])) (number-ends p d o gap-end c)
+  number-stops p d o (b ∷ r) c h =
       move-run (State.in-number p d o) b r
-      (ap (λ (z : Option Phase). elim z as (λ x. Move) [ some q ↦ Move.go (State.in-number q (extend q d b) o) | none ↦ number-end p d o (λ g. gap-move g b) ]) (h p)
+      (ap (λ (z : Option Phase). elim z as (λ x. Move) [ some q ↦ Move.go (State.in-number q (extend q d b) o) | none ↦ number-end p d o (λ g. gap-move g b) ]) (h b r refl)
       ∙ number-ends p d o (λ g. gap-move g b) c)
 
 -- from a name's opening quote to behind its closing one

@@ -1,12 +1,13 @@
 -- Soundness of reading: in each state of a scan, what has been read is the beginning of a JSON text, said by the grammar;
 -- and a move keeps that. Assumes nothing.
-use Prim.Native.Nat.{ℕ, zero, suc, _+_}
+use Prim.Native.Nat.{ℕ, zero, suc, _+_, _<_}
 use native.Mathlib.Omega.{arith}
 use mathlib.Core.Path.{_≡_, refl, sym, _∙_, ap, ap₂, subst}
 use mathlib.Core.Bool.{Bool, true, false}
 use mathlib.Core.List.{List, [], _∷_, _++_, append-assoc, reverse, nil≢cons, head-eq-of-cons-eq}
 use mathlib.Core.Option.{Option, none, some}
 use lib.Dec.{eqb}
+use lib.ListN.{length, length-append}
 use Rattle.definitions.specs.Bytes.{Bytes, between, look, is, white, white-table, found}
 use Rattle.definitions.specs.Text.{Inside, Text-move, wrong, more, closed, text-step}
 use Rattle.definitions.specs.Number.{Numeral, no-digits, number-of, Phase, begin, next, complete, extend}
@@ -71,7 +72,7 @@ pub record Starts (r : Bytes) : Type 0 where
 -- what a move at `here` tells of what has been read, and of the state behind it at r
 pub data Sound (s : Bytes) (n : ℕ) (kept here r : Bytes) : Move → Type 0 where
   broken-so : Sound s n kept here r Move.broken
-  broken-number-so : {k : Context} → Before s k kept → n ≡ suc (begun k) → Starts kept → Sound s n kept here r (Move.broken-number (opened k))
+  broken-number-so : {k : Context} → Before s k kept → n ≡ suc (begun k) → Starts kept → length here < length kept → Sound s n kept here r (Move.broken-number (opened k))
   goes : {q : State} → Reached s n kept q r → Sound s n kept here r (Move.go q)
   begins-value
       : {k : Context} {q : State} → Before s k here → n ≡ begun k → Starts here → Reached s (suc n) kept q r
@@ -82,7 +83,7 @@ pub data Sound (s : Bytes) (n : ℕ) (kept here r : Bytes) : Move → Type 0 whe
       : {ns : Named} {k : Context} {t : Bytes} {q : State} → Before-name s ns k kept → Rfc.string kept t r → Reached s n kept q r
       → Sound s n kept here r (Move.end-name t (meaning-named ns) q)
   ends-number
-      : {k : Context} {p : Phase} {d : Numeral} {m : Move} → Before s k kept → n ≡ suc (begun k) → Starts kept → (run : Bytes) → kept ≡ run ++ here
+      : {k : Context} {p : Phase} {d : Numeral} {m : Move} → Before s k kept → n ≡ suc (begun k) → Starts kept → length here < length kept → (run : Bytes) → kept ≡ run ++ here
       → Number-steps begin no-digits run p d → complete p ≡ true → ((b : ℕ) (w : Bytes) → here ≡ b ∷ w → look (next p) b ≡ none)
       → Sound s n kept here r m → Sound s n kept here r (Move.end-number d (opened k) m)
   ends-text : {x : Tree} → here ≡ [] → JSON-text s x → Sound s n kept here r (Move.end-text (meaning x))
@@ -303,13 +304,18 @@ number-end-sound {s} {kept} {here} {r} {xs} {n} {c} {p} {d} {k} behind f h g e n
     starts : Starts kept
     starts = subst Starts (sym h) (starts-number (xs ++ here) g)
 
+    later : length here < length kept
+    later =
+        let l : length kept ≡ suc (length xs + length here) = ap length h ∙ ap suc (length-append xs here) in
+        omega arith
+
     at
         : (z : Bool) → complete p ≡ z
         → Sound s n kept here r (elim z [ true ↦ Move.end-number d (opened k) (behind (put (Value.number (number-of d)) (opened k))) | false ↦ Move.broken-number (opened k) ])
     at true q =
-        ends-number f e starts (c ∷ xs) h g q none-next
+        ends-number f e starts later (c ∷ xs) h g q none-next
         (m (Rfc.is-number (subst (λ (z : Bytes). Rfc.number z d here) (sym h) (number-sound g q here))) (count-scalar k (Tree.number d) refl e))
-    at false q = broken-number-so f e starts
+    at false q = broken-number-so f e starts later
 
 digits-sound
     : {s kept r xs : Bytes} {n b c : ℕ} {p : Phase} {d : Numeral} {k : Context} → Before s k kept → kept ≡ c ∷ (xs ++ b ∷ r)

@@ -51,6 +51,9 @@ pub mod JsonRuns
 pub mod JsonForward
 pub mod JsonFits
 pub mod JsonLive
+pub mod JsonBefore
+pub mod JsonSettled
+pub mod JsonBroken
 pub mod JsonCauses
 pub mod JsonAdequate
 pub mod FormGrammar
@@ -64,6 +67,10 @@ pub mod ReaderFacts
 pub mod ShapeWalks
 pub mod ShapeForms
 pub mod ReaderWalks
+pub mod FormCauses
+pub mod FormPlaces
+pub mod FormLeast
+pub mod ShapeCauses
 pub mod Good
 pub mod LexLaws
 pub mod LexGood

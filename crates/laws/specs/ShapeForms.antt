@@ -21,7 +21,7 @@ use Rattle.laws.specs.ShapeWalks.{shape-depths, depths-forms, depths-lev
 -- ---- what is accepted is right
 
 -- the walk to a whole shape
-whole-walk
+pub whole-walk
     : {s : Shape} {ts : List Placed} {ds : List ℕ} {q : State} → Walk step (want (shape-open text-end)) ts ds q [] → finished q ≡ some s
     → Walk step (want (shape-open text-end)) ts ds (whole s) []
 unfolding finished

@@ -226,7 +226,7 @@ bracket-back p o x ts a = by-list (among Kind.list (p .kinds)) refl
     by-list true h = (element-begins h, λ b. absurd b)
     by-list false h = (λ b. no-more-kinds h (member-back p o x opening ts a b), λ b. no-more-kinds h (member-back p o x closing ts a b))
 
-kind-spelled : (w : Bytes) (k : Kind) → look-word kind-words w ≡ some k → w ≡ kind-name k
+pub kind-spelled : (w : Bytes) (k : Kind) → look-word kind-words w ≡ some k → w ≡ kind-name k
 unfolding kind-words all-kinds
 kind-spelled w k e = look-each (λ w k. w ≡ kind-name k) kind-words (refl, (refl, (refl, (refl, (refl, (refl, (refl, tt))))))) w k e
 

@@ -89,22 +89,22 @@ pub shape-opens : (o : Around) (x : ℕ) → step (want (shape-open o)) (at x op
 unfolding step want-step want-open
 shape-opens o x = refl
 
-shape-named : (o : Around) (x : ℕ) → step (want (shape-word o)) (at x (word (bytes "shape"))) ≡ go (want (kind-word no-parts o))
+pub shape-named : (o : Around) (x : ℕ) → step (want (shape-word o)) (at x (word (bytes "shape"))) ≡ go (want (kind-word no-parts o))
 unfolding step want-step want-named want-word where-some look-word shape-words same order bytes
 shape-named o x = refl
 
-member-named
+pub member-named
     : (p : Parts) (o : Around) (x : ℕ) → step (want (member-word p o)) (at x (word (bytes "member"))) ≡ go (want (member-name p o))
 unfolding step want-step want-named want-word where-some look-word member-words same order bytes
 member-named p o x = refl
 
-member-called
+pub member-called
     : (p : Parts) (o : Around) (n : Bytes) (x : ℕ) → name-fits (p .fields) n ≡ true
     → step (want (member-name p o)) (at x (quoted n)) ≡ go (want (shape-open (as-member p n o)))
 unfolding step want-step want-text where-true
 member-called p o n x h = rw (h, where-true)
 
-member-closed : (p : Parts) (o : Around) (x : ℕ) → step (want (member-close p o)) (at x closing) ≡ go (want (member-open p o))
+pub member-closed : (p : Parts) (o : Around) (x : ℕ) → step (want (member-close p o)) (at x closing) ≡ go (want (member-open p o))
 unfolding step want-step want-close
 member-closed p o x = refl
 
@@ -124,7 +124,7 @@ kind-goes
 unfolding step want-step kind-step where-some where-true
 kind-goes p o k x h = rw (kind-looked k, where-some, h, where-true)
 
-element-opens
+pub element-opens
     : (p : Parts) (o : Around) (x : ℕ) → among Kind.list (p .kinds) ≡ true
     → step (want (kind-word p o)) (at x opening) ≡ opens (suc (depth (as-element p o))) (want (shape-word (as-element p o)))
 unfolding step want-step kind-step bracket-step element-step want-open depth
@@ -133,7 +133,7 @@ element-opens p o x h = rw (h, bracket-step)
 -- ---- behind the kinds
 
 -- the state is behind the kinds and the element of these parts
-data At-members : State → Parts → Around → Type 0 where
+pub data At-members : State → Parts → Around → Type 0 where
   behind-kinds : {p : Parts} {o : Around} → among Kind.list (p .kinds) ≡ false → At-members (want (kind-word p o)) p o
   behind-element : {p : Parts} {o : Around} → At-members (want (member-open p o)) p o
 
@@ -144,7 +144,7 @@ unfolding step want-step kind-step bracket-step member-step where-true
 members-open (behind-kinds h) x r = rw (h, bracket-step, r, where-true)
 members-open behind-element x r = rw (r, where-true)
 
-members-end
+pub members-end
     : {q : State} {p : Parts} {o : Around} → At-members q p o → (x : ℕ) → step q (at x closing) ≡ go (put (build p) o)
 unfolding step want-step kind-step bracket-step member-step
 members-end (behind-kinds h) x = rw (h, bracket-step)

@@ -28,6 +28,7 @@ use Rattle.laws.specs.Distinct.{distinct}
 use Rattle.laws.specs.Tree.{Tree, meaning, Fits}
 use Rattle.laws.specs.Rfc8259.{JSON-text}
 use Rattle.laws.specs.Causes.{Cause, First}
+use Rattle.laws.specs.FormCauses.{Shape-cause}
 use Rattle.laws.specs.FormGrammar.{Shape-form, Result-form, result-forms, result-levels}
 use Rattle.laws.specs.Good.{Good-value, Good-shape}
 use Rattle.laws.specs.Readers.{scoped, proper}
@@ -59,6 +60,15 @@ abbrev pub Shapes-by-the-grammar : Type 0
 Shapes-by-the-grammar =
     (l : Limits) (s : Bytes) (t : Shape)
     → (read-shape l s ≡ ok t) ↔ (Shape-form (tokens s) t [] × (forms t ≤ l .values) × (levels t ≤ l .nesting))
+
+-- demand 1: a refused shape text has its cause at its place, and every cause stands later, or there with a number no
+-- smaller
+abbrev pub Shapes-refused-for-cause : Type 0
+Shapes-refused-for-cause = (l : Limits) (s : Bytes) (n p : ℕ) → read-shape l s ≡ refused n p → Shape-cause l s n p
+
+abbrev pub Shapes-refused-for-the-least : Type 0
+Shapes-refused-for-the-least =
+    (l : Limits) (s : Bytes) (n p m q : ℕ) → read-shape l s ≡ refused n p → Shape-cause l s m q → First n p m q
 
 -- so is a reader, with one binding, the document
 abbrev pub Readers-by-the-grammar : Type 0

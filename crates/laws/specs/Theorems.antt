@@ -12,8 +12,9 @@ use Rattle.definitions.specs.Outcome.{Outcome, ok, refused}
 use Rattle.definitions.specs.Number.{most-coefficient}
 use Rattle.definitions.specs.Value.{Value, size}
 use Rattle.definitions.specs.Json.{read-json}
-use Rattle.laws.specs.JsonAdequate.{json-accepted-to, json-accepted-from, json-distinct, json-refused}
+use Rattle.laws.specs.JsonAdequate.{json-accepted-to, json-accepted-from, json-distinct, json-refused, json-least}
 use Rattle.laws.specs.ShapeForms.{shape-accepted-to, shape-accepted-from}
+use Rattle.laws.specs.ShapeCauses.{shape-refused, shape-least}
 use Rattle.laws.specs.ReaderForms.{reader-accepted-to, reader-accepted-from}
 use Rattle.laws.specs.ReaderFacts.{reader-proper}
 use Rattle.laws.specs.RoundLaws.{plain-reads-back, plain-idempotent, plain-not-longer, json-read-good, reader-read-good, run-good, shape-reads-back}
@@ -26,7 +27,7 @@ use Rattle.laws.specs.Soundness.{sound}
 use Rattle.laws.specs.Causes.{Cause, cause-3, cause-4, cause-5, cause-6}
 use Rattle.laws.specs.Chain.{Proper-source, In-range}
 use Rattle.laws.specs.Demand3.{demand-3}
-use Rattle.laws.specs.Statements.{Documents-by-the-RFC, Documents-refused-for-cause, Shapes-by-the-grammar, Readers-by-the-grammar, Documents-read-back, Results-read-back, Values-read-back, Shapes-read-back, Partial-order, Least-upper-bound, Admits-is-below, Sizes-grow, Checked-readers-are-safe, Demand-3-from-every-source, Demand-3-for-documents}
+use Rattle.laws.specs.Statements.{Documents-by-the-RFC, Documents-refused-for-cause, Documents-refused-for-the-least, Shapes-refused-for-cause, Shapes-refused-for-the-least, Shapes-by-the-grammar, Readers-by-the-grammar, Documents-read-back, Results-read-back, Values-read-back, Shapes-read-back, Partial-order, Least-upper-bound, Admits-is-below, Sizes-grow, Checked-readers-are-safe, Demand-3-from-every-source, Demand-3-for-documents}
 
 -- ---- reading
 
@@ -36,6 +37,15 @@ documents-by-the-RFC l s v =
 
 pub documents-refused-for-cause : Documents-refused-for-cause
 documents-refused-for-cause = json-refused
+
+pub documents-refused-for-the-least : Documents-refused-for-the-least
+documents-refused-for-the-least = json-least
+
+pub shapes-refused-for-cause : Shapes-refused-for-cause
+shapes-refused-for-cause = shape-refused
+
+pub shapes-refused-for-the-least : Shapes-refused-for-the-least
+shapes-refused-for-the-least = shape-least
 
 pub shapes-by-the-grammar : Shapes-by-the-grammar
 shapes-by-the-grammar l s t = (shape-accepted-to l s t, λ (f, a, b). shape-accepted-from l s t f a b)

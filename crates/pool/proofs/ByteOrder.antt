@@ -1,0 +1,88 @@
+-- Byte order of two texts that are read from their first bytes on: where they agree before place i, their rests decide. Assumes nothing.
+use Prim.Native.Nat.{ℕ, zero, suc, _+_, _*_, _≤_, _<_, compare, Ordering, Ordering·lt, Ordering·eq, Ordering·gt, compare·zero-zero, compare·zero-suc, compare·suc-zero, compare·suc-suc}
+use mathlib.Core.Path.{_≡_, sym, ap, ap₂, _∙_}
+use mathlib.Core.List.{List}
+use native.Mathlib.Nat.{not-suc-le-zero, le-of-suc-le-suc}
+use native.Mathlib.Numerals.{add-one}
+use native.Mathlib.Omega.{arith}
+use lib.ListN.{length, getD, drop, drop-of-length-le}
+use lib.Seq.{drop-cons}
+use Rattle.definitions.specs.Bytes.{Bytes, order}
+use Rattle.pool.specs.Pool.{pool-bytes, text-in}
+use Rattle.pool.specs.PoolLaws.{length-text-in-min, getD-text-in}
+
+-- ---- two numbers
+
+compare-lt : (x y : ℕ) → x < y → compare x y ≡ Ordering·lt
+compare-lt x zero h = absurd (not-suc-le-zero h)
+compare-lt zero (suc y) h = compare·zero-suc y
+compare-lt (suc x) (suc y) h = compare·suc-suc x y ∙ compare-lt x y (le-of-suc-le-suc h)
+
+compare-gt : (x y : ℕ) → y < x → compare x y ≡ Ordering·gt
+compare-gt zero y h = absurd (not-suc-le-zero h)
+compare-gt (suc x) zero h = compare·suc-zero x
+compare-gt (suc x) (suc y) h = compare·suc-suc x y ∙ compare-gt x y (le-of-suc-le-suc h)
+
+compare-refl : (x : ℕ) → compare x x ≡ Ordering·eq
+compare-refl zero = compare·zero-zero
+compare-refl (suc x) = compare·suc-suc x x ∙ compare-refl x
+
+-- what two first bytes decide
+abbrev by-first : Ordering → Ordering → Ordering
+by-first o rest = elim o [ Ordering·lt ↦ Ordering·lt | Ordering·eq ↦ rest | Ordering·gt ↦ Ordering·gt ]
+
+-- ---- two texts, from place i on
+
+module _ (s t : Bytes) (i : ℕ) (hs : i < length s) (ht : i < length t) where
+  first : (o : Ordering) → compare (getD s i 0) (getD t i 0) ≡ o → order (drop i s) (drop i t) ≡ by-first o (order (drop (suc i) s) (drop (suc i) t))
+  unfolding order
+  first o e =
+      ap₂ order (drop-cons s i 0 hs) (drop-cons t i 0 ht)
+      ∙ ap (λ (o : Ordering). by-first o (order (drop (suc i) s) (drop (suc i) t))) e
+
+  pub order-less : getD s i 0 < getD t i 0 → order (drop i s) (drop i t) ≡ Ordering·lt
+  order-less h = first Ordering·lt (compare-lt (getD s i 0) (getD t i 0) h)
+
+  pub order-greater : getD t i 0 < getD s i 0 → order (drop i s) (drop i t) ≡ Ordering·gt
+  order-greater h = first Ordering·gt (compare-gt (getD s i 0) (getD t i 0) h)
+
+  pub order-next : getD s i 0 ≡ getD t i 0 → order (drop i s) (drop i t) ≡ order (drop (i + 1) s) (drop (i + 1) t)
+  order-next e =
+      first Ordering·eq (ap (λ (y : ℕ). compare (getD s i 0) y) (sym e) ∙ compare-refl (getD s i 0))
+      ∙ ap (λ (n : ℕ). order (drop n s) (drop n t)) (sym (add-one i))
+
+-- ---- where a text ends
+
+pub shorter-less : (s t : Bytes) (i : ℕ) → length s ≤ i → i < length t → order (drop i s) (drop i t) ≡ Ordering·lt
+unfolding order
+shorter-less s t i hs ht = ap₂ order (drop-of-length-le s hs) (drop-cons t i 0 ht)
+
+pub longer-greater : (s t : Bytes) (i : ℕ) → i < length s → length t ≤ i → order (drop i s) (drop i t) ≡ Ordering·gt
+unfolding order
+longer-greater s t i hs ht = ap₂ order (drop-cons s i 0 hs) (drop-of-length-le t ht)
+
+pub both-equal : (s t : Bytes) (i : ℕ) → length s ≤ i → length t ≤ i → order (drop i s) (drop i t) ≡ Ordering·eq
+unfolding order
+both-equal s t i hs ht = ap₂ order (drop-of-length-le s hs) (drop-of-length-le t ht)
+
+-- ---- two texts of a pool, whose bytes x and y at place i were read
+
+module _
+    (p : List ℕ) (w n v m i x y : ℕ)
+    (hs : i < length (text-in p w n)) (ht : i < length (text-in p v m))
+    (ex : x ≡ getD (pool-bytes p) (8 * w + i) 0) (ey : y ≡ getD (pool-bytes p) (8 * v + i) 0) where
+  left-byte : getD (text-in p w n) i 0 ≡ x
+  left-byte = getD-text-in p w n i (omega (arith, length-text-in-min p w n)) ∙ sym ex
+
+  right-byte : getD (text-in p v m) i 0 ≡ y
+  right-byte = getD-text-in p v m i (omega (arith, length-text-in-min p v m)) ∙ sym ey
+
+  pub texts-less : x < y → order (drop i (text-in p w n)) (drop i (text-in p v m)) ≡ Ordering·lt
+  texts-less h = order-less (text-in p w n) (text-in p v m) i hs ht (omega (arith, left-byte, right-byte))
+
+  pub texts-greater : y < x → order (drop i (text-in p w n)) (drop i (text-in p v m)) ≡ Ordering·gt
+  texts-greater h = order-greater (text-in p w n) (text-in p v m) i hs ht (omega (arith, left-byte, right-byte))
+
+  pub texts-next
+      : x ≡ y → order (drop i (text-in p w n)) (drop i (text-in p v m)) ≡ order (drop (i + 1) (text-in p w n)) (drop (i + 1) (text-in p v m))
+  texts-next e = order-next (text-in p w n) (text-in p v m) i hs ht (left-byte ∙ e ∙ sym right-byte)

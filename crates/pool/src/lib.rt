@@ -1,0 +1,101 @@
+// Texts in a lent slice of 64-bit words: eight bytes to a word, the first in the highest place, so that words compare as their bytes do.
+ghost use mathlib.Core.Path.{_≡_};
+ghost use Prim.Native.Nat.{_-_, _*_, _/_, _%_, _<_, min};
+ghost use lib.ListN.{length, getD};
+ghost use Rattle.definitions.specs.Bytes.{order, same};
+ghost use Rattle.pool.specs.Pool.{Put, pool-bytes, text-in, ordering-of};
+
+// How two texts stand in byte order.
+pub enum Comparison {
+    Less,
+    Equal,
+    Greater,
+}
+
+// How far up in its word the byte at place k stands, in bits.
+fn shift(k: usize) -> usize
+    ensures shifted { λ r. ⌜ r ≡ 56 - 8 * (k % 8) ⌝ }
+{
+    56 - 8 * (k % 8)
+}
+
+// The byte at place k; past the end, 0.
+pub fn byte_at(pool: &[u64], k: usize) -> u8
+    ensures read { λ r. ⌜ r ≡ getD (pool-bytes (now (pool .entry))) k 0 ⌝ }
+{
+    let i = k / 8;
+    if i < pool.len() {
+        let x = pool[i];
+        ((x >> shift(k)) % 256) as u8
+    } else {
+        0
+    }
+}
+
+// Puts b at place k, and zeros behind it in its word: a text is put byte by byte and is padded at each.
+pub fn put_byte(pool: &mut [u64], k: usize, b: u8)
+    requires { ⌜ k / 8 < length (now pool) ⌝ }
+    ensures put { λ r. ⌜ Put (now (pool .entry)) (now (pool .exit)) k b ⌝ }
+{
+    let i = k / 8;
+    let s = shift(k);
+    let above = (pool[i] >> s) / 256;
+    pool[i] = (above * 256 + (b as u64)) << s;
+}
+
+// The smaller of two numbers.
+fn least(a: usize, b: usize) -> usize
+    ensures chosen { λ r. ⌜ r ≡ min a b ⌝ }
+{
+    if a < b { a } else { b }
+}
+
+// How many of the n bytes from word w on the pool has.
+fn held(pool: &[u64], w: usize, n: usize) -> usize
+    ensures counted { λ r. ⌜ r ≡ length (text-in (now (pool .entry)) w n) ⌝ }
+{
+    if w < pool.len() {
+        least(n, 8 * (pool.len() - w))
+    } else {
+        0
+    }
+}
+
+// Two texts in byte order. Where a text runs past the pool's end it is what the pool has of it.
+pub fn compare(pool: &[u64], w: usize, n: usize, v: usize, m: usize) -> Comparison
+    ensures compared { λ r. ⌜ ordering-of r ≡ order (text-in (now (pool .entry)) w n) (text-in (now (pool .entry)) v m) ⌝ }
+{
+    let s = held(pool, w, n);
+    let t = held(pool, v, m);
+    let end = least(s, t);
+    let mut i: usize = 0;
+    while i < end {
+        let x = byte_at(pool, 8 * w + i);
+        let y = byte_at(pool, 8 * v + i);
+        if x < y {
+            return Comparison::Less;
+        }
+        if y < x {
+            return Comparison::Greater;
+        }
+        i += 1;
+    }
+    if s < t {
+        return Comparison::Less;
+    }
+    if t < s {
+        return Comparison::Greater;
+    }
+    Comparison::Equal
+}
+
+// Whether two texts have the same bytes.
+pub fn same_text(pool: &[u64], w: usize, n: usize, v: usize, m: usize) -> bool
+    ensures compared { λ r. ⌜ r ≡ same (text-in (now (pool .entry)) w n) (text-in (now (pool .entry)) v m) ⌝ }
+{
+    match compare(pool, w, n, v, m) {
+        Comparison::Equal => true,
+        Comparison::Less => false,
+        Comparison::Greater => false,
+    }
+}
