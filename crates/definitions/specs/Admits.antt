@@ -15,9 +15,9 @@ kind-of (Value.list vs) = Kind.list
 kind-of (Value.rec ms) = Kind.rec
 
 -- "every listed member that the value lacks has null"
-unfoldable pub lacked-null : Members → Fields → Bool
-lacked-null ms no-fields = true
-lacked-null ms (field n s fs) = (has-name n ms || has Kind.null s) && lacked-null ms fs
+unfoldable pub missing-have-null : Members → Fields → Bool
+missing-have-null ms no-fields = true
+missing-have-null ms (field n s fs) = (has-name n ms || has Kind.null s) && missing-have-null ms fs
 
 -- "Null, bool, text: the kind is there. Int: int is there. Decimal: dec is there. List: list is there and the element
 -- shape admits each element. Record: rec is there, every member of the value is listed and admitted, and every listed
@@ -29,12 +29,14 @@ unfoldable mutual
   admitted (Value.number x) s = has (kind-of (Value.number x)) s
   admitted (Value.text t) s = has Kind.text s
   admitted (Value.list vs) s = elim (element-of s) [ no-list ↦ false | list-of e ↦ admitted-items vs e ]
-  admitted (Value.rec ms) s = elim (record-of s) [ no-rec ↦ false | rec-of fs ↦ admitted-members ms fs && lacked-null ms fs ]
+  admitted (Value.rec ms) s = elim (record-of s) [ no-rec ↦ false | rec-of fs ↦ admitted-members ms fs && missing-have-null ms fs ]
 
+  -- "the element shape admits each element"
   pub admitted-items : Items → Shape → Bool
   admitted-items no-items e = true
   admitted-items (item v vs) e = admitted v e && admitted-items vs e
 
+  -- "every member of the value is listed and admitted"
   pub admitted-members : Members → Fields → Bool
   admitted-members no-members fs = true
   admitted-members (member n v ms) fs = elim (find n fs) [ none ↦ false | some s ↦ admitted v s ] && admitted-members ms fs

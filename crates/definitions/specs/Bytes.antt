@@ -45,9 +45,11 @@ is c b = eqb b (code c)
 
 -- ---- white space
 
+-- RFC 8259: ws = *( %x20 / %x09 / %x0A / %x0D )
 unfoldable pub white-table : List (Row (Unit {0}))
 white-table = one " " tt ∷ one "\t" tt ∷ one "\n" tt ∷ one "\r" tt ∷ []
 
+-- there is something
 unfoldable pub found : {A : Type 0} → Option A → Bool
 found none = false
 found (some a) = true

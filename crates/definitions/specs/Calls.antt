@@ -22,10 +22,12 @@ unfoldable pub little-endian : ℕ → ℕ → Bytes
 little-endian zero n = []
 little-endian (suc k) n = n % 256 ∷ little-endian k (n / 256)
 
+-- a bool as a word: 1 or 0
 unfoldable pub as-word : Bool → ℕ
 as-word true = 1
 as-word false = 0
 
+-- "text, place, length, steps and yes as five 8-byte little-endian words"
 unfoldable pub answer-words : Answer → Bytes
 answer-words a =
     little-endian 8 (a .text)
@@ -49,25 +51,32 @@ quiet a = record { answer = a; output = [] }
 
 -- the calls are lent no work slice, so none is short; their documents are JSON
 
+-- runvestol_plain
 unfoldable pub plain-call : (document output buffer : Bytes) → Called
 plain-call document output buffer = call buffer output (plain-operation read-json [] [] standard document output)
 
+-- runvestol_infer
 unfoldable pub infer-call : (shape document output buffer : Bytes) → Called
 infer-call shape document output buffer =
     call buffer output (infer-operation read-json [] [] standard shape document output)
 
+-- runvestol_join
 unfoldable pub join-call : (first second output buffer : Bytes) → Called
 join-call first second output buffer = call buffer output (join-operation [] [] standard first second output)
 
+-- runvestol_below, which has no output
 unfoldable pub below-call : (first second buffer : Bytes) → Called
 below-call first second buffer = call buffer [] (quiet (below-operation [] [] standard first second))
 
+-- runvestol_admits, which has no output
 unfoldable pub admits-call : (shape document buffer : Bytes) → Called
 admits-call shape document buffer = call buffer [] (quiet (admits-operation read-json [] [] standard shape document))
 
+-- runvestol_check
 unfoldable pub check-call : (reader shape output buffer : Bytes) → Called
 check-call reader shape output buffer = call buffer output (check-operation [] [] standard reader shape output)
 
+-- runvestol_run
 unfoldable pub run-call : (reader document output buffer : Bytes) → Called
 run-call reader document output buffer =
     call buffer output (run-operation read-json [] [] standard reader document output)

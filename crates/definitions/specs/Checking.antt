@@ -32,7 +32,7 @@ list-kinds = Kind.list ∷ Kind.null ∷ []
 unfoldable pub if-kinds : List Kind
 if-kinds = Kind.bool ∷ []
 
--- refusal 9 at the form unless the shape's kinds are within these
+-- "at one form 9 before 10": refusal 9 at the form unless the shape's kinds are within these
 unfoldable pub wants : {A : Type 0} → (at : ℕ) → List Kind → Shape → Outcome ℕ A → Outcome ℕ A
 wants at ks s out = elim (within ks s) [ true ↦ out | false ↦ refused 9 at ]
 
@@ -59,32 +59,33 @@ unfoldable pub element-shape : Element → Shape
 element-shape no-list = nothing
 element-shape (list-of s) = s
 
-unfoldable pub only-int : Numeric → Numeric
-only-int no-number = no-number
-only-int int-only = int-only
-only-int int-and-dec = int-only
+-- "int: int alone"
+unfoldable pub cut-int : Numeric → Numeric
+cut-int no-number = no-number
+cut-int int-only = int-only
+cut-int int-and-dec = int-only
 
 -- "P's shape cut to K (num: int and dec; int: int alone)"
 unfoldable pub cut-to : Test → Shape → Shape
 cut-to Test.null (shape n b m t e r) = shape n false no-number false no-list no-rec
 cut-to Test.bool (shape n b m t e r) = shape false b no-number false no-list no-rec
-cut-to Test.int (shape n b m t e r) = shape false false (only-int m) false no-list no-rec
+cut-to Test.int (shape n b m t e r) = shape false false (cut-int m) false no-list no-rec
 cut-to Test.num (shape n b m t e r) = shape false false m false no-list no-rec
 cut-to Test.text (shape n b m t e r) = shape false false no-number t no-list no-rec
 cut-to Test.list (shape n b m t e r) = shape false false no-number false e no-rec
 cut-to Test.rec (shape n b m t e r) = shape false false no-number false no-list r
 
 -- "taking out int leaves int and dec where dec is there"
-unfoldable pub not-int : Numeric → Numeric
-not-int no-number = no-number
-not-int int-only = no-number
-not-int int-and-dec = int-and-dec
+unfoldable pub take-out-int : Numeric → Numeric
+take-out-int no-number = no-number
+take-out-int int-only = no-number
+take-out-int int-and-dec = int-and-dec
 
 -- "K's kinds taken out"
 unfoldable pub taken-out : Test → Shape → Shape
 taken-out Test.null (shape n b m t e r) = shape false b m t e r
 taken-out Test.bool (shape n b m t e r) = shape n false m t e r
-taken-out Test.int (shape n b m t e r) = shape n b (not-int m) t e r
+taken-out Test.int (shape n b m t e r) = shape n b (take-out-int m) t e r
 taken-out Test.num (shape n b m t e r) = shape n b no-number t e r
 taken-out Test.text (shape n b m t e r) = shape n b m false e r
 taken-out Test.list (shape n b m t e r) = shape n b m t no-list r
@@ -92,10 +93,12 @@ taken-out Test.rec (shape n b m t e r) = shape n b m t e no-rec
 
 -- ---- checking, with the shapes of the bindings, innermost first
 
+-- the shape of a place
 unfoldable pub check-place : Place → List Shape → Outcome ℕ Shape
 check-place (Place.it at n) env = ok (getD env n nothing)
 check-place (Place.field at n p) env = check-place p env >>= λ s. field-shape at n s
 
+-- the shape of a result; "`keep` gives the place's shape", "Literals give their value's shape; `pack` gives rec"
 unfoldable mutual
   pub check : Result → List Shape → Outcome ℕ Shape
   check (Result.convert at c p) env = check-place p env >>= λ s. wants at (convert-kinds c) s (ok (convert-shape c))

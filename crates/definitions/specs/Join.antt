@@ -13,6 +13,7 @@ use Rattle.definitions.specs.Shape.{Numeric, no-number, int-only, int-an
 unfoldable pub with-null : Shape → Shape
 with-null (shape n b m t e r) = shape true b m t e r
 
+-- int and dec united
 unfoldable pub join-numeric : Numeric → Numeric → Numeric
 join-numeric no-number m = m
 join-numeric int-only no-number = int-only
@@ -44,10 +45,12 @@ unfoldable mutual
       elim s
       [ shape n′ b′ m′ t′ e′ r′ ↦ shape (n || n′) (b || b′) (join-numeric m m′) (t || t′) (join-element e e′) (join-record r r′) ]
 
+  -- "elements joined where both have list, else the one there is"
   pub join-element : Element → Element → Element
   join-element no-list e = e
   join-element (list-of a) e = elim e [ no-list ↦ list-of a | list-of b ↦ list-of (join a b) ]
 
+  -- "where one has rec, its members unchanged"
   pub join-record : Record → Record → Record
   join-record no-rec r = r
   join-record (rec-of fs) r = elim r [ no-rec ↦ rec-of fs | rec-of gs ↦ rec-of (join-fields fs (add-null fs gs)) ]
@@ -89,6 +92,7 @@ unfoldable mutual
   join-items no-items s = s
   join-items (item v vs) s = join-items vs (join s (shape-of v))
 
+  -- the members' shapes, in byte order
   pub fields-of : Members → Fields
   fields-of no-members = no-fields
   fields-of (member n v ms) = insert n (shape-of v) (fields-of ms)

@@ -1,6 +1,7 @@
 -- Reading a document: RFC 8259, one step a byte over a state that holds what is open. `move` knows the grammar alone;
 -- `judge` knows the limits and gives each refusal its place. A refusal holds what is left of the text at its place.
--- Stricter than the RFC: no byte order mark, no lone surrogate escape, no name twice, no exponent. Assumes nothing.
+-- Stricter than the RFC: no byte order mark, no lone surrogate escape, no name twice,
+-- no number beyond refusal 4's limits, no more or deeper values than refusal 6 allows. Assumes nothing.
 use Prim.Native.Nat.{ℕ, zero, suc}
 use mathlib.Core.Bool.{Bool, true, false, _||_}
 use mathlib.Core.List.{List, [], _∷_, reverse}
@@ -18,9 +19,11 @@ use Rattle.definitions.specs.Value.{Value, Items, no-items, item, items-
 unfoldable pub true-name : Bytes
 true-name = bytes "true"
 
+-- the fixed bytes of `false`
 unfoldable pub false-name : Bytes
 false-name = bytes "false"
 
+-- the fixed bytes of `null`
 unfoldable pub null-name : Bytes
 null-name = bytes "null"
 
@@ -58,6 +61,7 @@ pub data Role : Type 0 where
   as-value : Open → Role
   as-name : Members → Open → Role
 
+-- between tokens, or inside one
 pub data State : Type 0 where
   gap : Gap → State
   in-text : Role → Inside → Bytes → State
@@ -155,7 +159,7 @@ text-move r acc wrong = broken
 text-move r acc (more i acc′) = go (in-text r i acc′)
 text-move r acc closed = close-move r (reverse acc)
 
--- behind the longest run of bytes that begins a number: where it is a number, what comes next does so behind it
+-- the longest run that begins a number ends here: if it is a number, the byte or the end does what it does behind a value
 unfoldable pub number-end : Phase → Numeral → Open → (Gap → Move) → Move
 number-end p d o behind =
     elim (complete p) [ true ↦ end-number d o (behind (put (Value.number (number-of d)) o)) | false ↦ broken-number o ]
@@ -201,8 +205,9 @@ depth (in-rec ms n o) = suc (depth o)
 unfoldable pub full : Limits → ℕ → Open → Bool
 full l n o = ltb (l .values) n || ltb (l .nesting) (suc (depth o))
 
--- refusals 3 to 6 for a move at s. n values are begun; kept is where the number or name that is being read began.
--- Otherwise reading goes on, with these three as they then are
+-- refusals 3 to 6 for a move at s, where n values are begun and kept is where the number or name that is being read began.
+-- "the smallest place, then the smaller number": a cause is judged at the first byte that decides it, and none that is
+-- decided later has an earlier place. Otherwise reading goes on, with n, kept and the state as they then are
 unfoldable pub judge : Limits → (n : ℕ) (kept s : Bytes) → Move → (ℕ → Bytes → State → Outcome Bytes Value) → Outcome Bytes Value
 judge l n kept s broken on = refused 3 s
 judge l n kept s (broken-number o) on = elim (full l n o) [ true ↦ refused 6 kept | false ↦ refused 3 s ]
@@ -218,7 +223,7 @@ judge l n kept s (end-number d o m) on =
     ]
 judge l n kept s (end-text v) on = ok v
 
--- reading from a state on
+-- reading from a state on (`end-move` never goes on)
 unfoldable pub scan : Limits → (n : ℕ) (kept : Bytes) → State → Bytes → Outcome Bytes Value
 scan l n kept q [] = judge l n kept [] (end-move q) (λ n′ kept′ q′. refused 3 [])
 scan l n kept q (b ∷ r) = judge l n kept (b ∷ r) (move q b) (λ n′ kept′ q′. scan l n′ kept′ q′ r)

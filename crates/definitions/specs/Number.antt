@@ -36,6 +36,7 @@ pub record Numeral : Type 0 where
   pub scale : ℕ
   pub exponent : Bool
 
+-- nothing read yet
 unfoldable pub no-digits : Numeral
 no-digits = record { negative = false; coefficient = 0; scale = 0; exponent = false }
 

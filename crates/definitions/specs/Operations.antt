@@ -28,8 +28,8 @@ unfoldable pub refusal : (number text place : ℕ) → Answer
 refusal n k p = record { number = n; text = k; place = p; length = 0; steps = 0; yes = false }
 
 -- refusal 15: "length needed"
-unfoldable pub too-short : (needed : ℕ) → Answer
-too-short needed = record { number = 15; text = 0; place = 0; length = needed; steps = 0; yes = false }
+unfoldable pub output-short : (needed : ℕ) → Answer
+output-short needed = record { number = 15; text = 0; place = 0; length = needed; steps = 0; yes = false }
 
 -- "Success is number 0: length bytes are written at the front of the output"
 unfoldable pub written : (length steps : ℕ) → Answer
@@ -67,14 +67,14 @@ judge-text k l read s =
     elim (ltb (l .bytes) (length s)) [ true ↦ stopped (refusal 2 k 0) | false ↦ in-text k (read l s) ]
 
 -- some lent work slice is shorter than published
-unfoldable pub short : (published lent : List ℕ) → Bool
-short [] lent = false
-short (m ∷ ms) [] = true
-short (m ∷ ms) (n ∷ ns) = ltb n m || short ms ns
+unfoldable pub slices-short : (published lent : List ℕ) → Bool
+slices-short [] lent = false
+slices-short (m ∷ ms) [] = true
+slices-short (m ∷ ms) (n ∷ ns) = ltb n m || slices-short ms ns
 
 -- refusal 1: "a work slice shorter than published"
 unfoldable pub judge-work : (published lent : List ℕ) → Judged (Unit {0})
-judge-work published lent = elim (short published lent) [ true ↦ stopped (refusal 1 0 0) | false ↦ passed tt ]
+judge-work published lent = elim (slices-short published lent) [ true ↦ stopped (refusal 1 0 0) | false ↦ passed tt ]
 
 -- what an operation has to write, and the steps that it counted
 pub record Text-out : Type 0 where
@@ -103,7 +103,7 @@ result-out l x =
 unfoldable pub deliver : Bytes → Text-out → Done
 deliver output t =
     elim (ltb (length output) (length (t .bytes))) [
-      | true ↦ record { answer = too-short (length (t .bytes)); output = output }
+      | true ↦ record { answer = output-short (length (t .bytes)); output = output }
       | false ↦
           record { answer = written (length (t .bytes)) (t .steps); output = t .bytes ++ drop (length (t .bytes)) output }
     ]
@@ -118,7 +118,8 @@ unfoldable pub say : Judged Bool → Answer
 say (passed y) = said y
 say (stopped r) = r
 
--- ---- the seven operations
+-- ---- the seven operations: "all of text 1's causes up to 8 go before any of text 2's"; "11 and 14 are judged for the whole
+-- result"
 
 -- what a document is: how its text is read
 abbrev pub Source : Type 0

@@ -32,6 +32,7 @@ unfoldable pub fraction : ℕ → ℕ → Bytes
 fraction zero c = []
 fraction (suc k) c = bytes "." ++ last-digits (suc k) c []
 
+-- the sign of a negative number
 unfoldable pub minus : Bool → Bytes
 minus true = bytes "-"
 minus false = []
@@ -66,6 +67,7 @@ escaped b =
       | none ↦ elim (ltb b 0x20) [ true ↦ bytes "\\u00" ++ hex-digit (b / 16) ∷ hex-digit (b % 16) ∷ [] | false ↦ b ∷ [] ]
     ]
 
+-- each byte of a text as it is written
 unfoldable pub escaped-all : Bytes → Bytes
 escaped-all [] = []
 escaped-all (b ∷ t) = escaped b ++ escaped-all t
@@ -76,6 +78,7 @@ plain-text t = bytes "\"" ++ escaped-all t ++ bytes "\""
 
 -- ---- values
 
+-- the literal name of a bool
 unfoldable pub plain-bool : Bool → Bytes
 plain-bool true = true-name
 plain-bool false = false-name
@@ -90,10 +93,12 @@ unfoldable mutual
   plain (Value.list vs) = bytes "[" ++ plain-items [] vs ++ bytes "]"
   plain (Value.rec ms) = bytes "{" ++ plain-members [] ms ++ bytes "}"
 
+  -- a list's elements, with commas between them
   pub plain-items : Bytes → Items → Bytes
   plain-items comma no-items = []
   plain-items comma (item v vs) = comma ++ plain v ++ plain-items (bytes ",") vs
 
+  -- "keeps member order": names and values, with commas between them
   pub plain-members : Bytes → Members → Bytes
   plain-members comma no-members = []
   plain-members comma (member n v ms) = comma ++ plain-text n ++ bytes ":" ++ plain v ++ plain-members (bytes ",") ms

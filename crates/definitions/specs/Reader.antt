@@ -63,17 +63,17 @@ pub data Around : Type 0 where
   in-form : (at : ℕ) → Frame → Around → Around
 
 -- a result form that is open around a place
-pub data User : Type 0 where
-  converts : Conversion → User
-  keeps counts maps : User
-  tests : Test → User
+pub data Place-use : Type 0 where
+  converts : Conversion → Place-use
+  keeps counts maps : Place-use
+  tests : Test → Place-use
 
 -- what is open around a place
 pub data Place-around : Type 0 where
   -- a place read alone
   place-end : Place-around
   in-field : (at : ℕ) (name : Bytes) → Place-around → Place-around
-  in-result : (at : ℕ) → User → Around → Place-around
+  in-result : (at : ℕ) → Place-use → Around → Place-around
 
 -- what must come
 pub data Want : Type 0 where
@@ -102,7 +102,7 @@ pub data State : Type 0 where
   whole-result : Result → State
 
 -- what comes behind the place of a result form
-unfoldable pub use-place : (at : ℕ) → User → Place → Around → Want
+unfoldable pub use-place : (at : ℕ) → Place-use → Place → Around → Want
 use-place at (converts c) p o = result-close (Result.convert at c p) o
 use-place at keeps p o = result-close (Result.keep at p) o
 use-place at counts p o = result-close (Result.count at p) o
@@ -135,6 +135,7 @@ unfoldable pub depth : Around → ℕ
 depth text-end = 0
 depth (in-form at f o) = suc (depth o)
 
+-- how many forms are open around a place
 unfoldable pub place-depth : Place-around → ℕ
 place-depth place-end = 0
 place-depth (in-field at n o) = suc (place-depth o)
@@ -155,6 +156,7 @@ unfoldable pub bindings : Around → ℕ
 bindings text-end = 1
 bindings (in-form at f o) = elim (binds f) [ true ↦ suc (bindings o) | false ↦ bindings o ]
 
+-- how many bindings a place may reach: "P" of `each` and `when` stands outside the new one
 unfoldable pub place-bindings : Place-around → ℕ
 place-bindings place-end = 1
 place-bindings (in-field at n o) = place-bindings o
@@ -170,14 +172,17 @@ word-number w = elim (spelled begin no-digits w) [ none ↦ none | some d ↦ el
 unfoldable pub index-fits : ℕ → Numeral → Bool
 index-fits bound d = not (d .negative) && eqb (d .scale) 0 && ltb (d .coefficient) bound
 
+-- one of these pairs has the name
 unfoldable pub among-pairs : Bytes → Pairs → Bool
 among-pairs n no-pairs = false
 among-pairs n (pair m r ps) = same n m || among-pairs n ps
 
+-- the pairs of the first, last one first, before those of the second
 unfoldable pub pairs-onto : Pairs → Pairs → Pairs
 pairs-onto no-pairs qs = qs
 pairs-onto (pair n r ps) qs = pairs-onto ps (pair n r qs)
 
+-- the words of K
 unfoldable pub test-words : List (Named Test)
 test-words =
     named (bytes "null") Test.null
@@ -246,6 +251,7 @@ want-step (str-text at o) t = want-text (t .token) (λ s. literal-step at o (Val
 want-step (pack-name at ps o) t = pack-step at ps o (t .token)
 want-step (result-close r o) t = want-close (t .token) (go (put-result r o))
 
+-- what a token does; none may stand behind the whole text
 unfoldable pub step : State → Placed → Step State
 step (want w) t = want-step w t
 step (whole-place p) t = misplaced
@@ -257,6 +263,7 @@ finished-result (want w) = none
 finished-result (whole-place p) = none
 finished-result (whole-result r) = some r
 
+-- the place of a text that may end here
 unfoldable pub finished-place : State → Option Place
 finished-place (want w) = none
 finished-place (whole-place p) = some p
@@ -268,6 +275,7 @@ finished-place (whole-result r) = none
 unfoldable pub empty-reader : ℕ → Outcome ℕ Result
 empty-reader end = refused 7 end
 
+-- a reader from its tokens, where the text ends at a place
 unfoldable pub read-result : Limits → (end : ℕ) → List Placed → Outcome ℕ Result
 read-result l end [] = empty-reader end
 read-result l end (t ∷ ts) = read-tokens step finished-result l 0 end (want (result-open text-end)) (t ∷ ts)

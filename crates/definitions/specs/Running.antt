@@ -20,6 +20,7 @@ pub record Ran (A : Type 0) : Type 0 where
   pub result : A
   pub steps : ℕ
 
+-- a result behind n steps
 unfoldable pub gives : {A : Type 0} → A → ℕ → Outcome ℕ (Ran A)
 gives a n = ok (record { result = a; steps = n })
 
@@ -38,6 +39,7 @@ unfoldable pub member-of : Bytes → Members → Value
 member-of n no-members = Value.null
 member-of n (member m v ms) = elim (same n m) [ true ↦ v | false ↦ member-of n ms ]
 
+-- the members of a record; of anything else none
 unfoldable pub members-of : Value → Members
 members-of Value.null = no-members
 members-of (Value.bool b) = no-members
@@ -63,6 +65,7 @@ items-of (Value.text t) = no-items
 items-of (Value.list vs) = vs
 items-of (Value.rec ms) = no-items
 
+-- a count as an int
 unfoldable pub int-value : ℕ → Value
 int-value n = Value.number (record { negative = false; coefficient = n; scale = 0 })
 
@@ -87,6 +90,7 @@ truth (Value.rec ms) = none
 
 -- ---- running, with the values of the bindings, innermost first, behind n steps
 
+-- the value of a place
 unfoldable pub run-place : Place → Limits → List Value → ℕ → Outcome ℕ (Ran Value)
 run-place (Place.it at k) l env n = enter l at n >>= λ n₁. gives (getD env k Value.null) n₁
 run-place (Place.field at m p) l env n =
@@ -98,6 +102,7 @@ run-items body no-items n = gives no-items n
 run-items body (item v vs) n =
     body v n >>= λ x. run-items body vs (x .steps) >>= λ xs. gives (item (x .result) (xs .result)) (xs .steps)
 
+-- the value of a result; "`when` takes its first R where the value is a K .., `if` its second on true"
 unfoldable mutual
   pub run : Result → Limits → List Value → ℕ → Outcome ℕ (Ran Value)
   run (Result.convert at c p) l env n =

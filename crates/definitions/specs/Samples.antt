@@ -1,5 +1,5 @@
--- The sample sheet of document 01 as one table: operations on the texts as the paper prints them, and what they come to.
--- Each row is proved by evaluating the definitions from bytes to bytes (`refl`). Assumes nothing.
+-- The sample sheet of document 01 as one table: operations on texts, as the paper prints those that it prints, and what
+-- they come to. Each row is proved by evaluating the definitions from bytes to bytes (`refl`). Assumes nothing.
 use Prim.Native.Nat.{ℕ}
 use Prim.Native.String.{String}
 use mathlib.Core.Path.{_≡_, refl}
@@ -10,7 +10,7 @@ use Rattle.definitions.specs.declared.Limits.{Limits}
 use Rattle.definitions.specs.Limits.{standard}
 use Rattle.definitions.specs.Bytes.{Bytes, bytes}
 use Rattle.definitions.specs.Json.{read-json}
-use Rattle.definitions.specs.Operations.{Done, refusal, written, said, plain-operation, infer-operation, join-operation, below-operation, admits-operation, check-operation, run-operation}
+use Rattle.definitions.specs.Operations.{Done, refusal, written, said, plain-operation, infer-operation, below-operation, admits-operation, check-operation, run-operation}
 use Rattle.definitions.specs.Calls.{quiet}
 use Rattle.definitions.specs.Evaluate.{evaluate}
 
@@ -61,7 +61,10 @@ s6-shape = "(shape rec\n (member \"a\"\n  (shape int))\n (member \"b\"\n  (shape
 abbrev s7-reader : String
 s7-reader = "(int (field \"bay\" (it 0)))"
 
--- the smallest limits, for S10
+abbrev lists-32 : String
+lists-32 = "[[[[[[[[[[[[[[[[[[[[[[[[[[[[[[[[]]]]]]]]]]]]]]]]]]]]]]]]]]]]]]]]"
+
+-- the smallest limits of request Q-6
 abbrev smallest : Limits
 smallest = record { bytes = 1024; values = 16; nesting = 4; steps = 256 }
 
@@ -110,7 +113,11 @@ sheet =
     -- S9, and the trap behind it: taking out int leaves int and dec where dec is there
     ∷ sample (check "(when int (it 0) (yes) (int (it 0)))" "(shape int dec)") (refuses 9 1 23) refl
     ∷ sample (check "(when int (it 0) (none) (keep (it 0)))" "(shape int dec)") (writes "(shape null int dec)\n" 0) refl
-    -- S10, at nesting 4 in place of 32
+    -- S10
+    ∷ sample (plain standard lists-32) (writes lists-32 0) refl
+    ∷ sample (plain standard "[[[[[[[[[[[[[[[[[[[[[[[[[[[[[[[[[]]]]]]]]]]]]]]]]]]]]]]]]]]]]]]]]]") (refuses 6 1 32) refl
+    ∷ sample (infer standard "(shape)" lists-32) (refuses 11 0 0) refl
+    -- S10 at a small set of limits, nesting 4 in place of 32
     ∷ sample (plain smallest "[[[[]]]]") (writes "[[[[]]]]" 0) refl
     ∷ sample (plain smallest "[[[[[]]]]]") (refuses 6 1 4) refl
     ∷ sample (infer smallest "(shape)" "[[[[]]]]") (refuses 11 0 0) refl

@@ -10,6 +10,7 @@ use Rattle.definitions.specs.Bytes.{Bytes, order, same}
 
 -- ---- kinds
 
+-- "null, bool, int, dec, text, list, rec"
 pub data Kind : Type 0 where
   null bool int dec text list rec : Kind
 
@@ -27,10 +28,12 @@ rank Kind.text = 4
 rank Kind.list = 5
 rank Kind.rec = 6
 
+-- k is one of these kinds
 unfoldable pub among : Kind → List Kind → Bool
 among k [] = false
 among k (j ∷ js) = eqb (rank k) (rank j) || among k js
 
+-- each of these kinds passes
 unfoldable pub every : (Kind → Bool) → List Kind → Bool
 every p [] = true
 every p (k ∷ ks) = p k && every p ks
@@ -64,20 +67,24 @@ mutual
 unfoldable pub nothing : Shape
 nothing = shape false false no-number false no-list no-rec
 
+-- int is there
 unfoldable pub has-int : Numeric → Bool
 has-int no-number = false
 has-int int-only = true
 has-int int-and-dec = true
 
+-- dec is there
 unfoldable pub has-dec : Numeric → Bool
 has-dec no-number = false
 has-dec int-only = false
 has-dec int-and-dec = true
 
+-- list is there
 unfoldable pub has-list : Element → Bool
 has-list no-list = false
 has-list (list-of e) = true
 
+-- rec is there
 unfoldable pub has-rec : Record → Bool
 has-rec no-rec = false
 has-rec (rec-of fs) = true
@@ -96,9 +103,11 @@ has Kind.rec (shape n b m t e r) = has-rec r
 unfoldable pub within : List Kind → Shape → Bool
 within ks s = every (λ k. not (has k s) || among k ks) all-kinds
 
+-- the shape's element, if it has list
 unfoldable pub element-of : Shape → Element
 element-of (shape n b m t e r) = e
 
+-- the shape's members, if it has rec
 unfoldable pub record-of : Shape → Record
 record-of (shape n b m t e r) = r
 
@@ -109,21 +118,27 @@ find n (field m s fs) = elim (same n m) [ true ↦ some s | false ↦ find n fs 
 
 -- ---- shapes of one kind
 
+-- null alone
 unfoldable pub only-null : Shape
 only-null = shape true false no-number false no-list no-rec
 
+-- bool alone
 unfoldable pub only-bool : Shape
 only-bool = shape false true no-number false no-list no-rec
 
+-- int alone, or int and dec
 unfoldable pub only-numeric : Numeric → Shape
 only-numeric m = shape false false m false no-list no-rec
 
+-- text alone
 unfoldable pub only-text : Shape
 only-text = shape false false no-number true no-list no-rec
 
+-- list alone
 unfoldable pub only-list : Element → Shape
 only-list e = shape false false no-number false e no-rec
 
+-- rec alone
 unfoldable pub only-rec : Record → Shape
 only-rec r = shape false false no-number false no-list r
 

@@ -45,15 +45,19 @@ pub data State : Type 0 where
   want : Want → State
   whole : Shape → State
 
+-- behind the word `shape`
 unfoldable pub no-parts : Parts
 no-parts = record { kinds = []; element = no-list; fields = no-fields }
 
+-- one kind more
 unfoldable pub with-kind : Kind → Parts → Parts
 with-kind k p = record { kinds = k ∷ p .kinds; element = p .element; fields = p .fields }
 
+-- the element read
 unfoldable pub with-element : Shape → Parts → Parts
 with-element s p = record { kinds = p .kinds; element = list-of s; fields = p .fields }
 
+-- one member more
 unfoldable pub with-member : Bytes → Shape → Parts → Parts
 with-member n s p = record { kinds = p .kinds; element = p .element; fields = field n s (p .fields) }
 
@@ -71,10 +75,12 @@ depth (as-member p n o) = suc (depth o)
 
 -- ---- the shape of its parts
 
+-- the members of the first, last one first, before those of the second
 unfoldable pub fields-onto : Fields → Fields → Fields
 fields-onto no-fields gs = gs
 fields-onto (field n s fs) gs = fields-onto fs (field n s gs)
 
+-- int and dec among these kinds
 unfoldable pub numeric-from : List Kind → Numeric
 numeric-from ks =
     elim (among Kind.dec ks) [
@@ -82,9 +88,11 @@ numeric-from ks =
       | false ↦ elim (among Kind.int ks) [ true ↦ int-only | false ↦ no-number ]
     ]
 
+-- the members in order, where rec is there
 unfoldable pub record-from : Parts → Record
 record-from p = elim (among Kind.rec (p .kinds)) [ true ↦ rec-of (fields-onto (p .fields) no-fields) | false ↦ no-rec ]
 
+-- the shape of these parts
 unfoldable pub build : Parts → Shape
 build p =
     shape
@@ -97,6 +105,7 @@ build p =
 
 -- ---- the grammar
 
+-- the word of a kind
 unfoldable pub kind-name : Kind → Bytes
 kind-name Kind.null = bytes "null"
 kind-name Kind.bool = bytes "bool"
@@ -106,12 +115,15 @@ kind-name Kind.text = bytes "text"
 kind-name Kind.list = bytes "list"
 kind-name Kind.rec = bytes "rec"
 
+-- the words of the seven kinds
 unfoldable pub kind-words : List (Named Kind)
 kind-words = map (λ k. named (kind-name k) k) all-kinds
 
+-- the word of a shape form
 unfoldable pub shape-words : List (Named (Unit {0}))
 shape-words = named (bytes "shape") tt ∷ []
 
+-- the word of a member form
 unfoldable pub member-words : List (Named (Unit {0}))
 member-words = named (bytes "member") tt ∷ []
 
@@ -165,6 +177,7 @@ want-step (member-name p o) t =
     want-text t (λ n. where-true (name-fits (p .fields) n) (go (want (shape-open (as-member p n o)))))
 want-step (member-close p o) t = want-close t (go (want (member-open p o)))
 
+-- what a token does; none may stand behind the whole text
 unfoldable pub step : State → Placed → Step State
 step (want w) t = want-step w (t .token)
 step (whole s) t = misplaced
@@ -199,10 +212,12 @@ unfoldable mutual
       ++ write-record r (suc around)
       ++ bytes ")"
 
+  -- the element on a line of its own
   pub write-element : Element → ℕ → Bytes
   write-element no-list around = []
   write-element (list-of s) around = new-line around ++ write s around
 
+  -- the members, each on a line of its own
   pub write-record : Record → ℕ → Bytes
   write-record no-rec around = []
   write-record (rec-of fs) around = write-fields fs around

@@ -1,5 +1,5 @@
 -- JSON texts (RFC 8259 section 7, "string"), one step a byte from behind the opening quote: which bytes may come next,
--- and the bytes that the text decodes to. Stricter than the RFC: "a lone surrogate escape breaks the grammar".
+-- and the bytes that the text decodes to. Stricter than the RFC: a lone surrogate escape breaks the grammar.
 -- Assumes nothing.
 use Prim.Native.Nat.{ℕ, zero, suc, _+_, _-_, _*_}
 use mathlib.Core.Bool.{Bool, true, false, not, _&&_, _||_}
@@ -48,7 +48,7 @@ char-step acc b =
           ]
     ]
 
--- where a character stands whose next byte is followed by so many tails
+-- where a text stands behind a byte of a character that so many tails follow
 unfoldable pub behind-tail : ℕ → Inside
 behind-tail zero = chars
 behind-tail (suc n) = tail 0x80 0xBF n
@@ -69,6 +69,7 @@ escape-table =
     ∷ one "u" none
     ∷ []
 
+-- a byte behind a backslash
 unfoldable pub escape-step : Bytes → ℕ → Text-move
 escape-step acc b =
     elim (look escape-table b) [ none ↦ wrong | some e ↦ elim e [ none ↦ more (digits none 0 0) acc | some c ↦ more chars (c ∷ acc) ] ]

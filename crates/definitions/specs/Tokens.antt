@@ -26,6 +26,7 @@ pub record Placed : Type 0 where
   pub token : Token
   pub at : ℕ
 
+-- a token that stands at p
 unfoldable pub at-place : ℕ → Token → Placed
 at-place p t = record { token = t; at = p }
 
@@ -89,6 +90,7 @@ lex p (inside at i acc) (b ∷ r) =
       | closed ↦ at-place at (quoted (reverse acc)) ∷ lex (suc p) (outside no-word) r
     ]
 
+-- the tokens of a text; "JSON white space may stand between tokens"
 unfoldable pub tokens : Bytes → List Placed
 tokens s = lex 0 (outside no-word) s
 
@@ -100,6 +102,7 @@ pub data Step (Q : Type 0) : Type 0 where
   go : Q → Step Q
   opens : ℕ → Q → Step Q
 
+-- only an opening bracket may stand here
 unfoldable pub want-open : {Q : Type 0} → Token → Step Q → Step Q
 want-open opening s = s
 want-open closing s = misplaced
@@ -107,6 +110,7 @@ want-open (quoted t) s = misplaced
 want-open (word w) s = misplaced
 want-open broken s = misplaced
 
+-- only a closing bracket may stand here
 unfoldable pub want-close : {Q : Type 0} → Token → Step Q → Step Q
 want-close opening s = misplaced
 want-close closing s = s
@@ -114,6 +118,7 @@ want-close (quoted t) s = misplaced
 want-close (word w) s = misplaced
 want-close broken s = misplaced
 
+-- only a JSON text may stand here
 unfoldable pub want-text : {Q : Type 0} → Token → (Bytes → Step Q) → Step Q
 want-text opening f = misplaced
 want-text closing f = misplaced
@@ -121,6 +126,7 @@ want-text (quoted t) f = f t
 want-text (word w) f = misplaced
 want-text broken f = misplaced
 
+-- only a word or number may stand here
 unfoldable pub want-word : {Q : Type 0} → Token → (Bytes → Step Q) → Step Q
 want-word opening f = misplaced
 want-word closing f = misplaced
@@ -142,6 +148,7 @@ where-some (some a) f = f a
 pub data Named (A : Type 0) : Type 0 where
   named : Bytes → A → Named A
 
+-- what the word stands for in a table
 unfoldable pub look-word : {A : Type 0} → List (Named A) → Bytes → Option A
 look-word [] w = none
 look-word (named n a ∷ rows) w = elim (same w n) [ true ↦ some a | false ↦ look-word rows w ]
@@ -156,7 +163,7 @@ want-named rows t f = want-word t (λ w. where-some (look-word rows w) f)
 unfoldable pub full-forms : Limits → (n depth : ℕ) → Bool
 full-forms l n depth = ltb (l .values) n || ltb (l .nesting) depth
 
--- refusals 7 and 8 for a step at a place, where n forms are open or read; otherwise reading goes on
+-- refusals 7 and 8 for a step at a place, where n forms that count have begun; otherwise reading goes on
 unfoldable pub judge-step : {Q A : Type 0} → Limits → (n at : ℕ) → Step Q → (ℕ → Q → Outcome ℕ A) → Outcome ℕ A
 judge-step l n at misplaced on = refused 7 at
 judge-step l n at (go q) on = on n q

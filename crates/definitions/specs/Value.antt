@@ -56,10 +56,12 @@ unfoldable mutual
   size (list vs) = suc (size-items vs)
   size (rec ms) = suc (size-members ms)
 
+  -- all that a list holds
   pub size-items : Items → ℕ
   size-items no-items = 0
   size-items (item v vs) = size v + size-items vs
 
+  -- all that a record holds
   pub size-members : Members → ℕ
   size-members no-members = 0
   size-members (member n v ms) = size v + size-members ms
@@ -74,10 +76,12 @@ unfoldable mutual
   nesting (list vs) = suc (nesting-items vs)
   nesting (rec ms) = suc (nesting-members ms)
 
+  -- the deepest of a list's elements
   pub nesting-items : Items → ℕ
   nesting-items no-items = 0
   nesting-items (item v vs) = max (nesting v) (nesting-items vs)
 
+  -- the deepest of a record's members
   pub nesting-members : Members → ℕ
   nesting-members no-members = 0
   nesting-members (member n v ms) = max (nesting v) (nesting-members ms)

@@ -8,7 +8,7 @@ use Rattle.definitions.specs.Value.{Value, Items, no-items, item, Members, no-m
 use Rattle.definitions.specs.Shape.{Kind, all-kinds, every, Shape, shape, Element, no-list, list-of, Record, no-rec, rec-of, Fields, nothing, only-null, only-bool, only-numeric, only-text, only-list, only-rec, int-only, int-and-dec, has, has-int, has-dec, has-list, has-rec, element-of, record-of, find, ascending, ascending-element, ascending-record, ascending-fields}
 use Rattle.definitions.specs.Order.{kinds-in, below}
 use Rattle.definitions.specs.Join.{join, numeric-of, shape-of, join-items, fields-of}
-use Rattle.definitions.specs.Admits.{kind-of, lacked-null, admitted, admitted-items, admitted-members, admits}
+use Rattle.definitions.specs.Admits.{kind-of, missing-have-null, admitted, admitted-items, admitted-members, admits}
 use Rattle.laws.specs.Bools.{and-left, and-right, and-intro}
 use Rattle.laws.specs.Fields.{none-some, find-none}
 use Rattle.laws.specs.Distinct.{distinct}
@@ -78,10 +78,10 @@ rec-admitted-below ms (rec-of fs) i f h = λ n.
     at-name
     (find n (fields-of ms))
     (find n fs)
-    (f fs i (and-left (admitted-members ms fs) (lacked-null ms fs) h) n)
+    (f fs i (and-left (admitted-members ms fs) (missing-have-null ms fs) h) n)
     (λ b e.
     ap (λ x. x || has Kind.null b) (found-shape n ms)
-    ∙ lacked-use ms fs (and-right (admitted-members ms fs) (lacked-null ms fs) h) n b e)
+    ∙ lacked-use ms fs (and-right (admitted-members ms fs) (missing-have-null ms fs) h) n b e)
 
 mutual
   unfolding admitted shape-of below only-null only-bool only-text kinds-in every all-kinds has has-int has-dec has-list has-rec

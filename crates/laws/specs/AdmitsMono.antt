@@ -7,7 +7,7 @@ use Rattle.definitions.specs.Bytes.{Bytes}
 use Rattle.definitions.specs.Value.{Value, Items, no-items, item, Members, no-members, member, has-name}
 use Rattle.definitions.specs.Shape.{Kind, Shape, Element, no-list, list-of, Record, no-rec, rec-of, Fields, has, element-of, record-of, find, ascending, ascending-element, ascending-record, ascending-fields}
 use Rattle.definitions.specs.Order.{below}
-use Rattle.definitions.specs.Admits.{kind-of, lacked-null, admitted, admitted-items, admitted-members, admits}
+use Rattle.definitions.specs.Admits.{kind-of, missing-have-null, admitted, admitted-items, admitted-members, admits}
 use Rattle.laws.specs.Bools.{and-left, and-right, and-intro, or-cases, or-left, or-right}
 use Rattle.laws.specs.OrderInduction.{InOption, Ascending, ascending-of-element, ascending-of-record, ascending-found}
 use Rattle.laws.specs.OrderParts.{Elements, AtName, Records, below-kinds, below-elements, below-records}
@@ -45,7 +45,7 @@ record-mono ms no-rec q i j v g h = absurd (false≢true h)
 record-mono ms (rec-of fs) no-rec i j v g h = absurd v
 record-mono ms (rec-of fs) (rec-of gs) i j v g h =
     and-intro
-    (g fs gs i j v (and-left (admitted-members ms fs) (lacked-null ms fs) h))
+    (g fs gs i j v (and-left (admitted-members ms fs) (missing-have-null ms fs) h))
     (lacked-intro
     ms
     gs
@@ -57,7 +57,7 @@ record-mono ms (rec-of fs) (rec-of gs) i j v g h =
     (find n fs)
     b
     (subst (AtName (find n fs)) e (v n))
-    (lacked-use ms fs (and-right (admitted-members ms fs) (lacked-null ms fs) h) n)))
+    (lacked-use ms fs (and-right (admitted-members ms fs) (missing-have-null ms fs) h) n)))
 
 listed-mono
     : (v : Value) (o p : Option Shape) → InOption Ascending o → InOption Ascending p → AtName o p

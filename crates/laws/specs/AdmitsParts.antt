@@ -7,7 +7,7 @@ use Rattle.definitions.specs.Bytes.{Bytes, same, found}
 use Rattle.definitions.specs.Value.{Value, Items, Members, no-members, member, has-name}
 use Rattle.definitions.specs.Shape.{Kind, no-number, int-only, int-and-dec, Shape, shape, Element, no-list, list-of, Record, no-rec, rec-of, Fields, no-fields, field, has, has-int, has-dec, element-of, record-of, find, ascending-fields}
 use Rattle.definitions.specs.Join.{shape-of, fields-of}
-use Rattle.definitions.specs.Admits.{lacked-null, admitted, admitted-items, admitted-members}
+use Rattle.definitions.specs.Admits.{missing-have-null, admitted, admitted-items, admitted-members}
 use Rattle.laws.specs.Bools.{and-left, and-right, and-intro, tell, clash}
 use Rattle.laws.specs.Names.{same-eq}
 use Rattle.laws.specs.Fields.{none-some, some-same, find-first, find-none, find-rest, find-cases, ascending-rest}
@@ -24,7 +24,7 @@ admitted-by-element vs (list-of e) = admitted-items vs e
 -- the members are admitted by the record there is
 abbrev pub admitted-by-record : Members → Record → Bool
 admitted-by-record ms no-rec = false
-admitted-by-record ms (rec-of fs) = admitted-members ms fs && lacked-null ms fs
+admitted-by-record ms (rec-of fs) = admitted-members ms fs && missing-have-null ms fs
 
 -- the value is admitted by the shape listed
 abbrev pub admitted-by-listed : Value → Option Shape → Bool
@@ -45,7 +45,7 @@ admitted-rec ms s = go (record-of s)
   where
     go
         : (r : Record)
-        → elim r as (λ x. Bool) [ no-rec ↦ false | rec-of fs ↦ admitted-members ms fs && lacked-null ms fs ]
+        → elim r as (λ x. Bool) [ no-rec ↦ false | rec-of fs ↦ admitted-members ms fs && missing-have-null ms fs ]
         ≡ admitted-by-record ms r
     go no-rec = refl
     go (rec-of fs) = refl
@@ -66,9 +66,9 @@ admitted-member n v ms fs = go (find n fs)
 -- ---- "every listed member that the value lacks has null"
 
 pub lacked-use
-    : (ms : Members) (fs : Fields) → lacked-null ms fs ≡ true → (n : Bytes) (s : Shape) → find n fs ≡ some s
+    : (ms : Members) (fs : Fields) → missing-have-null ms fs ≡ true → (n : Bytes) (s : Shape) → find n fs ≡ some s
     → has-name n ms || has Kind.null s ≡ true
-unfolding lacked-null
+unfolding missing-have-null
 lacked-use ms no-fields h = λ n s e. none-some (find-none n) e
 lacked-use ms (field m s fs) h =
     find-cases
@@ -76,13 +76,13 @@ lacked-use ms (field m s fs) h =
     m
     s
     fs
-    (and-left (has-name m ms || has Kind.null s) (lacked-null ms fs) h)
-    (lacked-use ms fs (and-right (has-name m ms || has Kind.null s) (lacked-null ms fs) h))
+    (and-left (has-name m ms || has Kind.null s) (missing-have-null ms fs) h)
+    (lacked-use ms fs (and-right (has-name m ms || has Kind.null s) (missing-have-null ms fs) h))
 
 pub lacked-intro
     : (ms : Members) (fs : Fields) → ascending-fields fs ≡ true
-    → ((n : Bytes) (s : Shape) → find n fs ≡ some s → has-name n ms || has Kind.null s ≡ true) → lacked-null ms fs ≡ true
-unfolding lacked-null
+    → ((n : Bytes) (s : Shape) → find n fs ≡ some s → has-name n ms || has Kind.null s ≡ true) → missing-have-null ms fs ≡ true
+unfolding missing-have-null
 lacked-intro ms no-fields h f = refl
 lacked-intro ms (field m s fs) h f =
     and-intro (f m s (find-first m s fs)) (lacked-intro ms fs (ascending-rest m s fs h) (λ n a e. f n a (find-rest n m s a fs h e)))

@@ -18,7 +18,7 @@ use Rattle.definitions.specs.Admits.{admits}
 use Rattle.definitions.specs.ShapeText.{read-shape}
 use Rattle.definitions.specs.Reader.{Result, read-reader}
 use Rattle.definitions.specs.Running.{Ran, run-reader}
-use Rattle.definitions.specs.Operations.{Done, Source, refusal, too-short, written, short, infer-operation, check-operation, run-operation}
+use Rattle.definitions.specs.Operations.{Done, Source, refusal, output-short, written, slices-short, infer-operation, check-operation, run-operation}
 use Rattle.laws.specs.Distinct.{distinct}
 use Rattle.laws.specs.Good.{Good-value}
 
@@ -81,7 +81,7 @@ pub record Reads (source : Source) (l : Limits) (document : Bytes) (v : Value) :
 
 -- "its buffers are long enough where none meets 1 and each output is no shorter than the reached text"
 pub record Long-enough (published : List ℕ) (text : Bytes) (c : Call) : Type 0 where
-  pub work : short published (c .lent) ≡ false
+  pub work : slices-short published (c .lent) ≡ false
   pub room : length text ≤ length (c .output)
 
 -- how run ends on a value: it gives the plain JSON of a value that the result shape admits, or 1, 13, 14 or 15 under its
@@ -95,7 +95,7 @@ pub data Ends (published lent : List ℕ) (l : Limits) (r : Result) (v : Value) 
         output = plain (x .result) ++ drop (length (plain (x .result))) output;
       })
   short-work
-      : short published lent ≡ true → Ends published lent l r v u output (record { answer = refusal 1 0 0; output = output })
+      : slices-short published lent ≡ true → Ends published lent l r v u output (record { answer = refusal 1 0 0; output = output })
   out-of-steps
       : (p : ℕ) → run-reader r l v ≡ refused 13 p
       → Ends published lent l r v u output (record { answer = refusal 13 1 p; output = output })
@@ -105,7 +105,7 @@ pub data Ends (published lent : List ℕ) (l : Limits) (r : Result) (v : Value) 
       → Ends published lent l r v u output (record { answer = refusal 14 0 0; output = output })
   no-room
       : (x : Ran Value) → run-reader r l v ≡ ok x → length output < length (plain (x .result))
-      → Ends published lent l r v u output (record { answer = too-short (length (plain (x .result))); output = output })
+      → Ends published lent l r v u output (record { answer = output-short (length (plain (x .result))); output = output })
 
 -- a reader that passed: the result shape, which check wrote, and how run ends on every document that is read without
 -- refusal and admitted by the shape reached, with any lent buffers

@@ -18,7 +18,7 @@ use Rattle.definitions.specs.Join.{join, shape-of}
 use Rattle.definitions.specs.Admits.{admits}
 use Rattle.definitions.specs.ShapeText.{read-shape, write-shape}
 use Rattle.definitions.specs.Evaluate.{evaluate}
-use Rattle.definitions.specs.Operations.{Source, short}
+use Rattle.definitions.specs.Operations.{Source, slices-short}
 use Rattle.laws.specs.Bools.{tell}
 use Rattle.laws.specs.Distinct.{distinct}
 use Rattle.laws.specs.Good.{Good-value, Good-shape}

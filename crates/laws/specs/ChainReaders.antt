@@ -17,7 +17,7 @@ use Rattle.definitions.specs.ShapeText.{read-shape, write-shape}
 use Rattle.definitions.specs.Reader.{Result, read-reader}
 use Rattle.definitions.specs.Checking.{check-reader}
 use Rattle.definitions.specs.Running.{Ran, run-reader}
-use Rattle.definitions.specs.Operations.{Done, Source, Judged, passed, stopped, _>>=_, refusal, too-short, written, in-text, judge-text, short, judge-work, Text-out, shape-out, result-out, deliver, finish, check-operation, run-operation}
+use Rattle.definitions.specs.Operations.{Done, Source, Judged, passed, stopped, _>>=_, refusal, output-short, written, in-text, judge-text, slices-short, judge-work, Text-out, shape-out, result-out, deliver, finish, check-operation, run-operation}
 use Rattle.laws.specs.Good.{Good-shape}
 use Rattle.laws.specs.Soundness.{Safe, sound}
 use Rattle.laws.specs.SoundShapes.{check-ascending}
@@ -116,7 +116,7 @@ module _ (source : Source) (published lent : List ℕ) (l : Limits) where
       End = Ends published lent l r v u output
 
       -- where the work slices are long enough, run comes to what running the reader comes to
-      ran-runs : short published lent ≡ false → ran reader document ≡ in-text 1 (run-reader r l v) >>= λ x. result-out l x
+      ran-runs : slices-short published lent ≡ false → ran reader document ≡ in-text 1 (run-reader r l v) >>= λ x. result-out l x
       ran-runs e =
           bind-of _ (work-long published lent e)
           ∙ bind-of _ (text-reads 1 l read-reader reader r short-reader reads-reader)
@@ -151,9 +151,9 @@ module _ (source : Source) (published lent : List ℕ) (l : Limits) where
 
       pub run-ends : Safe u (run-reader r l v) → End (run-operation source published lent l reader document output)
       unfolding finish in-text _>>=_
-      run-ends h = subst End (sym (run-is reader document output)) (go (short published lent) refl)
+      run-ends h = subst End (sym (run-is reader document output)) (go (slices-short published lent) refl)
         where
-          go : (b : Bool) → short published lent ≡ b → End (finish output (ran reader document))
+          go : (b : Bool) → slices-short published lent ≡ b → End (finish output (ran reader document))
           go true q = subst (λ (m : Judged Text-out). End (finish output m)) (sym (bind-stopped _ (work-short published lent q))) (short-work q)
           go false q = subst (λ (m : Judged Text-out). End (finish output m)) (sym (ran-runs q)) (ends-run (run-reader r l v) refl h)
 

@@ -12,7 +12,7 @@ use Rattle.definitions.specs.Value.{Value}
 use Rattle.definitions.specs.Shape.{Shape}
 use Rattle.definitions.specs.Join.{join, shape-of}
 use Rattle.definitions.specs.ShapeText.{read-shape, write-shape}
-use Rattle.definitions.specs.Operations.{Done, Source, Judged, passed, stopped, _>>=_, judge-text, short, judge-work, Text-out, shape-out, finish, infer-operation}
+use Rattle.definitions.specs.Operations.{Done, Source, Judged, passed, stopped, _>>=_, judge-text, slices-short, judge-work, Text-out, shape-out, finish, infer-operation}
 use Rattle.laws.specs.Tests.{eqb-eq, eq-eqb}
 use Rattle.laws.specs.Judging.{Numbered, Positive, bind-positive, work-positive, text-positive, shape-out-positive, bind-passed, bind-of, work-passed, work-long, text-passed, text-reads, shape-over, shape-out-passed, shape-out-fits, finish-zero, finish-written, front}
 use Rattle.laws.specs.Chain.{Call, infers, takes, left-by, Reads, Proper-source}
@@ -28,7 +28,7 @@ module _ (source : Source) (published : List ℕ) (l : Limits) where
 
   -- why a call was accepted: shape text and sample were read, and the join fits the limits and the output
   pub record Accepted (c : Call) (t : Bytes) (s : Shape) (v : Value) : Type 0 where
-    pub work : short published (c .lent) ≡ false
+    pub work : slices-short published (c .lent) ≡ false
     pub short-text : length t ≤ l .bytes
     pub reads-shape : read-shape l t ≡ ok s
     pub reads-sample : Reads source l (c .sample) v

@@ -19,7 +19,7 @@ use Rattle.definitions.specs.Plain.{plain}
 use Rattle.definitions.specs.Shape.{Shape, forms, levels}
 use Rattle.definitions.specs.ShapeText.{write-shape}
 use Rattle.definitions.specs.Running.{Ran}
-use Rattle.definitions.specs.Operations.{Done, Judged, passed, stopped, _>>=_, refusal, too-short, written, in-text, judge-text, short, judge-work, Text-out, shape-out, result-out, deliver, finish}
+use Rattle.definitions.specs.Operations.{Done, Judged, passed, stopped, _>>=_, refusal, output-short, written, in-text, judge-text, slices-short, judge-work, Text-out, shape-out, result-out, deliver, finish}
 use Rattle.laws.specs.Tests.{ltb-le, le-ltb, ltb-lt, lt-ltb}
 use Rattle.laws.specs.Bools.{or-false-left, or-false-right}
 
@@ -51,11 +51,11 @@ refusal-positive n k p h = h
 
 -- ---- each cause, both ways
 
-pub work-short : (published lent : List ℕ) → short published lent ≡ true → judge-work published lent ≡ stopped (refusal 1 0 0)
+pub work-short : (published lent : List ℕ) → slices-short published lent ≡ true → judge-work published lent ≡ stopped (refusal 1 0 0)
 unfolding judge-work
 work-short published lent e = rw (e, judge-work)
 
-pub work-long : (published lent : List ℕ) → short published lent ≡ false → judge-work published lent ≡ passed tt
+pub work-long : (published lent : List ℕ) → slices-short published lent ≡ false → judge-work published lent ≡ passed tt
 unfolding judge-work
 work-long published lent e = rw (e, judge-work)
 
@@ -100,7 +100,7 @@ result-out-fits l x e = rw (e, result-out)
 
 pub deliver-short
     : (output : Bytes) (t : Text-out) → ltb (length output) (length (t .bytes)) ≡ true
-    → deliver output t ≡ record { answer = too-short (length (t .bytes)); output = output }
+    → deliver output t ≡ record { answer = output-short (length (t .bytes)); output = output }
 unfolding deliver
 deliver-short output t e = rw (e, deliver)
 
@@ -144,10 +144,10 @@ pub bind-stopped : {A B : Type 0} {m : Judged A} {r : Answer} (f : A → Judged 
 unfolding _>>=_
 bind-stopped f e = ap (λ m. m >>= f) e
 
-pub work-passed : (published lent : List ℕ) {u : Unit {0}} → judge-work published lent ≡ passed u → short published lent ≡ false
-work-passed published lent {u} e = go (short published lent) refl
+pub work-passed : (published lent : List ℕ) {u : Unit {0}} → judge-work published lent ≡ passed u → slices-short published lent ≡ false
+work-passed published lent {u} e = go (slices-short published lent) refl
   where
-    go : (b : Bool) → short published lent ≡ b → short published lent ≡ false
+    go : (b : Bool) → slices-short published lent ≡ b → slices-short published lent ≡ false
     go true q = stopped-not-passed (sym (work-short published lent q) ∙ e)
     go false q = q
 
@@ -193,9 +193,9 @@ fits-shape l s f d b = rw (le-ltb _ _ f, le-ltb _ _ d, le-ltb _ _ b) refl
 -- ---- numbers of refusals
 
 pub work-positive : (published lent : List ℕ) → Positive (judge-work published lent)
-work-positive published lent = go (short published lent) refl
+work-positive published lent = go (slices-short published lent) refl
   where
-    go : (b : Bool) → short published lent ≡ b → Positive (judge-work published lent)
+    go : (b : Bool) → slices-short published lent ≡ b → Positive (judge-work published lent)
     go true q = rw (work-short published lent q) (refusal-positive 1 0 0 (lit< tt))
     go false q = rw (work-long published lent q) tt
 
@@ -221,7 +221,7 @@ shape-out-positive l s = go (shape-over l s) refl
 pub finish-zero
     : (output : Bytes) (m : Judged Text-out) → Positive m → finish output m .answer .number ≡ 0
     → (t : Text-out) × (m ≡ passed t) × (length (t .bytes) ≤ length output)
-unfolding finish too-short
+unfolding finish output-short
 finish-zero output (passed t) h e = go (ltb (length output) (length (t .bytes))) refl
   where
     go : (b : Bool) → ltb (length output) (length (t .bytes)) ≡ b

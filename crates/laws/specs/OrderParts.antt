@@ -6,7 +6,7 @@ use mathlib.Core.List.{List, [], _∷_}
 use mathlib.Core.Option.{Option, none, some}
 use Rattle.definitions.specs.Bytes.{Bytes, found}
 use Rattle.definitions.specs.Shape.{Kind, all-kinds, every, Shape, shape, Element, no-list, list-of, Record, no-rec, rec-of, Fields, no-fields, field, has, element-of, record-of, find, ascending, ascending-record, ascending-fields}
-use Rattle.definitions.specs.Order.{kinds-in, lacking-null, below, below-element, below-record, below-fields}
+use Rattle.definitions.specs.Order.{kinds-in, lacked-have-null, below, below-element, below-record, below-fields}
 use Rattle.laws.specs.Bools.{and-left, and-right, and-intro}
 use Rattle.laws.specs.Fields.{none-some, find-first, find-none, find-rest, find-cases, ascending-rest}
 use Rattle.laws.specs.OrderInduction.{ascending-of-record}
@@ -129,9 +129,9 @@ fields-intro (field m s fs) gs h f =
 
 -- "each member of B that A lacks has null in B"
 lacking-use
-    : (fs gs : Fields) → lacking-null fs gs ≡ true → (n : Bytes) (b : Shape) → find n gs ≡ some b
+    : (fs gs : Fields) → lacked-have-null fs gs ≡ true → (n : Bytes) (b : Shape) → find n gs ≡ some b
     → found (find n fs) || has Kind.null b ≡ true
-unfolding lacking-null
+unfolding lacked-have-null
 lacking-use fs no-fields h = λ n b e. none-some (find-none n) e
 lacking-use fs (field m s gs) h =
     find-cases
@@ -139,13 +139,13 @@ lacking-use fs (field m s gs) h =
     m
     s
     gs
-    (and-left (found (find m fs) || has Kind.null s) (lacking-null fs gs) h)
-    (lacking-use fs gs (and-right (found (find m fs) || has Kind.null s) (lacking-null fs gs) h))
+    (and-left (found (find m fs) || has Kind.null s) (lacked-have-null fs gs) h)
+    (lacking-use fs gs (and-right (found (find m fs) || has Kind.null s) (lacked-have-null fs gs) h))
 
 lacking-intro
     : (fs gs : Fields) → ascending-fields gs ≡ true
-    → ((n : Bytes) (b : Shape) → find n gs ≡ some b → found (find n fs) || has Kind.null b ≡ true) → lacking-null fs gs ≡ true
-unfolding lacking-null
+    → ((n : Bytes) (b : Shape) → find n gs ≡ some b → found (find n fs) || has Kind.null b ≡ true) → lacked-have-null fs gs ≡ true
+unfolding lacked-have-null
 lacking-intro fs no-fields h f = refl
 lacking-intro fs (field m s gs) h f =
     and-intro (f m s (find-first m s gs)) (lacking-intro fs gs (ascending-rest m s gs h) (λ n b e. f n b (find-rest n m s b gs h e)))
@@ -172,8 +172,8 @@ records-use (rec-of fs) (rec-of gs) h = λ n.
     at-name
     (find n fs)
     (find n gs)
-    (fields-use fs gs (and-left (below-fields fs gs) (lacking-null fs gs) h) n)
-    (lacking-use fs gs (and-right (below-fields fs gs) (lacking-null fs gs) h) n)
+    (fields-use fs gs (and-left (below-fields fs gs) (lacked-have-null fs gs) h) n)
+    (lacking-use fs gs (and-right (below-fields fs gs) (lacked-have-null fs gs) h) n)
 
 pub records-intro : (r q : Record) → ascending-record r ≡ true → ascending-record q ≡ true → Records r q → below-record r q ≡ true
 unfolding below ascending

@@ -10,7 +10,7 @@ use native.Mathlib.Omega.{arith}
 use Rattle.definitions.specs.Bytes.{Bytes, bytes, order, same}
 use Rattle.definitions.specs.Number.{Number, Numeral, no-digits, beyond, number-of, begin, spelled}
 use Rattle.definitions.specs.Value.{Value}
-use Rattle.definitions.specs.Reader.{Place, Conversion, to-int, to-dec, to-bool, to-text, Test, Result, Pairs, no-pairs, pair, Frame, each-body, when-first, when-second, if-first, if-second, if-third, pack-part, Around, text-end, in-form, User, converts, keeps, counts, maps, tests, Place-around, place-end, in-field, in-result, Want, place-open, place-word, it-index, field-name, place-close, result-open, result-word, when-test, num-number, str-text, pack-name, result-close, State, want, whole-place, whole-result, use-place, put-place, use-result, put-result, depth, place-depth, binds, bindings, place-bindings, word-number, index-fits, among-pairs, pairs-onto, test-words, place-words, result-words, index-step, literal-step, pack-step, want-step, step}
+use Rattle.definitions.specs.Reader.{Place, Conversion, to-int, to-dec, to-bool, to-text, Test, Result, Pairs, no-pairs, pair, Frame, each-body, when-first, when-second, if-first, if-second, if-third, pack-part, Around, text-end, in-form, Place-use, converts, keeps, counts, maps, tests, Place-around, place-end, in-field, in-result, Want, place-open, place-word, it-index, field-name, place-close, result-open, result-word, when-test, num-number, str-text, pack-name, result-close, State, want, whole-place, whole-result, use-place, put-place, use-result, put-result, depth, place-depth, binds, bindings, place-bindings, word-number, index-fits, among-pairs, pairs-onto, test-words, place-words, result-words, index-step, literal-step, pack-step, want-step, step}
 use Rattle.definitions.specs.Tokens.{Token, opening, closing, quoted, word, Placed, Step, misplaced, go, opens, want-open, want-close, want-text, want-word, want-named, where-true, where-some, look-word}
 use Rattle.laws.specs.Bools.{and-intro, or-false-left, or-false-right, not-false}
 use Rattle.laws.specs.Names.{same-sym}

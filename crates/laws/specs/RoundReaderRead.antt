@@ -10,7 +10,7 @@ use Rattle.definitions.specs.Bytes.{Bytes, same}
 use Rattle.definitions.specs.Outcome.{ok}
 use Rattle.definitions.specs.Number.{Numeral, no-digits, beyond, begin, spelled}
 use Rattle.definitions.specs.Tokens.{Token, Placed, want-named, Named, named, look-word}
-use Rattle.definitions.specs.Reader.{Place, Test, Result, Pairs, Frame, each-body, when-first, when-second, if-first, if-second, if-third, pack-part, Around, text-end, in-form, User, converts, keeps, counts, maps, tests, Place-around, place-end, in-field, in-result, Want, place-open, place-word, it-index, field-name, place-close, result-open, result-word, when-test, num-number, str-text, pack-name, result-close, State, want, whole-place, whole-result, use-place, put-place, use-result, put-result, place-bindings, word-number, index-fits, among-pairs, pairs-onto, test-words, place-words, result-words, index-step, literal-step, pack-step, want-step, step, finished-result, empty-reader, read-result, read-reader}
+use Rattle.definitions.specs.Reader.{Place, Test, Result, Pairs, Frame, each-body, when-first, when-second, if-first, if-second, if-third, pack-part, Around, text-end, in-form, Place-use, converts, keeps, counts, maps, tests, Place-around, place-end, in-field, in-result, Want, place-open, place-word, it-index, field-name, place-close, result-open, result-word, when-test, num-number, str-text, pack-name, result-close, State, want, whole-place, whole-result, use-place, put-place, use-result, put-result, place-bindings, word-number, index-fits, among-pairs, pairs-onto, test-words, place-words, result-words, index-step, literal-step, pack-step, want-step, step, finished-result, empty-reader, read-result, read-reader}
 use Rattle.laws.specs.Rfc3629.{UTF8-octets}
 use Rattle.laws.specs.Good.{good-null, good-bool, good-number, good-text, Good-place, good-it, good-field-of, Good-reader, good-convert, good-keep, good-count, good-each, good-when, good-choose, good-literal, good-pack, Good-pairs, good-no-pairs, good-pair}
 use Rattle.laws.specs.NumberRound.{good-number as number-good}
@@ -37,7 +37,7 @@ data Good-place-around : Place-around → Type 0 where
   good-place-end : Good-place-around place-end
   good-in-field
       : {at : ℕ} {n : Bytes} {o : Place-around} → UTF8-octets n → Good-place-around o → Good-place-around (in-field at n o)
-  good-in-result : {at : ℕ} {u : User} {o : Around} → Good-around o → Good-place-around (in-result at u o)
+  good-in-result : {at : ℕ} {u : Place-use} {o : Around} → Good-around o → Good-place-around (in-result at u o)
 
 data Good-want : Want → Type 0 where
   good-place-open : {o : Place-around} → Good-place-around o → Good-want (place-open o)
@@ -60,7 +60,7 @@ data Good-state : State → Type 0 where
 
 -- ---- the steps keep states good
 
-use-place-good : (at : ℕ) (u : User) {p : Place} {o : Around} → Good-place p → Good-around o → Good-want (use-place at u p o)
+use-place-good : (at : ℕ) (u : Place-use) {p : Place} {o : Around} → Good-place p → Good-around o → Good-want (use-place at u p o)
 unfolding use-place
 use-place-good at (converts c) p o = good-result-close (good-convert p) o
 use-place-good at keeps p o = good-result-close (good-keep p) o

@@ -9,7 +9,7 @@ use Rattle.definitions.specs.Bytes.{Bytes, order, same}
 use Rattle.definitions.specs.Value.{Value, Members, no-members, member, has-name}
 use Rattle.definitions.specs.Shape.{Kind, rank, among, Shape, Record, no-rec, rec-of, Fields, no-fields, field, has, record-of, find, ascending-fields}
 use Rattle.definitions.specs.Join.{insert}
-use Rattle.definitions.specs.Admits.{kind-of, lacked-null, admits, admitted, admitted-members}
+use Rattle.definitions.specs.Admits.{kind-of, missing-have-null, admits, admitted, admitted-members}
 use Rattle.definitions.specs.Checking.{field-kinds}
 use Rattle.definitions.specs.Running.{member-of, members-of}
 use Rattle.laws.specs.Bools.{and-left, and-right, and-intro, or-cases, or-left, or-right, or-false-left, or-false-right}
@@ -27,12 +27,12 @@ listed-admits v o = elim o [ none ↦ false | some s ↦ admitted v s ]
 
 -- a listed name is there, or its shape has null
 lacked-find
-    : (ms : Members) (n : Bytes) (fs : Fields) (u : Shape) → lacked-null ms fs ≡ true → find n fs ≡ some u
+    : (ms : Members) (n : Bytes) (fs : Fields) (u : Shape) → missing-have-null ms fs ≡ true → find n fs ≡ some u
     → has-name n ms || has Kind.null u ≡ true
-unfolding lacked-null find
+unfolding missing-have-null find
 lacked-find ms n no-fields u l e = none-some (find-none n) e
 lacked-find ms n (field m s fs) u l e =
-    let d = and-two (has-name m ms || has Kind.null s) (lacked-null ms fs) l in
+    let d = and-two (has-name m ms || has Kind.null s) (missing-have-null ms fs) l in
     go (same n m) refl (d .0) (lacked-find ms n fs u (d .1))
   where
     go
@@ -62,7 +62,7 @@ member-admitted-from n (member m v ms) fs u h e o =
 
 -- "A missing member reads as null."
 pub member-admitted
-    : (n : Bytes) (ms : Members) (fs : Fields) (u : Shape) → admitted-members ms fs ≡ true → lacked-null ms fs ≡ true
+    : (n : Bytes) (ms : Members) (fs : Fields) (u : Shape) → admitted-members ms fs ≡ true → missing-have-null ms fs ≡ true
     → find n fs ≡ some u → admitted (member-of n ms) u ≡ true
 member-admitted n ms fs u h l e = member-admitted-from n ms fs u h e (lacked-find ms n fs u l e)
 
@@ -79,27 +79,27 @@ field-admits n (Value.number x) s fs u h k r e =
 field-admits n (Value.text t) s fs u h k r e = absurd (false≢true k)
 field-admits n (Value.list vs) s fs u h k r e = absurd (false≢true k)
 field-admits n (Value.rec ms) s fs u h k r e =
-    let d = and-two (admitted-members ms fs) (lacked-null ms fs) there in
+    let d = and-two (admitted-members ms fs) (missing-have-null ms fs) there in
     member-admitted n ms fs u (d .0) (d .1) e
   where
-    there : admitted-members ms fs && lacked-null ms fs ≡ true
-    there = subst (λ (x : Record). elim x [ no-rec ↦ false | rec-of gs ↦ admitted-members ms gs && lacked-null ms gs ] ≡ true) r h
+    there : admitted-members ms fs && missing-have-null ms fs ≡ true
+    there = subst (λ (x : Record). elim x [ no-rec ↦ false | rec-of gs ↦ admitted-members ms gs && missing-have-null ms gs ] ≡ true) r h
 
 -- ---- a pack's members
 
 lacked-insert
-    : (ms : Members) (n : Bytes) (s : Shape) (fs : Fields) → has-name n ms ≡ true → lacked-null ms fs ≡ true
-    → lacked-null ms (insert n s fs) ≡ true
-unfolding insert lacked-null
+    : (ms : Members) (n : Bytes) (s : Shape) (fs : Fields) → has-name n ms ≡ true → missing-have-null ms fs ≡ true
+    → missing-have-null ms (insert n s fs) ≡ true
+unfolding insert missing-have-null
 lacked-insert ms n s no-fields h l = and-intro (or-left (has Kind.null s) h) refl
 lacked-insert ms n s (field m t fs) h l =
-    let d = and-two (has-name m ms || has Kind.null t) (lacked-null ms fs) l in
+    let d = and-two (has-name m ms || has Kind.null t) (missing-have-null ms fs) l in
     go (order n m) (d .0) (d .1) (lacked-insert ms n s fs h (d .1))
   where
     go
-        : (o : Ordering) → has-name m ms || has Kind.null t ≡ true → lacked-null ms fs ≡ true
-        → lacked-null ms (insert n s fs) ≡ true
-        → lacked-null ms (elim o [
+        : (o : Ordering) → has-name m ms || has Kind.null t ≡ true → missing-have-null ms fs ≡ true
+        → missing-have-null ms (insert n s fs) ≡ true
+        → missing-have-null ms (elim o [
           | Ordering·lt ↦ field n s (field m t fs)
           | Ordering·eq ↦ field n s fs
           | Ordering·gt ↦ field m t (insert n s fs)
@@ -110,12 +110,12 @@ lacked-insert ms n s (field m t fs) h l =
 
 -- one more member
 lacked-member
-    : (n : Bytes) (v : Value) (ms : Members) (fs : Fields) → lacked-null ms fs ≡ true
-    → lacked-null (member n v ms) fs ≡ true
-unfolding lacked-null has-name
+    : (n : Bytes) (v : Value) (ms : Members) (fs : Fields) → missing-have-null ms fs ≡ true
+    → missing-have-null (member n v ms) fs ≡ true
+unfolding missing-have-null has-name
 lacked-member n v ms no-fields l = refl
 lacked-member n v ms (field m t fs) l =
-    let d = and-two (has-name m ms || has Kind.null t) (lacked-null ms fs) l in
+    let d = and-two (has-name m ms || has Kind.null t) (missing-have-null ms fs) l in
     and-intro (go (or-cases (has-name m ms) (has Kind.null t) (d .0))) (lacked-member n v ms fs (d .1))
   where
     go : (has-name m ms ≡ true) ⊎ (has Kind.null t ≡ true) → (same m n || has-name m ms) || has Kind.null t ≡ true
@@ -138,11 +138,11 @@ insert-admitted n s (member m v ms) fs d h =
 -- a pair in front: its shape is listed, its value a member
 pub pack-admitted
     : (n : Bytes) (v : Value) (s : Shape) (ms : Members) (fs : Fields) → ascending-fields fs ≡ true → has-name n ms ≡ false
-    → admitted v s ≡ true → admitted-members ms fs && lacked-null ms fs ≡ true
-    → admitted-members (member n v ms) (insert n s fs) && lacked-null (member n v ms) (insert n s fs) ≡ true
+    → admitted v s ≡ true → admitted-members ms fs && missing-have-null ms fs ≡ true
+    → admitted-members (member n v ms) (insert n s fs) && missing-have-null (member n v ms) (insert n s fs) ≡ true
 unfolding admitted has-name
 pack-admitted n v s ms fs i d a h =
-    let k = and-two (admitted-members ms fs) (lacked-null ms fs) h in
+    let k = and-two (admitted-members ms fs) (missing-have-null ms fs) h in
     and-intro
     (and-intro (ap (listed-admits v) (find-insert-here n s fs i) ∙ a) (insert-admitted n s ms fs d (k .0)))
     (lacked-insert (member n v ms) n s fs (or-left (has-name n ms) (same-refl n)) (lacked-member n v ms fs (k .1)))

@@ -12,9 +12,9 @@ use Rattle.definitions.specs.Number.{Number, is-int}
 use Rattle.definitions.specs.Outcome.{Outcome, refused}
 use Rattle.definitions.specs.Value.{Value}
 use Rattle.definitions.specs.Shape.{Kind, all-kinds, rank, among, every, Numeric, no-number, int-only, int-and-dec, Shape, shape, Element, no-list, list-of, Record, no-rec, rec-of, has, has-int, has-dec, has-list, has-rec, within, element-of, record-of, ascending, ascending-element, ascending-record, only-numeric, only-bool, only-text}
-use Rattle.definitions.specs.Admits.{kind-of, lacked-null, admits, admitted, admitted-items, admitted-members}
+use Rattle.definitions.specs.Admits.{kind-of, missing-have-null, admits, admitted, admitted-items, admitted-members}
 use Rattle.definitions.specs.Reader.{Conversion, to-int, to-dec, to-bool, to-text, Test}
-use Rattle.definitions.specs.Checking.{convert-kinds, if-kinds, convert-shape, element-shape, only-int, not-int, cut-to, taken-out}
+use Rattle.definitions.specs.Checking.{convert-kinds, if-kinds, convert-shape, element-shape, cut-int, take-out-int, cut-to, taken-out}
 use Rattle.definitions.specs.Running.{items-of, int-value, test-kinds, truth}
 use Rattle.laws.specs.Bools.{and-left, and-right, and-intro, or-cases, clash}
 use Rattle.laws.specs.SoundHolds.{Holds}
@@ -194,20 +194,20 @@ alike-admits (Value.text x) s t e h = sym e ∙ h
 alike-admits (Value.list vs) s t e h =
     subst (λ (x : Element). elim x [ no-list ↦ false | list-of e ↦ admitted-items vs e ] ≡ true) e h
 alike-admits (Value.rec ms) s t e h =
-    subst (λ (x : Record). elim x [ no-rec ↦ false | rec-of fs ↦ admitted-members ms fs && lacked-null ms fs ] ≡ true) e h
+    subst (λ (x : Record). elim x [ no-rec ↦ false | rec-of fs ↦ admitted-members ms fs && missing-have-null ms fs ] ≡ true) e h
 
 -- the shape that a value of this kind meets in the branch that it takes
 unfoldable pub branch-shape : Test → Shape → Kind → Shape
 branch-shape t s k = elim (among k (test-kinds t)) [ true ↦ cut-to t s | false ↦ taken-out t s ]
 
-only-int-has : (m : Numeric) → has-int m ≡ has-int (only-int m)
-unfolding only-int has-int
+only-int-has : (m : Numeric) → has-int m ≡ has-int (cut-int m)
+unfolding cut-int has-int
 only-int-has no-number = refl
 only-int-has int-only = refl
 only-int-has int-and-dec = refl
 
-not-int-has : (m : Numeric) → has-dec m ≡ has-dec (not-int m)
-unfolding not-int has-dec
+not-int-has : (m : Numeric) → has-dec m ≡ has-dec (take-out-int m)
+unfolding take-out-int has-dec
 not-int-has no-number = refl
 not-int-has int-only = refl
 not-int-has int-and-dec = refl

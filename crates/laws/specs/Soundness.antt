@@ -11,7 +11,7 @@ use Rattle.definitions.specs.Outcome.{Outcome, ok, refused}
 use Rattle.definitions.specs.Value.{Value, Items, no-items, item, count}
 use Rattle.definitions.specs.Shape.{among, Shape, nothing, element-of, record-of, ascending, only-list, only-rec}
 use Rattle.definitions.specs.Join.{join}
-use Rattle.definitions.specs.Admits.{kind-of, lacked-null, admits, admitted, admitted-items, admitted-members}
+use Rattle.definitions.specs.Admits.{kind-of, missing-have-null, admits, admitted, admitted-items, admitted-members}
 use Rattle.definitions.specs.Reader.{Place, Result, Pairs, no-pairs, pair, among-pairs}
 use Rattle.definitions.specs.Checking.{field-kinds, convert-kinds, list-kinds, if-kinds, field-shape, element-shape, cut-to, taken-out, check-place, check, check-pairs, check-reader}
 use Rattle.definitions.specs.Running.{Ran, gives, field-value, converted, items-of, test-kinds, run-place, run-items, run, run-pairs, run-reader}
@@ -92,7 +92,7 @@ fits-right
 fits-right s t a b h = holds-map (λ n e. e) (λ x i. admits-join-right s t (x .result) a b i) h
 
 mutual
-  unfolding check run gives converted admits admitted lacked-null only-list only-rec element-of record-of scoped proper
+  unfolding check run gives converted admits admitted missing-have-null only-list only-rec element-of record-of scoped proper
 
   result-sound
       : (r : Result) (m : ℕ) (env : List Shape) → Ascends env → scoped m r ≡ true → proper r ≡ true
@@ -173,7 +173,7 @@ mutual
       : (ps : Pairs) (m : ℕ) (env : List Shape) → Ascends env → scoped-pairs m ps ≡ true → proper-pairs ps ≡ true
       → Holds any
       (λ fs. (vs : List Value) → Suits m env vs → (l : Limits) (n : ℕ)
-      → Holds Spent (λ x. admitted-members (x .result) fs && lacked-null (x .result) fs ≡ true) (run-pairs ps l vs n))
+      → Holds Spent (λ x. admitted-members (x .result) fs && missing-have-null (x .result) fs ≡ true) (run-pairs ps l vs n))
       (check-pairs ps env)
   pairs-sound no-pairs m env a sc q = gave λ vs g l n. gave refl
   pairs-sound (pair i r ps) m env a sc q =

@@ -1,0 +1,137 @@
+-- Rows beyond the sample sheet, proved by evaluation: work slices, the C calls, a place read alone, and rules that no
+-- sample of the sheet reaches. Assumes nothing.
+use Prim.Native.Nat.{ℕ}
+use mathlib.Core.Path.{_≡_, refl}
+use mathlib.Core.Bool.{true, false}
+use mathlib.Core.List.{List, [], _∷_, _++_}
+use lib.ListN.{replicate}
+use Rattle.definitions.specs.declared.Answer.{Answer}
+use Rattle.definitions.specs.Limits.{standard}
+use Rattle.definitions.specs.Bytes.{Bytes, bytes}
+use Rattle.definitions.specs.Outcome.{Outcome, ok, refused}
+use Rattle.definitions.specs.Json.{read-json}
+use Rattle.definitions.specs.Shape.{only-null, only-text, only-rec, rec-of, field, no-fields, ascending}
+use Rattle.definitions.specs.Reader.{Place, read-place}
+use Rattle.definitions.specs.Operations.{Done, refusal, written, said, plain-operation, admits-operation, check-operation}
+use Rattle.definitions.specs.Calls.{Called, plain-call, admits-call}
+use Rattle.definitions.specs.Evaluate.{evaluate}
+
+-- an output or answer buffer of n bytes
+abbrev room : ℕ → Bytes
+room n = replicate n 0xA5
+
+-- five words of the answer buffer, each below 65,536
+abbrev words : (text place length steps yes : ℕ) → Bytes
+words t p k s y =
+    t ∷ 0 ∷ 0 ∷ 0 ∷ 0 ∷ 0 ∷ 0 ∷ 0 ∷ p ∷ 0 ∷ 0 ∷ 0 ∷ 0 ∷ 0 ∷ 0 ∷ 0 ∷ k ∷ 0 ∷ 0 ∷ 0 ∷ 0 ∷ 0 ∷ 0 ∷ 0 ∷ s ∷ 0 ∷ 0 ∷ 0 ∷ 0 ∷ 0 ∷ 0 ∷ 0
+    ∷ y ∷ 0 ∷ 0 ∷ 0 ∷ 0 ∷ 0 ∷ 0 ∷ 0 ∷ []
+
+-- ---- refusal 1: work slices
+
+abbrev plain-lent : (published lent : List ℕ) → Bytes → Done
+plain-lent published lent document = plain-operation read-json published lent standard document (room 4)
+
+one-word-short : plain-lent (10 ∷ 20 ∷ []) (10 ∷ 19 ∷ []) (bytes "1") ≡ record { answer = refusal 1 0 0; output = room 4 }
+unfolding evaluate
+one-word-short = refl
+
+one-not-lent : plain-lent (10 ∷ 20 ∷ []) (10 ∷ []) (bytes "1") ≡ record { answer = refusal 1 0 0; output = room 4 }
+unfolding evaluate
+one-not-lent = refl
+
+longer-is-used : plain-lent (10 ∷ 20 ∷ []) (10 ∷ 9000 ∷ []) (bytes "1") ≡ record { answer = written 1 0; output = bytes "1" ++ room 3 }
+unfolding evaluate
+longer-is-used = refl
+
+-- 1 goes before the causes of a text
+slices-first : plain-lent (10 ∷ []) (9 ∷ []) (bytes "[") ≡ record { answer = refusal 1 0 0; output = room 4 }
+unfolding evaluate
+slices-first = refl
+
+-- ---- the C calls
+
+buffer-of-39 : plain-call (bytes "[ 1 ]") (room 4) (room 39) ≡ record { number = 1; answer = room 39; output = room 4 }
+unfolding evaluate
+buffer-of-39 = refl
+
+-- the bytes behind the fortieth, and behind what is written, are kept
+buffer-of-41
+  : plain-call (bytes "[ 1 ]") (room 4) (room 41)
+  ≡ record { number = 0; answer = words 0 0 3 0 0 ++ room 1; output = bytes "[1]" ++ room 1 }
+unfolding evaluate
+buffer-of-41 = refl
+
+call-refused : plain-call (bytes "[1 x]") (room 4) (room 40) ≡ record { number = 3; answer = words 1 3 0 0 0; output = room 4 }
+unfolding evaluate
+call-refused = refl
+
+call-without-room : plain-call (bytes "[ 1 ]") (room 2) (room 40) ≡ record { number = 15; answer = words 0 0 3 0 0; output = room 2 }
+unfolding evaluate
+call-without-room = refl
+
+call-says-yes : admits-call (bytes "(shape null)") (bytes "null") (room 40) ≡ record { number = 0; answer = words 0 0 0 0 1; output = [] }
+unfolding evaluate
+call-says-yes = refl
+
+-- the lowest byte of a word comes first: place 258 is 2 and 1
+low-byte-first
+  : plain-call (replicate 258 0x20) [] (room 40)
+  ≡ record { number = 3; answer = 1 ∷ 0 ∷ 0 ∷ 0 ∷ 0 ∷ 0 ∷ 0 ∷ 0 ∷ 2 ∷ 1 ∷ replicate 30 0; output = [] }
+unfolding evaluate
+low-byte-first = refl
+
+-- ---- a place read alone
+
+place-alone : read-place standard (bytes "(field \"a\" (it 0))") ≡ ok (Place.field 0 (bytes "a") (Place.it 11 0))
+unfolding evaluate
+place-alone = refl
+
+only-the-document-is-bound : read-place standard (bytes "(it 1)") ≡ refused 7 4
+unfolding evaluate
+only-the-document-is-bound = refl
+
+-- ---- names strictly ascending
+
+in-order : ascending (only-rec (rec-of (field (bytes "a") only-null (field (bytes "ab") only-text no-fields)))) ≡ true
+unfolding evaluate
+in-order = refl
+
+not-in-order : ascending (only-rec (rec-of (field (bytes "a") only-null (field (bytes "a") only-text no-fields)))) ≡ false
+unfolding evaluate
+not-in-order = refl
+
+-- ---- rules that no sample reaches
+
+abbrev plain : Bytes → Done
+plain document = plain-operation read-json [] [] standard document (room 10)
+
+-- a control byte without a two-character escape is written in lower case
+lower-case-hex : plain (bytes "\"\\u001F\"") ≡ record { answer = written 8 0; output = bytes "\"\\u001f\"" ++ room 2 }
+unfolding evaluate
+lower-case-hex = refl
+
+lone-low-surrogate : plain (bytes "\"\\uDC00\"") ≡ record { answer = refusal 3 1 4; output = room 10 }
+unfolding evaluate
+lone-low-surrogate = refl
+
+-- E0 wants A0 to BF behind it
+overlong : plain (0x22 ∷ 0xE0 ∷ 0x9F ∷ 0x80 ∷ 0x22 ∷ []) ≡ record { answer = refusal 3 1 2; output = room 10 }
+unfolding evaluate
+overlong = refl
+
+-- a listed member that the value lacks has null
+missing-member : admits-operation read-json [] [] standard (bytes "(shape rec (member \"a\" (shape int)))") (bytes "{}") ≡ said false
+unfolding evaluate
+missing-member = refl
+
+-- P of `each` stands outside the new binding
+outside-the-binding
+  : check-operation [] [] standard (bytes "(each (it 1) (yes))") (bytes "(shape list (shape))") (room 4)
+  ≡ record { answer = refusal 7 1 10; output = room 4 }
+unfolding evaluate
+outside-the-binding = refl
+
+-- a blank reader ends at its length
+blank-reader : check-operation [] [] standard (bytes "  ") (bytes "(shape)") (room 4) ≡ record { answer = refusal 7 1 2; output = room 4 }
+unfolding evaluate
+blank-reader = refl
