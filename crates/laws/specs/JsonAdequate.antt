@@ -1,22 +1,23 @@
 -- Reading a document is adequate to RFC 8259 and the paper's limits: it accepts exactly the JSON texts that keep the
 -- limits, with their meaning, and a refusal is the first cause there is. Assumes nothing.
-use Prim.Native.Nat.{ℕ, zero, suc, _+_, _-_, _<_, _≤_}
+use Prim.Native.Nat.{ℕ, _+_, _-_}
 use native.Mathlib.Omega.{arith}
-use mathlib.Core.Path.{Path, _≡_, refl, sym, _∙_, ap, subst, subst₂}
-use mathlib.Core.Bool.{Bool, true, false}
-use mathlib.Core.List.{List, [], _∷_, _++_}
+use mathlib.Core.Path.{_≡_, refl, sym, _∙_, ap, subst}
+use mathlib.Core.Bool.{Bool, true}
+use mathlib.Core.List.{[], _++_}
 use lib.ListN.{length, length-append}
 use Rattle.definitions.specs.declared.Limits.{Limits}
 use Rattle.definitions.specs.Bytes.{Bytes}
 use Rattle.definitions.specs.Outcome.{Outcome, ok, refused, place, placed}
 use Rattle.definitions.specs.Value.{Value}
-use Rattle.definitions.specs.Json.{root, scan, read-json}
+use Rattle.definitions.specs.Json.{scan, read-json}
 use Rattle.laws.specs.Distinct.{distinct}
 use Rattle.laws.specs.Tree.{Tree, meaning, Fits}
 use Rattle.laws.specs.Rfc8259.{JSON-text}
 use Rattle.laws.specs.Causes.{Cause, cause-3, cause-4, cause-5, cause-6, First, earlier, same-place}
 use Rattle.laws.specs.JsonMoves.{limited, scan-by, scan-limited, ok≢refused, ok-injective, refused-injective}
-use Rattle.laws.specs.JsonForward.{fit, Ends, arrives, halts, ends-arrive, text-forward}
+use Rattle.laws.specs.JsonEnds.{Ends, arrives, halts, ends-arrive}
+use Rattle.laws.specs.JsonForward.{text-forward}
 use Rattle.laws.specs.JsonFits.{fit-fits, fits-fit}
 use Rattle.laws.specs.JsonLive.{start}
 use Rattle.laws.specs.JsonSettled.{Settled, there, before, beyond-settled, again-settled, full-settled}
@@ -98,7 +99,8 @@ settled-first {s} {r} {m} l n p pre e h c =
     long = ap length h ∙ length-append pre r
 
     at
-        : {a : Outcome Bytes Value} (pre′ r′ : Bytes) → length s ≡ length pre′ + length r′ → length pre′ ≡ p → a ≡ refused n r′ → Settled r m a
+        : {a : Outcome Bytes Value} (pre′ r′ : Bytes) → length s ≡ length pre′ + length r′ → length pre′ ≡ p
+        → a ≡ refused n r′ → Settled r m a
         → First n p m (length pre)
     at pre′ r′ k f g (there i y b) =
         let (u, w) = refused-injective (sym g ∙ y) in
@@ -112,7 +114,8 @@ settled-first {s} {r} {m} l n p pre e h c =
 -- every cause stands later than a refusal, or at its place with no smaller number
 pub json-least : (l : Limits) (s : Bytes) (n p m q : ℕ) → read-json l s ≡ refused n p → Cause l s m q → First n p m q
 json-least l s n p m q e (cause-3 pre r h b) =
-    settled-first l n p pre e h (subst (λ (z : Bytes). Settled r 3 (scan-by (limited l) 0 z start z)) (sym h) (breaks-settled (limited l) pre b))
+    settled-first l n p pre e h
+    (subst (λ (z : Bytes). Settled r 3 (scan-by (limited l) 0 z start z)) (sym h) (breaks-settled (limited l) pre b))
 json-least l s n p m q e (cause-4 pre r h c) = settled-first l n p pre e h (beyond-settled l c)
 json-least l s n p m q e (cause-5 pre r h c) = settled-first l n p pre e h (again-settled l c)
 json-least l s n p m q e (cause-6 pre r h c) = settled-first l n p pre e h (full-settled l c)

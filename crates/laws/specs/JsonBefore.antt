@@ -1,23 +1,22 @@
 -- A scan runs over a left context: to the place where a value or a name may begin, or a test stops it before. Assumes
 -- nothing.
-use Prim.Native.Nat.{ℕ, zero, suc, _+_, _<_, _≤_}
+use Prim.Native.Nat.{ℕ, _+_, _≤_}
 use native.Mathlib.Omega.{arith}
 use native.Mathlib.Nat.{le-refl, le-of-lt}
-use mathlib.Core.Path.{_≡_, refl, sym, _∙_, ap}
-use mathlib.Core.Bool.{Bool, true, false, _&&_}
-use mathlib.Core.List.{List, [], _∷_, _++_}
+use mathlib.Core.Path.{refl, _∙_}
+use mathlib.Core.Bool.{Bool, true, _&&_}
 use lib.ListN.{length}
 use Rattle.definitions.specs.Bytes.{Bytes}
-use Rattle.definitions.specs.Outcome.{Outcome}
-use Rattle.definitions.specs.Value.{Value, Items, no-items, item, Members, no-members, member, size}
-use Rattle.definitions.specs.Json.{Open, root, in-list, in-rec, Gap, State, put}
-use Rattle.laws.specs.Tree.{Tree, Trees, no-trees, tree, Named, no-named, named, meaning, meaning-trees, meaning-named}
+use Rattle.definitions.specs.Value.{item, member, size}
+use Rattle.definitions.specs.Json.{root, in-list, in-rec, Gap, State, put}
+use Rattle.laws.specs.Tree.{no-trees, tree, Named, no-named, named, meaning, meaning-trees, meaning-named}
 use Rattle.laws.specs.Causes.{Context, top, in-array, in-object, Before, Before-name, begun}
 use Rattle.laws.specs.JsonMoves.{Tests, scan-by}
 use Rattle.laws.specs.JsonContext.{opened, begun-named, count-array, count-object, count-value, count-member}
 use Rattle.laws.specs.JsonLengths.{structural-length, string-length, value-length}
 use Rattle.laws.specs.JsonRuns.{comma, mark-stop, Takes, takes-value, takes-item, Names, names-first, names-next, comma-after, comma-member, colon-name, ws-run, mark-run, name-run}
-use Rattle.laws.specs.JsonForward.{Ends, arrives, ends-from, ends-then, ends-at, ends-unless, array-enter, object-enter, recount, value-forward}
+use Rattle.laws.specs.JsonEnds.{Ends, arrives, Come, ends-from, ends-then, ends-at, ends-unless}
+use Rattle.laws.specs.JsonForward.{array-enter, object-enter, recount, value-forward}
 use Rattle.laws.specs.JsonLive.{start}
 
 -- ---- the gap at a context
@@ -48,6 +47,11 @@ await-names (named n x ns) k = names-next (meaning-named (named n x ns)) (opened
 
 -- ---- running there
 
+comes-then
+    : {c d : Bytes → Come} {u w : Bytes} {a : Come} {z : Bool} → (b : Bool) × Ends c u b a → length w ≤ length u
+    → ((kept : Bytes) → Ends d w z (c kept)) → (b : Bool) × Ends d w b a
+comes-then {z} (b, e) h on = (b && z, ends-then e h on)
+
 module _ (j : Tests) where
   -- the scan of s comes to this gap at r with m values begun, or is refused before r
   abbrev pub Comes : (s : Bytes) (m : ℕ) (g : Gap) (r : Bytes) → Type 0
@@ -59,46 +63,45 @@ module _ (j : Tests) where
     pub before-comes : {s r : Bytes} {k : Context} → Before s k r → Comes s (begun k) (await k) r
     before-comes {s} (Before.start w) = (true, arrives s (ws-run j 0 s (Gap.value root) w))
     before-comes {r} (Before.first-value {k} f w) =
-        let (b, e) = before-comes f in (
-          _,
-          ends-then e (le-of-lt (structural-length w))
-              (λ kept. array-enter j (await k) (opened k) (begun k) kept w (await-takes k) (le-refl (length r)) (arrives kept (recount j (count-array k refl) (Gap.first-item (opened k)) kept r))),
-        )
+        comes-then (before-comes f) (le-of-lt (structural-length w))
+        λ kept.
+        array-enter j (await k) (opened k) (begun k) kept w (await-takes k) (le-refl (length r))
+        (arrives kept (recount j (count-array k refl) (Gap.first-item (opened k)) kept r))
     before-comes {r} (Before.next-value {k} {ts} {x} f v w) =
-        let (b, e) = before-comes f in (
-          _,
-          ends-then e (omega (arith, value-length v, structural-length w))
-              (λ kept. ends-at (value-forward j v (mark-stop comma w) (await (in-array ts k)) (opened (in-array ts k)) (await-takes (in-array ts k)) (begun (in-array ts k)) kept)
-              (le-of-lt (structural-length w))
-              (λ kept′. mark-run j (begun (in-array ts k) + size (meaning x)) kept′ (Gap.after-item (item (meaning x) (meaning-trees ts)) (opened k)) (Gap.value (opened (in-array (tree x ts) k))) w
-              (comma-after (item (meaning x) (meaning-trees ts)) (opened k))
-              ∙ recount j (count-value k ts x refl) (Gap.value (opened (in-array (tree x ts) k))) kept′ r)),
-        )
+        let c = in-array ts k in
+        let vs = item (meaning x) (meaning-trees ts) in
+        let g = Gap.value (in-list vs (opened k)) in
+        comes-then (before-comes f) (omega (arith, value-length v, structural-length w))
+        λ kept.
+        ends-at (value-forward j v (mark-stop comma w) (await c) (opened c) (await-takes c) (begun c) kept)
+        (le-of-lt (structural-length w))
+        λ kept′.
+        mark-run j (begun c + size (meaning x)) kept′ (Gap.after-item vs (opened k)) g w (comma-after vs (opened k))
+        ∙ recount j (count-value k ts x refl) g kept′ r
     before-comes (Before.member-value {k} {ns} {n} {t} f a w) =
-        let (b, e) = name-comes f in
-        let o = opened k in (
-          _,
-          ends-then e (omega (arith, string-length a, structural-length w))
-              (λ kept. ends-from (name-run j (begun-named ns k) kept (await-name ns k) (meaning-named ns) o a (await-names ns k))
-              (ends-unless (j .twice n (meaning-named ns)) 5 t t (omega (arith, string-length a, structural-length w))
-              (mark-run j (begun-named ns k) t (Gap.colon (meaning-named ns) n o) (Gap.value (opened (in-object ns n k))) w (colon-name (meaning-named ns) n o)))),
-        )
+        let o = opened k in
+        let ms = meaning-named ns in
+        comes-then (name-comes f) (omega (arith, string-length a, structural-length w))
+        λ kept.
+        ends-from (name-run j (begun-named ns k) kept (await-name ns k) ms o a (await-names ns k))
+        (ends-unless (j .twice n ms) 5 t t (omega (arith, string-length a, structural-length w))
+        (mark-run j (begun-named ns k) t (Gap.colon ms n o) (Gap.value (in-rec ms n o)) w (colon-name ms n o)))
 
-    pub name-comes : {s r : Bytes} {ns : Named} {k : Context} → Before-name s ns k r → Comes s (begun-named ns k) (await-name ns k) r
+    pub name-comes
+        : {s r : Bytes} {ns : Named} {k : Context} → Before-name s ns k r → Comes s (begun-named ns k) (await-name ns k) r
     name-comes {r} (Before-name.first-name {k} f w) =
-        let (b, e) = before-comes f in (
-          _,
-          ends-then e (le-of-lt (structural-length w))
-              (λ kept. object-enter j (await k) (opened k) (begun k) kept w (await-takes k) (le-refl (length r)) (arrives kept (recount j (count-object k refl) (Gap.first-name (opened k)) kept r))),
-        )
+        comes-then (before-comes f) (le-of-lt (structural-length w))
+        λ kept.
+        object-enter j (await k) (opened k) (begun k) kept w (await-takes k) (le-refl (length r))
+        (arrives kept (recount j (count-object k refl) (Gap.first-name (opened k)) kept r))
     name-comes {r} (Before-name.next-name {k} {ns} {n} {x} f v w) =
-        let (b, e) = before-comes f in
         let c = in-object ns n k in
-        let ms = member n (meaning x) (meaning-named ns) in (
-          _,
-          ends-then e (omega (arith, value-length v, structural-length w))
-              (λ kept. ends-at (value-forward j v (mark-stop comma w) (await c) (opened c) (await-takes c) (begun c) kept)
-              (le-of-lt (structural-length w))
-              (λ kept′. mark-run j (begun c + size (meaning x)) kept′ (Gap.after-member ms (opened k)) (Gap.next-name ms (opened k)) w (comma-member ms (opened k))
-              ∙ recount j (count-member k ns n x refl) (Gap.next-name ms (opened k)) kept′ r)),
-        )
+        let ms = member n (meaning x) (meaning-named ns) in
+        comes-then (before-comes f) (omega (arith, value-length v, structural-length w))
+        λ kept.
+        ends-at (value-forward j v (mark-stop comma w) (await c) (opened c) (await-takes c) (begun c) kept)
+        (le-of-lt (structural-length w))
+        λ kept′.
+        mark-run j (begun c + size (meaning x)) kept′ (Gap.after-member ms (opened k)) (Gap.next-name ms (opened k)) w
+        (comma-member ms (opened k))
+        ∙ recount j (count-member k ns n x refl) (Gap.next-name ms (opened k)) kept′ r

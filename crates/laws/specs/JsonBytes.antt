@@ -1,41 +1,40 @@
 -- What a byte between the tokens of a document can be: tests on bytes taken apart, and the moves that they lead to.
 -- Assumes nothing.
-use Prim.Native.Nat.{ℕ, _≤_, compare, Ordering, Ordering·lt, Ordering·eq, Ordering·gt}
+use Prim.Native.Nat.{ℕ}
 use Prim.Native.Char.{Char, code}
-use native.Mathlib.Nat.{le-antisymm}
-use mathlib.Core.Path.{_≡_, refl, sym, subst, _∙_}
-use mathlib.Core.Bool.{Bool, true, false, _&&_}
+use mathlib.Core.Path.{_≡_, refl, sym, ap, subst}
+use mathlib.Core.Bool.{Bool, true, false}
 use mathlib.Core.List.{List, [], _∷_}
 use mathlib.Core.Option.{Option, none, some, Option·none-ne-some}
-use lib.Dec.{T, leb, leb→le, eqb, eqb→eq, eqb-refl}
-use Rattle.definitions.specs.Bytes.{Bytes, bytes, Row, row, between, look, is, white, white-table, found}
+use lib.Dec.{eqb}
+use Rattle.definitions.specs.Bytes.{bytes, Row, row, between, look, is, white, white-table, found}
 use Rattle.definitions.specs.Text.{Inside}
-use Rattle.definitions.specs.Number.{Numeral, no-digits, Phase, begin, next, int-rows, extend}
+use Rattle.definitions.specs.Number.{no-digits, Phase, begin, next, int-rows, extend}
 use Rattle.definitions.specs.Value.{Value}
-use Rattle.definitions.specs.Json.{Open, Gap, Role, State, Move, spell, value-rows, value-move, gap-move, token-move, true-name, false-name, null-name}
-use Rattle.laws.specs.Bools.{and-left, and-right, clash}
+use Rattle.definitions.specs.Json.{Open, Gap, Role, State, Move, spell, value-rows, value-move, true-name, false-name, null-name}
+use Rattle.laws.specs.Bools.{clash}
+use Rattle.laws.specs.Ranges.{eqb-eq, between-in, in-one}
 use Rattle.laws.specs.Rfc8259.{ws-char}
 
+-- ---- choices
+
+-- a choice by a test or a table that is known
+pub pick-true : {A : Type 0} {z : Bool} (a b : A) → z ≡ true → (elim z as (λ y. A) [ true ↦ a | false ↦ b ]) ≡ a
+pick-true {A} a b e = ap (λ (z : Bool). elim z as (λ y. A) [ true ↦ a | false ↦ b ]) e
+
+pub pick-false : {A : Type 0} {z : Bool} (a b : A) → z ≡ false → (elim z as (λ y. A) [ true ↦ a | false ↦ b ]) ≡ b
+pick-false {A} a b e = ap (λ (z : Bool). elim z as (λ y. A) [ true ↦ a | false ↦ b ]) e
+
+pub pick-none
+    : {A B : Type 0} {z : Option A} (n : B) (s : A → B) → z ≡ none → (elim z as (λ y. B) [ none ↦ n | some a ↦ s a ]) ≡ n
+pick-none {A} {B} n s e = ap (λ (z : Option A). elim z as (λ y. B) [ none ↦ n | some a ↦ s a ]) e
+
+pub pick-some
+    : {A B : Type 0} {z : Option A} {a : A} (n : B) (s : A → B) → z ≡ some a
+    → (elim z as (λ y. B) [ none ↦ n | some a ↦ s a ]) ≡ s a
+pick-some {A} {B} n s e = ap (λ (z : Option A). elim z as (λ y. B) [ none ↦ n | some a ↦ s a ]) e
+
 -- ---- tests on bytes
-
-test-true : (b : Bool) → b ≡ true → T b
-test-true b e = subst T (sym e) tt
-
-pub eqb-true : (m n : ℕ) → eqb m n ≡ true → m ≡ n
-eqb-true m n e = eqb→eq m n (test-true (eqb m n) e)
-
-pub eqb-same : (n : ℕ) → eqb n n ≡ true
-eqb-same n = passed (eqb n n) (eqb-refl n)
-  where
-    passed : (b : Bool) → T b → b ≡ true
-    passed true t = refl
-    passed false t = absurd t
-
-between-one : (c b : ℕ) → between c c b ≡ true → b ≡ c
-unfolding between
-between-one c b e =
-    le-antisymm (leb→le b c (test-true (leb b c) (and-right (leb c b) (leb b c) e)))
-    (leb→le c b (test-true (leb c b) (and-left (leb c b) (leb b c) e)))
 
 -- what is to be shown of each row of a table, and of a byte that none has
 abbrev Rows : {A : Type 0} (P : Option A → Type 0) → ℕ → List (Row A) → Type 0
@@ -57,17 +56,18 @@ unfolding is
 is-cases P c b yes′ other = at (eqb b (code c)) refl
   where
     at : (t : Bool) → eqb b (code c) ≡ t → P t
-    at true e = yes′ (eqb-true b (code c) e)
+    at true e = yes′ (eqb-eq e)
     at false e = other
 
 -- white space or not
 pub white-cases : (P : Bool → Type 0) (b : ℕ) → (ws-char b → P true) → P false → P (white b)
 unfolding white white-table found
 white-cases P b yes′ other =
-    look-cases (λ z. P (found z)) b white-table (at ws-char.space, (at ws-char.tab, (at ws-char.line-feed, (at ws-char.carriage-return, other))))
+    look-cases (λ z. P (found z)) b white-table
+    (at ws-char.space, (at ws-char.tab, (at ws-char.line-feed, (at ws-char.carriage-return, other))))
   where
     at : {c : ℕ} → ws-char c → between c c b ≡ true → P true
-    at {c} w e = yes′ (subst ws-char (sym (between-one c b e)) w)
+    at {c} w e = yes′ (subst ws-char (sym (in-one (between-in e))) w)
 
 pub space-white : {b : ℕ} → ws-char b → white b ≡ true
 unfolding white white-table found look between
@@ -76,7 +76,7 @@ space-white ws-char.tab = refl
 space-white ws-char.line-feed = refl
 space-white ws-char.carriage-return = refl
 
--- a byte that is no white space, and one that begins a number, is none of the grammar's
+-- a byte that the test fails for, and one that begins a number, is no white space of the grammar's
 pub not-space : {b : ℕ} → white b ≡ false → ws-char b → ⊥
 not-space e w = clash (space-white w) e
 
@@ -119,4 +119,4 @@ value-byte o b =
     number (some p) e = digit e
 
     at : {c : ℕ} {m : Move} → Value-byte o c m → between c c b ≡ true → Value-byte o b m
-    at {c} {m} v e = subst (λ x. Value-byte o x m) (sym (between-one c b e)) v
+    at {c} {m} v e = subst (λ x. Value-byte o x m) (sym (in-one (between-in e))) v

@@ -1,35 +1,39 @@
 -- What reading comes to is told by the grammar: a document is a JSON text with this meaning, and a refusal has its cause at
 -- its place. Assumes nothing.
-use Prim.Native.Nat.{ℕ, zero, suc, _+_, _<_, _≤_}
+use Prim.Native.Nat.{ℕ, suc, _<_}
 use mathlib.Core.Path.{_≡_, refl, sym, _∙_, ap, subst}
 use mathlib.Core.Logic.{_⊎_, inl, inr}
-use mathlib.Core.Bool.{Bool, true, false, _||_}
-use mathlib.Core.List.{List, [], _∷_, _++_, append-nil, append-assoc}
-use mathlib.Core.Option.{Option, none, some, Option·none-ne-some, Option·some-ne-none}
-use lib.Dec.{T, ltb, ltb→lt}
+use mathlib.Core.Bool.{Bool, true, false}
+use mathlib.Core.List.{[], _∷_, _++_, append-assoc}
+use mathlib.Core.Option.{none, some, Option·none-ne-some}
+use lib.Dec.{ltb}
 use lib.ListN.{length}
 use Rattle.definitions.specs.declared.Limits.{Limits}
 use Rattle.definitions.specs.Bytes.{Bytes, look}
 use Rattle.definitions.specs.Outcome.{Outcome, ok, refused}
 use Rattle.definitions.specs.Number.{Numeral, no-digits, beyond, Phase, begin, next, complete}
 use Rattle.definitions.specs.Value.{Value, has-name}
-use Rattle.definitions.specs.Json.{Open, State, Move, move, end-move, depth, full, judge, scan}
+use Rattle.definitions.specs.Json.{State, Move, end-move, depth, full, judge, scan}
 use Rattle.laws.specs.Bools.{or-cases}
-use Rattle.laws.specs.Tree.{Tree, Named, meaning, meaning-named}
+use Rattle.laws.specs.Tree.{Tree, meaning, meaning-named}
 use Rattle.laws.specs.Rfc8259 as Rfc
 use Rattle.laws.specs.Rfc8259.{JSON-text}
 use Rattle.laws.specs.Steps.{Number-steps}
 use Rattle.laws.specs.NumberTokens.{number-sound, number-longest}
-use Rattle.laws.specs.Causes.{Context, Before, Before-name, begun, open-around, Begins, Breaks, at-byte, at-end, Beyond, Again, Full, Cause, cause-3, cause-4, cause-5, cause-6}
+use Rattle.laws.specs.Ranges.{leb-le}
+use Rattle.laws.specs.Causes.{Context, Before, begun, open-around, Breaks, at-byte, at-end, Beyond, Full, Cause, cause-3, cause-4, cause-5, cause-6}
 use Rattle.laws.specs.JsonMoves.{after, ending, Walk, stay, step, walk-append}
 use Rattle.laws.specs.JsonContext.{opened, depth-opened}
-use Rattle.laws.specs.JsonSound.{Reached, Starts, Sound, broken-so, broken-number-so, goes, begins-value, begins-number, begins-name, ends-name, ends-number, ends-text, move-sound, end-sound}
+use Rattle.laws.specs.JsonReached.{Reached, Starts, Sound, broken-so, broken-number-so, goes, begins-value, begins-number, begins-name, ends-name, ends-number, ends-text}
+use Rattle.laws.specs.JsonSound.{move-sound, end-sound}
 use Rattle.laws.specs.JsonLive.{start, start-reached, walk-begins, walk-breaks, walk-unfinished}
 
 -- ---- causes from what has been read
 
+-- a value begun where it is one too many or too deep
 full-cause
-    : {l : Limits} {s r : Bytes} {n : ℕ} {k : Context} → Before s k r → n ≡ suc (begun k) → Starts r → full l n (opened k) ≡ true → Full l s r
+    : {l : Limits} {s r : Bytes} {n : ℕ} {k : Context} → Before s k r → n ≡ suc (begun k) → Starts r
+    → full l n (opened k) ≡ true → Full l s r
 unfolding full
 full-cause {l} {n} {k} f e a h =
     record {
@@ -46,15 +50,16 @@ full-cause {l} {n} {k} f e a h =
       over = over (or-cases (ltb (l .values) n) (ltb (l .nesting) (suc (depth (opened k)))) h);
     }
   where
-    less : (i j : ℕ) → ltb i j ≡ true → i < j
-    less i j g = ltb→lt i j (subst T (sym g) tt)
+    over
+        : (ltb (l .values) n ≡ true) ⊎ (ltb (l .nesting) (suc (depth (opened k))) ≡ true)
+        → (l .values < suc (begun k)) ⊎ (l .nesting < suc (open-around k))
+    over (inl g) = inl (leb-le (subst (λ (z : ℕ). ltb (l .values) z ≡ true) e g))
+    over (inr g) = inr (leb-le (subst (λ (z : ℕ). ltb (l .nesting) (suc z) ≡ true) (depth-opened k) g))
 
-    over : (ltb (l .values) n ≡ true) ⊎ (ltb (l .nesting) (suc (depth (opened k))) ≡ true) → (l .values < suc (begun k)) ⊎ (l .nesting < suc (open-around k))
-    over (inl g) = inl (less (l .values) (suc (begun k)) (subst (λ (z : ℕ). ltb (l .values) z ≡ true) e g))
-    over (inr g) = inr (less (l .nesting) (suc (open-around k)) (subst (λ (z : ℕ). ltb (l .nesting) (suc z) ≡ true) (depth-opened k) g))
-
+-- a complete number that is too large
 beyond-cause
-    : {s r here run : Bytes} {p : Phase} {d : Numeral} {k : Context} → Before s k r → r ≡ run ++ here → Number-steps begin no-digits run p d → complete p ≡ true
+    : {s r here run : Bytes} {p : Phase} {d : Numeral} {k : Context} → Before s k r → r ≡ run ++ here
+    → Number-steps begin no-digits run p d → complete p ≡ true
     → ((b : ℕ) (w : Bytes) → here ≡ b ∷ w → look (next p) b ≡ none) → beyond d ≡ true → Beyond s r
 beyond-cause {here} {run} {d} {k} f e g c h o =
     record {
@@ -85,13 +90,15 @@ refuses-3 pre r e b = refuses pre e (cause-3 pre r e b)
 
 -- a move that tells what has been read, judged
 judge-told
-    : {s kept here r : Bytes} {n : ℕ} {m : Move} (l : Limits) (pre : Bytes) (f : ℕ → Bytes → State → Outcome Bytes Value) → Sound s n kept here r m
+    : {s kept here r : Bytes} {n : ℕ} {m : Move} (l : Limits) (pre : Bytes) (f : ℕ → Bytes → State → Outcome Bytes Value)
+    → Sound s n kept here r m
     → Left s kept → s ≡ pre ++ here → (after m ≡ none → ending m ≡ none → Told l s (refused 3 here))
     → ((n : ℕ) (kept : Bytes) (q : State) → Reached s n kept q r → after m ≡ some q → Left s kept → Told l s (f n kept q))
     → Told l s (judge l n kept here m f)
 unfolding judge after ending
 judge-told l pre f broken-so k e brk on = brk refl refl
-judge-told {s} {kept} {here} {n} l pre f (broken-number-so {k = c} b g a later) (p, h) e brk on = at (full l n (opened c)) refl
+judge-told {s} {kept} {here} {n} l pre f (broken-number-so {k = c} b g a later) (p, h) e brk on =
+    at (full l n (opened c)) refl
   where
     at : (z : Bool) → full l n (opened c) ≡ z → Told l s (elim z [ true ↦ refused 6 kept | false ↦ refused 3 here ])
     at true y = refuses p h (cause-6 p kept h (full-cause b g a y))
@@ -104,18 +111,23 @@ judge-told {s} {kept} {here} {n} l pre f (begins-value {k = c} {q} b g a x) k e 
     at false y = on (suc n) kept q x refl k
 judge-told {here} {n} l pre f (begins-number {q} x) k e brk on = on (suc n) here q x refl (pre, e)
 judge-told {here} {n} l pre f (begins-name {q} x) k e brk on = on n here q x refl (pre, e)
-judge-told {s} {kept} {r} {n} l pre f (ends-name {ns} {k = c} {t} {q} b a x) (p, h) e brk on = at (has-name t (meaning-named ns)) refl
+judge-told {s} {kept} {r} {n} l pre f (ends-name {ns} {k = c} {t} {q} b a x) (p, h) e brk on =
+    at (has-name t (meaning-named ns)) refl
   where
     at : (z : Bool) → has-name t (meaning-named ns) ≡ z → Told l s (elim z [ true ↦ refused 5 kept | false ↦ f n kept q ])
     at true y =
-        refuses p h (cause-5 p kept h (record { context = c; members = ns; before = b; name = t; behind = r; complete = a; listed = y }))
+        refuses p h
+        (cause-5 p kept h
+        (record { context = c; members = ns; before = b; name = t; behind = r; complete = a; listed = y }))
     at false y = on n kept q x refl (p, h)
-judge-told {s} {kept} {here} {n} l pre f (ends-number {k = c} {d} {m} b g a later run y steps full-run none-next x) (p, h) e brk on =
+judge-told {s} {kept} {here} {n} l pre f (ends-number {k = c} {d} {m} b g a later run y steps full-run none-next x)
+    (p, h) e brk on =
     at (beyond d) refl (full l n (opened c)) refl (judge-told l pre f x (p, h) e brk on)
   where
     at
         : (z : Bool) → beyond d ≡ z → (w : Bool) → full l n (opened c) ≡ w → Told l s (judge l n kept here m f)
-        → Told l s (elim z [ true ↦ refused 4 kept | false ↦ elim w [ true ↦ refused 6 kept | false ↦ judge l n kept here m f ] ])
+        → Told l s
+        (elim z [ true ↦ refused 4 kept | false ↦ elim w [ true ↦ refused 6 kept | false ↦ judge l n kept here m f ] ])
     at true o w u t = refuses p h (cause-4 p kept h (beyond-cause b y steps full-run none-next o))
     at false o true u t = refuses p h (cause-6 p kept h (full-cause b g a u))
     at false o false u t = t
@@ -139,11 +151,13 @@ one-more pre b r e = e ∙ sym (append-assoc pre (b ∷ []) r)
 
 -- from any state that a scan reaches
 scan-told
-    : {s kept : Bytes} {n : ℕ} {q : State} (l : Limits) (pre r : Bytes) → s ≡ pre ++ r → Walk start pre q → Left s kept → Reached s n kept q r
+    : {s kept : Bytes} {n : ℕ} {q : State} (l : Limits) (pre r : Bytes) → s ≡ pre ++ r → Walk start pre q → Left s kept
+    → Reached s n kept q r
     → Told l s (scan l n kept q r)
 unfolding scan
 scan-told {s} {q} l pre [] e w k x =
-    judge-told l pre (λ n kept q. refused 3 []) (end-sound x) k e (λ a h. ended h) (λ n kept p y a h. ended (after-ending (end-move q) a))
+    judge-told l pre (λ n kept q. refused 3 []) (end-sound x) k e (λ a h. ended h)
+    (λ n kept p y a h. ended (after-ending (end-move q) a))
   where
     ended : ending (end-move q) ≡ none → Told l s (refused 3 [])
     ended h = refuses-3 pre [] e (at-end (walk-begins w) (walk-unfinished w h))

@@ -1,12 +1,11 @@
 -- Left contexts and what is open in a scan: what stands around a value as trees and as values; white space behind a
 -- context; closing an array or an object. Assumes nothing.
-use Prim.Native.Nat.{ℕ, zero, suc, _+_}
+use Prim.Native.Nat.{ℕ, suc, _+_}
 use native.Mathlib.Omega.{arith}
-use native.Mathlib.Nat.{add-zero}
-use mathlib.Core.Path.{_≡_, refl, sym, _∙_, ap}
-use mathlib.Core.List.{List, [], _∷_, _++_}
+use mathlib.Core.Path.{_≡_, refl, _∙_, ap}
+use mathlib.Core.List.{_∷_}
 use Rattle.definitions.specs.Bytes.{Bytes}
-use Rattle.definitions.specs.Value.{Value, Items, no-items, item, items-onto, Members, no-members, member, members-onto, size, size-items, size-members}
+use Rattle.definitions.specs.Value.{Items, no-items, item, items-onto, Members, no-members, member, members-onto, size, size-items, size-members}
 use Rattle.definitions.specs.Json.{Open, root, in-list, in-rec, depth}
 use Rattle.laws.specs.Tree.{Tree, Trees, no-trees, tree, Named, no-named, named, meaning, meaning-trees, meaning-named}
 use Rattle.laws.specs.Rfc8259 as Rfc
@@ -41,7 +40,8 @@ unfolding meaning trees-onto items-onto
 meaning-trees-onto no-trees us = refl
 meaning-trees-onto (tree x ts) us = meaning-trees-onto ts (tree x us)
 
-pub meaning-named-onto : (ns ms : Named) → meaning-named (named-onto ns ms) ≡ members-onto (meaning-named ns) (meaning-named ms)
+pub meaning-named-onto
+    : (ns ms : Named) → meaning-named (named-onto ns ms) ≡ members-onto (meaning-named ns) (meaning-named ms)
 unfolding meaning named-onto members-onto
 meaning-named-onto no-named ms = refl
 meaning-named-onto (named n x ns) ms = meaning-named-onto ns (named n x ms)
@@ -50,14 +50,16 @@ pub size-items-onto : (vs us : Items) → size-items (items-onto vs us) ≡ size
 unfolding size items-onto
 size-items-onto no-items us = omega arith
 size-items-onto (item v vs) us =
-    let ih : size-items (items-onto vs (item v us)) ≡ size-items vs + (size v + size-items us) = size-items-onto vs (item v us) in
+    let ih : size-items (items-onto vs (item v us)) ≡ size-items vs + (size v + size-items us) =
+    size-items-onto vs (item v us) in
     omega arith
 
 pub size-members-onto : (ms us : Members) → size-members (members-onto ms us) ≡ size-members ms + size-members us
 unfolding size members-onto
 size-members-onto no-members us = omega arith
 size-members-onto (member n v ms) us =
-    let ih : size-members (members-onto ms (member n v us)) ≡ size-members ms + (size v + size-members us) = size-members-onto ms (member n v us) in
+    let ih : size-members (members-onto ms (member n v us)) ≡ size-members ms + (size v + size-members us) =
+    size-members-onto ms (member n v us) in
     omega arith
 
 -- ---- counts
@@ -86,12 +88,14 @@ module _ {n : ℕ} (k : Context) where
   unfolding meaning size
   count-no-object e = omega arith
 
-  pub count-value : (ts : Trees) (x : Tree) → n ≡ begun (in-array ts k) + size (meaning x) → n ≡ begun (in-array (tree x ts) k)
+  pub count-value
+      : (ts : Trees) (x : Tree) → n ≡ begun (in-array ts k) + size (meaning x) → n ≡ begun (in-array (tree x ts) k)
   unfolding begun meaning size
   count-value ts x e = omega arith
 
   pub count-member
-      : (ns : Named) (m : Bytes) (x : Tree) → n ≡ begun (in-object ns m k) + size (meaning x) → n ≡ begun-named (named m x ns) k
+      : (ns : Named) (m : Bytes) (x : Tree) → n ≡ begun (in-object ns m k) + size (meaning x)
+      → n ≡ begun-named (named m x ns) k
   unfolding begun meaning size
   count-member ns m x e = omega arith
 
@@ -100,8 +104,10 @@ module _ {n : ℕ} (k : Context) where
       → n ≡ begun k + size (meaning (Tree.list (trees-onto ts (tree x no-trees))))
   unfolding begun meaning size
   count-array-end ts x e =
-      let h : size-items (meaning-trees (trees-onto ts (tree x no-trees))) ≡ size-items (meaning-trees ts) + (size (meaning x) + 0) =
-      ap size-items (meaning-trees-onto ts (tree x no-trees)) ∙ size-items-onto (meaning-trees ts) (item (meaning x) no-items) in
+      let h : size-items (meaning-trees (trees-onto ts (tree x no-trees))) ≡ size-items (meaning-trees ts) +
+      (size (meaning x) + 0) =
+      ap size-items (meaning-trees-onto ts (tree x no-trees))
+      ∙ size-items-onto (meaning-trees ts) (item (meaning x) no-items) in
       omega arith
 
   pub count-object-end
@@ -109,8 +115,10 @@ module _ {n : ℕ} (k : Context) where
       → n ≡ begun k + size (meaning (Tree.rec (named-onto ns (named m x no-named))))
   unfolding begun meaning size
   count-object-end ns m x e =
-      let h : size-members (meaning-named (named-onto ns (named m x no-named))) ≡ size-members (meaning-named ns) + (size (meaning x) + 0) =
-      ap size-members (meaning-named-onto ns (named m x no-named)) ∙ size-members-onto (meaning-named ns) (member m (meaning x) no-members) in
+      let h : size-members (meaning-named (named-onto ns (named m x no-named))) ≡ size-members (meaning-named ns) +
+      (size (meaning x) + 0) =
+      ap size-members (meaning-named-onto ns (named m x no-named))
+      ∙ size-members-onto (meaning-named ns) (member m (meaning x) no-members) in
       omega arith
 
 -- ---- white space behind
@@ -131,7 +139,8 @@ before-next (Before.first-value f w) c = Before.first-value f (structural-next w
 before-next (Before.next-value f v w) c = Before.next-value f v (structural-next w c)
 before-next (Before.member-value f n w) c = Before.member-value f n (structural-next w c)
 
-pub before-name-next : {b : ℕ} {s r : Bytes} {ns : Named} {k : Context} → Before-name s ns k (b ∷ r) → ws-char b → Before-name s ns k r
+pub before-name-next
+    : {b : ℕ} {s r : Bytes} {ns : Named} {k : Context} → Before-name s ns k (b ∷ r) → ws-char b → Before-name s ns k r
 before-name-next (Before-name.first-name f w) c = Before-name.first-name f (structural-next w c)
 before-name-next (Before-name.next-name f v w) c = Before-name.next-name f v (structural-next w c)
 

@@ -1,9 +1,9 @@
 -- What the grammar leaves is shorter than what it began with. Assumes nothing.
-use Prim.Native.Nat.{ℕ, zero, suc, _+_, _<_, _≤_}
+use Prim.Native.Nat.{ℕ, suc, _+_, _<_, _≤_}
 use native.Mathlib.Omega.{arith}
-use mathlib.Core.Path.{_≡_, refl, _∙_, ap}
-use mathlib.Core.Bool.{true, false, false≢true}
-use mathlib.Core.List.{List, [], _∷_, _++_}
+use mathlib.Core.Path.{_≡_, _∙_, ap}
+use mathlib.Core.Bool.{true, false≢true}
+use mathlib.Core.List.{_∷_, _++_}
 use lib.ListN.{length, length-append}
 use Rattle.definitions.specs.Bytes.{Bytes}
 use Rattle.definitions.specs.Number.{Numeral, Phase, begin, no-digits, complete}
@@ -34,7 +34,9 @@ pub number-length : {s r : Bytes} {d : Numeral} → Rfc.number s d r → length 
 unfolding complete
 number-length {s} {r} n = let (xs, p, e, f, c) = number-steps n in more xs p e f c
   where
-    more : {d : Numeral} (xs : Bytes) (p : Phase) → s ≡ xs ++ r → Number-steps begin no-digits xs p d → complete p ≡ true → length r < length s
+    more
+        : {d : Numeral} (xs : Bytes) (p : Phase) → s ≡ xs ++ r → Number-steps begin no-digits xs p d → complete p ≡ true
+        → length r < length s
     more xs p e number-stay c = absurd (false≢true c)
     more xs p e (number-then {xs = ys} {b} g f) c =
         let h : length s ≡ length (b ∷ ys) + length r = ap length e ∙ length-append (b ∷ ys) r in

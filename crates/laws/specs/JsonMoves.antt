@@ -1,16 +1,16 @@
 -- Reading a document with its tests left open: the same scan, once with the paper's limits and once with none, and the
 -- states that it passes through. Assumes nothing.
-use Prim.Native.Nat.{ℕ, zero, suc}
-use mathlib.Core.Path.{Path, _≡_, refl, sym, _∙_, ap, subst}
+use Prim.Native.Nat.{ℕ, suc}
+use mathlib.Core.Path.{Path, _≡_, refl, ap, subst}
 use mathlib.Core.Bool.{Bool, true, false}
-use mathlib.Core.List.{List, [], _∷_, _++_}
+use mathlib.Core.List.{[], _∷_, _++_}
 use mathlib.Core.Option.{Option, none, some}
 use Rattle.definitions.specs.declared.Limits.{Limits}
 use Rattle.definitions.specs.Bytes.{Bytes}
 use Rattle.definitions.specs.Outcome.{Outcome, ok, refused}
 use Rattle.definitions.specs.Number.{Numeral, beyond}
 use Rattle.definitions.specs.Value.{Value, Members, has-name}
-use Rattle.definitions.specs.Json.{Open, root, Gap, Role, State, gap, Move, broken, broken-number, go, begin-value, begin-number, begin-name, end-name, end-number, end-text, move, end-move, full, judge, scan}
+use Rattle.definitions.specs.Json.{Open, State, Move, broken, broken-number, go, begin-value, begin-number, begin-name, end-name, end-number, end-text, move, end-move, full, judge, scan}
 
 -- ---- tests
 
@@ -29,7 +29,8 @@ unfoldable pub free : Tests
 free = record { over = λ d. false; crowded = λ n o. false; twice = λ t ms. false }
 
 -- `judge` by these tests
-unfoldable pub judge-by : Tests → (n : ℕ) (kept s : Bytes) → Move → (ℕ → Bytes → State → Outcome Bytes Value) → Outcome Bytes Value
+unfoldable pub judge-by
+    : Tests → (n : ℕ) (kept s : Bytes) → Move → (ℕ → Bytes → State → Outcome Bytes Value) → Outcome Bytes Value
 judge-by j n kept s broken on = refused 3 s
 judge-by j n kept s (broken-number o) on = elim (j .crowded n o) [ true ↦ refused 6 kept | false ↦ refused 3 s ]
 judge-by j n kept s (go q) on = on n kept q
@@ -55,18 +56,21 @@ abbrev Go : Type 0
 Go = ℕ → Bytes → State → Outcome Bytes Value
 
 pub judge-limited
-    : (l : Limits) (n : ℕ) (kept s : Bytes) (m : Move) (f g : Go) → ((n : ℕ) (kept : Bytes) (q : State) → f n kept q ≡ g n kept q)
+    : (l : Limits) (n : ℕ) (kept s : Bytes) (m : Move) (f g : Go)
+    → ((n : ℕ) (kept : Bytes) (q : State) → f n kept q ≡ g n kept q)
     → judge l n kept s m f ≡ judge-by (limited l) n kept s m g
 unfolding judge judge-by limited
 judge-limited l n kept s broken f g e = refl
 judge-limited l n kept s (broken-number o) f g e = refl
 judge-limited l n kept s (go q) f g e = e n kept q
 judge-limited l n kept s (begin-value o q) f g e =
-    ap (λ (z : Outcome Bytes Value). elim (full l (suc n) o) as (λ b. Outcome Bytes Value) [ true ↦ refused 6 s | false ↦ z ]) (e (suc n) kept q)
+    ap (λ (z : Outcome Bytes Value). elim (full l (suc n) o) as
+    (λ b. Outcome Bytes Value) [ true ↦ refused 6 s | false ↦ z ]) (e (suc n) kept q)
 judge-limited l n kept s (begin-number q) f g e = e (suc n) s q
 judge-limited l n kept s (begin-name q) f g e = e n s q
 judge-limited l n kept s (end-name t ms q) f g e =
-    ap (λ (z : Outcome Bytes Value). elim (has-name t ms) as (λ b. Outcome Bytes Value) [ true ↦ refused 5 kept | false ↦ z ]) (e n kept q)
+    ap (λ (z : Outcome Bytes Value). elim (has-name t ms) as
+    (λ b. Outcome Bytes Value) [ true ↦ refused 5 kept | false ↦ z ]) (e n kept q)
 judge-limited l n kept s (end-number d o m) f g e =
     ap
     (λ (z : Outcome Bytes Value).
@@ -80,9 +84,11 @@ judge-limited l n kept s (end-text v) f g e = refl
 pub scan-limited
     : (l : Limits) (n : ℕ) (kept : Bytes) (q : State) (s : Bytes) → scan l n kept q s ≡ scan-by (limited l) n kept q s
 unfolding scan scan-by
-scan-limited l n kept q [] = judge-limited l n kept [] (end-move q) (λ n′ kept′ q′. refused 3 []) (λ n′ kept′ q′. refused 3 []) (λ n′ kept′ q′. refl)
+scan-limited l n kept q [] =
+    judge-limited l n kept [] (end-move q) (λ n′ kept′ q′. refused 3 []) (λ n′ kept′ q′. refused 3 []) (λ n′ kept′ q′. refl)
 scan-limited l n kept q (b ∷ r) =
-    judge-limited l n kept (b ∷ r) (move q b) (λ n′ kept′ q′. scan l n′ kept′ q′ r) (λ n′ kept′ q′. scan-by (limited l) n′ kept′ q′ r)
+    judge-limited l n kept (b ∷ r) (move q b) (λ n′ kept′ q′. scan l n′ kept′ q′ r)
+    (λ n′ kept′ q′. scan-by (limited l) n′ kept′ q′ r)
     (λ n′ kept′ q′. scan-limited l n′ kept′ q′ r)
 
 -- ---- outcomes told apart

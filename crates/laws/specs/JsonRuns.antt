@@ -1,22 +1,23 @@
 -- A scan runs over white space, structural characters, strings and numbers: from the start of each it goes on behind it.
 -- Assumes nothing.
-use Prim.Native.Nat.{ℕ, zero, suc}
+use Prim.Native.Nat.{ℕ}
 use mathlib.Core.Path.{_≡_, refl, sym, _∙_, ap, subst}
-use mathlib.Core.Bool.{Bool, true, false}
-use mathlib.Core.List.{List, [], _∷_, _++_, reverse, reverse-reverse, nil≢cons, head-eq-of-cons-eq}
-use mathlib.Core.Option.{Option, none, some, Option·none-ne-some, Option·some-injective}
+use mathlib.Core.Bool.{true, false}
+use mathlib.Core.List.{[], _∷_, _++_, reverse, reverse-reverse, nil≢cons, head-eq-of-cons-eq}
+use mathlib.Core.Option.{none, some, Option·none-ne-some, Option·some-injective}
 use Rattle.definitions.specs.Bytes.{Bytes, between, look, is, white, white-table, found}
-use Rattle.definitions.specs.Outcome.{Outcome, ok, refused}
-use Rattle.definitions.specs.Text.{Inside, Text-move, text-step, char-step}
+use Rattle.definitions.specs.Outcome.{Outcome, refused}
+use Rattle.definitions.specs.Text.{Inside, text-step, char-step}
 use Rattle.definitions.specs.Number.{Numeral, no-digits, number-of, Phase, begin, next, int-rows, e-rows, complete, extend}
 use Rattle.definitions.specs.Value.{Value, Items, no-items, items-onto, Members, no-members, members-onto}
-use Rattle.definitions.specs.Json.{Open, in-list, in-rec, Gap, Role, State, put, Move, value-move, name-move, token-move, gap-move, close-move, text-move, number-end, move, gap-end, end-move}
+use Rattle.definitions.specs.Json.{Open, in-list, in-rec, Gap, Role, State, put, Move, spell, value-move, name-move, token-move, gap-move, close-move, text-move, number-end, move, gap-end, end-move}
 use Rattle.laws.specs.Tree.{Trees, Named}
 use Rattle.laws.specs.Rfc8259 as Rfc
 use Rattle.laws.specs.Rfc8259.{ws-char, ws, ws-none, ws-more, structural, char-of}
 use Rattle.laws.specs.Steps.{Text-steps, text-stay, text-then, Number-steps, number-stay, number-then}
 use Rattle.laws.specs.StringTokens.{chars-steps}
-use Rattle.laws.specs.JsonBytes.{is-cases, white-cases, space-white, space-no-digit, Value-byte, quote, bracket, brace, letter-t, letter-f, letter-n, digit, nothing, value-byte}
+use Rattle.laws.specs.Ranges.{eq-eqb}
+use Rattle.laws.specs.JsonBytes.{pick-true, pick-false, pick-none, pick-some, is-cases, white-cases, space-white, space-no-digit, Value-byte, quote, bracket, brace, letter-t, letter-f, letter-n, digit, nothing, value-byte}
 use Rattle.laws.specs.JsonMoves.{Tests, judge-by, scan-by}
 
 -- ---- where a number ends
@@ -27,7 +28,8 @@ pub data Stop : Bytes → Type 0 where
   stop-byte : {b : ℕ} {r : Bytes} → ((p : Phase) → look (next p) b ≡ none) → Stop (b ∷ r)
 
 phases
-    : (P : Phase → Type 0) → P Phase.begin → P Phase.after-minus → P Phase.after-zero → P Phase.in-int → P Phase.after-point → P Phase.in-frac
+    : (P : Phase → Type 0) → P Phase.begin → P Phase.after-minus → P Phase.after-zero → P Phase.in-int → P Phase.after-point
+    → P Phase.in-frac
     → P Phase.after-e → P Phase.after-sign → P Phase.in-exp → (p : Phase) → P p
 phases P a b c d e f g h i Phase.begin = a
 phases P a b c d e f g h i Phase.after-minus = b
@@ -92,7 +94,7 @@ takes-value o b e = refl
 
 pub takes-item : (o : Open) → Takes (Gap.first-item o) (in-list no-items o)
 unfolding token-move
-takes-item o b e = ap (λ (z : Bool). elim z as (λ y. Move) [ true ↦ Move.go (State.gap (put (Value.list no-items) o)) | false ↦ value-move (in-list no-items o) b ]) e
+takes-item o b e = pick-false _ _ e
 
 -- in this gap a name may begin behind these members
 abbrev pub Names : Gap → Members → Open → Type 0
@@ -109,7 +111,7 @@ names-next ms o = refl
 -- a byte that is no white space and no closing bracket
 pub takes-byte : (g : Gap) (o : Open) (b : ℕ) → Takes g o → white b ≡ false → is "]" b ≡ false → gap-move g b ≡ value-move o b
 unfolding gap-move
-takes-byte g o b t w e = ap (λ (z : Bool). elim z as (λ y. Move) [ true ↦ Move.go (State.gap g) | false ↦ token-move g b ]) w ∙ t b e
+takes-byte g o b t w e = pick-false _ _ w ∙ t b e
 
 digit-byte
     : {o : Open} {b : ℕ} {m : Move} {p : Phase} → Value-byte o b m → look (next begin) b ≡ some p
@@ -122,7 +124,8 @@ digit-byte {p} letter-t e = absurd (Option·none-ne-some p e)
 digit-byte {p} letter-f e = absurd (Option·none-ne-some p e)
 digit-byte {p} letter-n e = absurd (Option·none-ne-some p e)
 digit-byte {o} {b} {p} (digit {p = p′} f) e =
-    ap (λ (z : Phase). Move.begin-number (State.in-number z (extend z no-digits b) o)) (Option·some-injective p′ p (sym f ∙ e))
+    ap (λ (z : Phase). Move.begin-number (State.in-number z (extend z no-digits b) o))
+    (Option·some-injective p′ p (sym f ∙ e))
 digit-byte {p} (nothing f) e = absurd (Option·none-ne-some p (sym f ∙ e))
 
 -- the first byte of a number
@@ -132,7 +135,8 @@ pub takes-digit
 unfolding look next int-rows between
 takes-digit g o b {p} t e =
     takes-byte g o b t (white-cases (λ z. z ≡ false) b (λ c. absurd (space-no-digit e c)) refl)
-    (is-cases (λ z. z ≡ false) "]" b (λ f. absurd (Option·none-ne-some p (subst (λ (z : ℕ). look (next begin) z ≡ some p) f e))) refl)
+    (is-cases (λ z. z ≡ false) "]" b
+    (λ f. absurd (Option·none-ne-some p (subst (λ (z : ℕ). look (next begin) z ≡ some p) f e))) refl)
     ∙ digit-byte (value-byte o b) e
 
 -- ---- the structural characters
@@ -142,11 +146,14 @@ pub bracket-first : (o : Open) → gap-move (Gap.first-item o) 0x5D ≡ Move.go 
 unfolding gap-move token-move is white white-table found look between
 bracket-first o = refl
 
-pub bracket-after : (vs : Items) (o : Open) → gap-move (Gap.after-item vs o) 0x5D ≡ Move.go (State.gap (put (Value.list (items-onto vs no-items)) o))
+pub bracket-after
+    : (vs : Items) (o : Open)
+    → gap-move (Gap.after-item vs o) 0x5D ≡ Move.go (State.gap (put (Value.list (items-onto vs no-items)) o))
 unfolding gap-move token-move is white white-table found look between
 bracket-after vs o = refl
 
-pub comma-after : (vs : Items) (o : Open) → gap-move (Gap.after-item vs o) 0x2C ≡ Move.go (State.gap (Gap.value (in-list vs o)))
+pub comma-after
+    : (vs : Items) (o : Open) → gap-move (Gap.after-item vs o) 0x2C ≡ Move.go (State.gap (Gap.value (in-list vs o)))
 unfolding gap-move token-move is white white-table found look between
 comma-after vs o = refl
 
@@ -154,22 +161,27 @@ pub brace-first : (o : Open) → gap-move (Gap.first-name o) 0x7D ≡ Move.go (S
 unfolding gap-move token-move is white white-table found look between
 brace-first o = refl
 
-pub brace-after : (ms : Members) (o : Open) → gap-move (Gap.after-member ms o) 0x7D ≡ Move.go (State.gap (put (Value.rec (members-onto ms no-members)) o))
+pub brace-after
+    : (ms : Members) (o : Open)
+    → gap-move (Gap.after-member ms o) 0x7D ≡ Move.go (State.gap (put (Value.rec (members-onto ms no-members)) o))
 unfolding gap-move token-move is white white-table found look between
 brace-after ms o = refl
 
-pub comma-member : (ms : Members) (o : Open) → gap-move (Gap.after-member ms o) 0x2C ≡ Move.go (State.gap (Gap.next-name ms o))
+pub comma-member
+    : (ms : Members) (o : Open) → gap-move (Gap.after-member ms o) 0x2C ≡ Move.go (State.gap (Gap.next-name ms o))
 unfolding gap-move token-move is white white-table found look between
 comma-member ms o = refl
 
-pub colon-name : (ms : Members) (n : Bytes) (o : Open) → gap-move (Gap.colon ms n o) 0x3A ≡ Move.go (State.gap (Gap.value (in-rec ms n o)))
+pub colon-name
+    : (ms : Members) (n : Bytes) (o : Open)
+    → gap-move (Gap.colon ms n o) 0x3A ≡ Move.go (State.gap (Gap.value (in-rec ms n o)))
 unfolding gap-move token-move is white white-table found look between
 colon-name ms n o = refl
 
 -- white space
 pub space-move : (g : Gap) {b : ℕ} → ws-char b → gap-move g b ≡ Move.go (State.gap g)
 unfolding gap-move
-space-move g {b} c = ap (λ (z : Bool). elim z as (λ y. Move) [ true ↦ Move.go (State.gap g) | false ↦ token-move g b ]) (space-white c)
+space-move g c = pick-true _ _ (space-white c)
 
 -- behind the longest run of a complete number
 pub number-ends
@@ -177,7 +189,26 @@ pub number-ends
     → number-end p d o behind ≡ Move.end-number d o (behind (put (Value.number (number-of d)) o))
 unfolding number-end
 number-ends p d o behind c =
-    ap (λ (z : Bool). elim z as (λ x. Move) [ true ↦ Move.end-number d o (behind (put (Value.number (number-of d)) o)) | false ↦ Move.broken-number o ]) c
+    pick-true (Move.end-number d o (behind (put (Value.number (number-of d)) o))) (Move.broken-number o) c
+
+-- inside a number: a byte that goes on with it, and one that doesn't
+pub number-next
+    : {q : Phase} (p : Phase) (d : Numeral) (o : Open) (b : ℕ) → look (next p) b ≡ some q
+    → move (State.in-number p d o) b ≡ Move.go (State.in-number q (extend q d b) o)
+unfolding move
+number-next p d o b e = pick-some _ (λ q. Move.go (State.in-number q (extend q d b) o)) e
+
+pub number-behind
+    : (p : Phase) (d : Numeral) (o : Open) (b : ℕ) → look (next p) b ≡ none → complete p ≡ true
+    → move (State.in-number p d o) b ≡ Move.end-number d o (gap-move (put (Value.number (number-of d)) o) b)
+unfolding move
+number-behind p d o b e c =
+    pick-none _ (λ q. Move.go (State.in-number q (extend q d b) o)) e ∙ number-ends p d o (λ g. gap-move g b) c
+
+-- inside a literal name: the byte that must come
+pub word-next : (c : ℕ) (cs : Bytes) (v : Value) (o : Open) → move (State.in-literal c cs v o) c ≡ Move.go (spell cs v o)
+unfolding move
+word-next c cs v o = pick-true _ _ (eq-eqb {m = c} {n = c} refl)
 
 -- ---- runs
 
@@ -189,7 +220,9 @@ module _ (j : Tests) (n : ℕ) (kept : Bytes) where
   unfolding scan-by
   move-run q b s e = ap (λ (m : Move). judge-by j n kept (b ∷ s) m (λ n′ kept′ q′. scan-by j n′ kept′ q′ s)) e
 
-  pub go-run : {q : State} (g : Gap) (b : ℕ) (s : Bytes) → gap-move g b ≡ Move.go q → scan-by j n kept (State.gap g) (b ∷ s) ≡ scan-by j n kept q s
+  pub go-run
+      : {q : State} (g : Gap) (b : ℕ) (s : Bytes) → gap-move g b ≡ Move.go q
+      → scan-by j n kept (State.gap g) (b ∷ s) ≡ scan-by j n kept q s
   unfolding move judge-by
   go-run g b s e = move-run (State.gap g) b s e
 
@@ -209,7 +242,8 @@ module _ (j : Tests) (n : ℕ) (kept : Bytes) where
       → scan-by j n kept (State.in-text r i a) (xs ++ y) ≡ scan-by j n kept (State.in-text r k c) y
   unfolding move judge-by text-move
   text-run r y text-stay = refl
-  text-run r y (text-then {i} {a} {xs} {b} e f) = move-run (State.in-text r i a) b (xs ++ y) (ap (text-move r a) e) ∙ text-run r y f
+  text-run r y (text-then {i} {a} {xs} {b} e f) =
+      move-run (State.in-text r i a) b (xs ++ y) (ap (text-move r a) e) ∙ text-run r y f
 
   -- a text and its closing quote
   pub close-run
@@ -219,7 +253,8 @@ module _ (j : Tests) (n : ℕ) (kept : Bytes) where
   unfolding move text-move text-step char-step is
   close-run {t} {r} w c =
       let (xs, e, f) = chars-steps c in
-      ap (scan-by j n kept (State.in-text w Inside.chars [])) e ∙ text-run w (0x22 ∷ r) f ∙ move-run (State.in-text w Inside.chars (reverse t)) 0x22 r (ap (close-move w) (reverse-reverse t))
+      ap (scan-by j n kept (State.in-text w Inside.chars [])) e ∙ text-run w (0x22 ∷ r) f
+      ∙ move-run (State.in-text w Inside.chars (reverse t)) 0x22 r (ap (close-move w) (reverse-reverse t))
 
   -- inside a number
   pub number-run
@@ -229,8 +264,7 @@ module _ (j : Tests) (n : ℕ) (kept : Bytes) where
   number-run o y number-stay = refl
   number-run o y (number-then {p} {d} {xs} {b} e f) =
       move-run (State.in-number p d o) b (xs ++ y)
-      (ap (λ (z : Option Phase). elim z as (λ x. Move) [ some q ↦ Move.go (State.in-number q (extend q d b) o) | none ↦ number-end p d o (λ g. gap-move g b) ]) e)
-      ∙ number-run o y f
+      (number-next p d o b e) ∙ number-run o y f
 
   -- what judging a complete number comes to
   abbrev pub Judged : Numeral → Open → Outcome Bytes Value → Outcome Bytes Value
@@ -242,18 +276,22 @@ module _ (j : Tests) (n : ℕ) (kept : Bytes) where
 
   -- behind a number that goes on with no byte that is left
   pub number-stops
-      : (p : Phase) (d : Numeral) (o : Open) (u : Bytes) → complete p ≡ true → ((b : ℕ) (w : Bytes) → u ≡ b ∷ w → look (next p) b ≡ none)
-      → scan-by j n kept (State.in-number p d o) u ≡ Judged d o (scan-by j n kept (State.gap (put (Value.number (number-of d)) o)) u)
-  unfolding scan-by judge-by move end-move number-end
-  number-stops p d o [] c h = ap (λ (m : Move). judge-by j n kept [] m (λ n′ kept′ q′. refused 3 [])) (number-ends p d o gap-end c)
+      : (p : Phase) (d : Numeral) (o : Open) (u : Bytes) → complete p ≡ true
+      → ((b : ℕ) (w : Bytes) → u ≡ b ∷ w → look (next p) b ≡ none)
+      → scan-by j n kept (State.in-number p d o) u ≡ Judged d o
+      (scan-by j n kept (State.gap (put (Value.number (number-of d)) o)) u)
+  unfolding scan-by judge-by move end-move
+  number-stops p d o [] c h =
+      ap (λ (m : Move). judge-by j n kept [] m (λ n′ kept′ q′. refused 3 [])) (number-ends p d o gap-end c)
   number-stops p d o (b ∷ r) c h =
       move-run (State.in-number p d o) b r
-      (ap (λ (z : Option Phase). elim z as (λ x. Move) [ some q ↦ Move.go (State.in-number q (extend q d b) o) | none ↦ number-end p d o (λ g. gap-move g b) ]) (h b r refl)
-      ∙ number-ends p d o (λ g. gap-move g b) c)
+      (number-behind p d o b (h b r refl) c)
 
 -- from a name's opening quote to behind its closing one
 pub name-run
     : {s m t : Bytes} (j : Tests) (n : ℕ) (kept : Bytes) (g : Gap) (ms : Members) (o : Open) → Rfc.string s m t → Names g ms o
-    → scan-by j n kept (State.gap g) s ≡ elim (j .twice m ms) [ true ↦ refused 5 s | false ↦ scan-by j n s (State.gap (Gap.colon ms m o)) t ]
+    → scan-by j n kept (State.gap g) s ≡ elim
+    (j .twice m ms) [ true ↦ refused 5 s | false ↦ scan-by j n s (State.gap (Gap.colon ms m o)) t ]
 unfolding move judge-by gap-move close-move white white-table found look between
-name-run j n kept g ms o (Rfc.quoted {s} c) k = move-run j n kept (State.gap g) 0x22 s k ∙ close-run j n (0x22 ∷ s) (Role.as-name ms o) c
+name-run j n kept g ms o (Rfc.quoted {s} c) k =
+    move-run j n kept (State.gap g) 0x22 s k ∙ close-run j n (0x22 ∷ s) (Role.as-name ms o) c

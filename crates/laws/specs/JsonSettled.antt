@@ -1,19 +1,19 @@
 -- A cause of refusals 4 to 6 settles what reading comes to: a refusal there with no larger number, or one before.
 -- Assumes nothing.
-use Prim.Native.Nat.{ℕ, zero, suc, _+_, _<_, _≤_, zero-le}
+use Prim.Native.Nat.{ℕ, suc, _<_, _≤_, zero-le}
 use native.Mathlib.Nat.{le-refl}
-use mathlib.Core.Path.{_≡_, refl, sym, _∙_, ap, subst}
+use mathlib.Core.Path.{_≡_, refl, sym, _∙_, subst}
 use mathlib.Core.Logic.{_⊎_, inl, inr}
 use mathlib.Core.Bool.{Bool, true, false, _||_, false≢true}
-use mathlib.Core.List.{List, [], _∷_, _++_, append-nil, append-assoc, append-cancel-right, head-eq-of-cons-eq}
+use mathlib.Core.List.{[], _∷_, _++_, append-nil, append-cancel-right, head-eq-of-cons-eq}
 use mathlib.Core.Option.{Option, none, some}
-use lib.Dec.{T, ltb, lt→ltb, lit≤}
+use lib.Dec.{ltb, lit≤}
 use lib.ListN.{length}
 use Rattle.definitions.specs.declared.Limits.{Limits}
 use Rattle.definitions.specs.Bytes.{Bytes, bytes, between, look, is, white, white-table, found}
-use Rattle.definitions.specs.Outcome.{Outcome, ok, refused}
+use Rattle.definitions.specs.Outcome.{Outcome, refused}
 use Rattle.definitions.specs.Number.{Numeral, no-digits, beyond, number-of, Phase, begin, next, complete, extend}
-use Rattle.definitions.specs.Value.{Value, has-name}
+use Rattle.definitions.specs.Value.{Value}
 use Rattle.definitions.specs.Json.{Open, Gap, State, put, Move, spell, true-name, false-name, null-name, value-rows, value-move, gap-move, gap-end, number-end, move, end-move, depth, full}
 use Rattle.laws.specs.Bools.{or-left, or-right}
 use Rattle.laws.specs.Tree.{Tree, meaning-named}
@@ -21,11 +21,14 @@ use Rattle.laws.specs.Rfc8259 as Rfc
 use Rattle.laws.specs.Rfc8259.{ws-char, ws, ws-none, ws-more, char-of}
 use Rattle.laws.specs.Steps.{Number-steps, number-stay, number-then, number-steps-append}
 use Rattle.laws.specs.NumberTokens.{number-steps, number-sound, number-live, number-first}
+use Rattle.laws.specs.Ranges.{le-leb}
 use Rattle.laws.specs.Causes.{Context, begun, open-around, Beyond, Again, Full}
+use Rattle.laws.specs.JsonBytes.{pick-true}
 use Rattle.laws.specs.JsonMoves.{Tests, limited, judge-by, scan-by}
 use Rattle.laws.specs.JsonContext.{opened, depth-opened, begun-named}
-use Rattle.laws.specs.JsonRuns.{Takes, takes-byte, takes-digit, move-run, name-run, Judged}
-use Rattle.laws.specs.JsonForward.{Ends, arrives, halts, number-judged}
+use Rattle.laws.specs.JsonRuns.{Takes, takes-byte, takes-digit, move-run, name-run}
+use Rattle.laws.specs.JsonEnds.{arrives, halts}
+use Rattle.laws.specs.JsonForward.{number-judged}
 use Rattle.laws.specs.JsonLive.{start}
 use Rattle.laws.specs.JsonBefore.{await, await-takes, await-name, await-names, Comes, before-comes, name-comes}
 
@@ -39,7 +42,8 @@ pub data Settled (r : Bytes) (m : ℕ) : Outcome Bytes Value → Type 0 where
 -- a scan that is refused at r once it comes there
 settle
     : (j : Tests) (s r : Bytes) (i : ℕ) (g : Gap) (m : ℕ) → Comes j s i g r
-    → ((kept : Bytes) → (n : ℕ) × (scan-by j i kept (State.gap g) r ≡ refused n r) × (n ≤ m)) → Settled r m (scan-by j 0 s start s)
+    → ((kept : Bytes) → (n : ℕ) × (scan-by j i kept (State.gap g) r ≡ refused n r) × (n ≤ m))
+    → Settled r m (scan-by j 0 s start s)
 settle j s r i g m (true, arrives kept e) h = let (n, f, k) = h kept in there n (e ∙ f) k
 settle j s r i g m (false, halts n w e k) h = before n w e k
 
@@ -57,7 +61,9 @@ run-ends {p} {d} b (number-then {xs} {b = a} e f) c h = at (look (next p) b) ref
         : {q : Phase} → look (next p) b ≡ some q
         → (ys : Bytes) × (u : Phase) × (k : Numeral) × Number-steps q (extend q d b) ys u k × (complete u ≡ true) → ⊥
     longer g (ys, u, k, more, y) =
-        h k ys [] (subst (λ (z : Bytes). Rfc.number z k []) (append-nil (a ∷ (xs ++ b ∷ ys))) (number-sound (number-steps-append (number-then e f) (number-then g more)) y [])) zero-le
+        h k ys []
+        (subst (λ (z : Bytes). Rfc.number z k []) (append-nil (a ∷ (xs ++ b ∷ ys)))
+        (number-sound (number-steps-append (number-then e f) (number-then g more)) y [])) zero-le
 
     at : (z : Option Phase) → look (next p) b ≡ z → look (next p) b ≡ none
     at none g = g
@@ -69,12 +75,14 @@ beyond-settled {s} {r} l c =
     let k = c .context in
     let (xs, p, e, f, y) = number-steps (c .complete) in
     let same : xs ≡ c .run = append-cancel-right xs (c .run) (c .behind) (sym e ∙ c .split) in
+    let ends : (b : ℕ) (w : Bytes) → c .behind ≡ b ∷ w → look (next p) b ≡ none =
+    λ b w z. run-ends b f y
+    (λ g v u a x. c .longest b w z g v u (subst (λ (q : Bytes). Rfc.number (q ++ b ∷ v) g u) same a) x) in
     settle (limited l) s r (begun k) (await k) 4 (before-comes (limited l) (c .before))
     (λ kept. (
       4,
-      number-judged (limited l) (await k) (opened k) (begun k) kept (c .behind) e f y
-          (λ b w z. run-ends b f y (λ g v u a x. c .longest b w z g v u (subst (λ (q : Bytes). Rfc.number (q ++ b ∷ v) g u) same a) x)) (await-takes k)
-          ∙ ap (λ (z : Bool). elim z as (λ q. Outcome Bytes Value) [ true ↦ refused 4 r | false ↦ elim (full l (suc (begun k)) (opened k)) as (λ q. Outcome Bytes Value) [ true ↦ refused 6 r | false ↦ scan-by (limited l) (suc (begun k)) r (State.gap (put (Value.number (number-of (c .digits))) (opened k))) (c .behind) ] ]) (c .over),
+      number-judged (limited l) (await k) (opened k) (begun k) kept (c .behind) e f y ends (await-takes k)
+          ∙ pick-true (refused 4 r) _ (c .over),
       le-refl 4,
     ))
 
@@ -85,11 +93,12 @@ unfolding limited
 again-settled {s} {r} l c =
     let k = c .context in
     let ns = c .members in
-    settle (limited l) s r (begun-named ns k) (await-name ns k) 5 (name-comes (limited l) (c .before))
+    let m = begun-named ns k in
+    settle (limited l) s r m (await-name ns k) 5 (name-comes (limited l) (c .before))
     (λ kept. (
       5,
-      name-run (limited l) (begun-named ns k) kept (await-name ns k) (meaning-named ns) (opened k) (c .complete) (await-names ns k)
-          ∙ ap (λ (z : Bool). elim z as (λ q. Outcome Bytes Value) [ true ↦ refused 5 r | false ↦ scan-by (limited l) (begun-named ns k) r (State.gap (Gap.colon (meaning-named ns) (c .name) (opened k))) (c .behind) ]) (c .listed),
+      name-run (limited l) m kept (await-name ns k) (meaning-named ns) (opened k) (c .complete) (await-names ns k)
+          ∙ pick-true (refused 5 r) _ (c .listed),
       le-refl 5,
     ))
 
@@ -106,7 +115,8 @@ stop-if r false a e = absurd (false≢true e)
 
 -- behind the longest run of a number that is one too many or too deep
 number-end-full
-    : (l : Limits) (n : ℕ) (kept s : Bytes) (p : Phase) (d : Numeral) (o : Open) (behind : Gap → Move) (f : ℕ → Bytes → State → Outcome Bytes Value)
+    : (l : Limits) (n : ℕ) (kept s : Bytes) (p : Phase) (d : Numeral) (o : Open) (behind : Gap → Move)
+    (f : ℕ → Bytes → State → Outcome Bytes Value)
     → full l n o ≡ true → Stopped kept (judge-by (limited l) n kept s (number-end p d o behind) f)
 unfolding number-end judge-by limited
 number-end-full l n kept s p d o behind f e = ended (complete p)
@@ -114,11 +124,20 @@ number-end-full l n kept s p d o behind f e = ended (complete p)
     m : Move
     m = behind (put (Value.number (number-of d)) o)
 
-    large : (z : Bool) → Stopped kept (elim z [ true ↦ refused 4 kept | false ↦ elim (full l n o) [ true ↦ refused 6 kept | false ↦ judge-by (limited l) n kept s m f ] ])
+    large
+        : (z : Bool)
+        → Stopped kept
+        (elim z [
+          | true ↦ refused 4 kept
+          | false ↦ elim (full l n o) [ true ↦ refused 6 kept | false ↦ judge-by (limited l) n kept s m f ]
+        ])
     large true = (4, refl, lit≤ tt)
     large false = stop-if kept (full l n o) (judge-by (limited l) n kept s m f) e
 
-    ended : (z : Bool) → Stopped kept (judge-by (limited l) n kept s (elim z [ true ↦ Move.end-number d o m | false ↦ Move.broken-number o ]) f)
+    ended
+        : (z : Bool)
+        → Stopped kept
+        (judge-by (limited l) n kept s (elim z [ true ↦ Move.end-number d o m | false ↦ Move.broken-number o ]) f)
     ended true = large (beyond d)
     ended false = stop-if kept (full l n o) (refused 3 s) e
 
@@ -131,12 +150,14 @@ number-full l n kept p d o e [] = number-end-full l n kept [] p d o gap-end (λ 
 number-full l n kept p d o e (b ∷ r) = at (look (next p) b) (λ q. number-full l n kept q (extend q d b) o e r)
   where
     at
-        : (z : Option Phase) → ((q : Phase) → Stopped kept (scan-by (limited l) n kept (State.in-number q (extend q d b) o) r))
+        : (z : Option Phase)
+        → ((q : Phase) → Stopped kept (scan-by (limited l) n kept (State.in-number q (extend q d b) o) r))
         → Stopped kept
         (judge-by (limited l) n kept (b ∷ r)
         (elim z [ some q ↦ Move.go (State.in-number q (extend q d b) o) | none ↦ number-end p d o (λ g. gap-move g b) ])
         (λ n′ kept′ q′. scan-by (limited l) n′ kept′ q′ r))
-    at none on = number-end-full l n kept (b ∷ r) p d o (λ g. gap-move g b) (λ n′ kept′ q′. scan-by (limited l) n′ kept′ q′ r) e
+    at none on =
+        number-end-full l n kept (b ∷ r) p d o (λ g. gap-move g b) (λ n′ kept′ q′. scan-by (limited l) n′ kept′ q′ r) e
     at (some q) on = on q
 
 -- the bytes that begin a value
@@ -166,15 +187,19 @@ value-opens (Rfc.is-number a) h =
     digit (subst (λ (z : ℕ). look (next begin) z ≡ some p) (sym (head-eq-of-cons-eq e)) f)
 value-opens (Rfc.is-string (Rfc.quoted c)) h = quote
 
-module _ (l : Limits) (n : ℕ) (kept : Bytes) (g : Gap) (o : Open) (t : Bytes) (k : Takes g o) (e : full l (suc n) o ≡ true) where
-  value-full : {q : State} (b : ℕ) → gap-move g b ≡ Move.begin-value o q → Stopped (b ∷ t) (scan-by (limited l) n kept (State.gap g) (b ∷ t))
+module _ (l : Limits) (n : ℕ) (kept : Bytes) (g : Gap) (o : Open) (t : Bytes) (k : Takes g o)
+    (e : full l (suc n) o ≡ true) where
+  value-full
+      : {q : State} (b : ℕ) → gap-move g b ≡ Move.begin-value o q
+      → Stopped (b ∷ t) (scan-by (limited l) n kept (State.gap g) (b ∷ t))
   unfolding judge-by limited move
   value-full {q} b f =
       let (i, h, m) = stop-if (b ∷ t) (full l (suc n) o) (scan-by (limited l) (suc n) kept q t) e in
       (i, move-run (limited l) n kept (State.gap g) b t f ∙ h, m)
 
   opens-full : {b : ℕ} → Opens b → Stopped (b ∷ t) (scan-by (limited l) n kept (State.gap g) (b ∷ t))
-  unfolding white white-table found look between is value-move value-rows spell bytes true-name false-name null-name judge-by move
+  unfolding white white-table found look between is value-move value-rows spell bytes true-name false-name null-name judge-by
+      move
   opens-full quote = value-full 0x22 (takes-byte g o 0x22 k refl refl)
   opens-full bracket = value-full 0x5B (takes-byte g o 0x5B k refl refl)
   opens-full brace = value-full 0x7B (takes-byte g o 0x7B k refl refl)
@@ -186,22 +211,18 @@ module _ (l : Limits) (n : ℕ) (kept : Bytes) (g : Gap) (o : Open) (t : Bytes) 
       (i, move-run (limited l) n kept (State.gap g) b t (takes-digit g o b k f) ∙ h, m)
 
 over-full
-    : (l : Limits) (k : Context) → (l .values < suc (begun k)) ⊎ (l .nesting < suc (open-around k)) → full l (suc (begun k)) (opened k) ≡ true
+    : (l : Limits) (k : Context) → (l .values < suc (begun k)) ⊎ (l .nesting < suc (open-around k))
+    → full l (suc (begun k)) (opened k) ≡ true
 unfolding full
 over-full l k h = at h
   where
-    passed : (b : Bool) → T b → b ≡ true
-    passed true t = refl
-    passed false t = absurd t
-
-    less : (i j : ℕ) → i < j → ltb i j ≡ true
-    less i j g = passed (ltb i j) (lt→ltb i j g)
-
-    at : (l .values < suc (begun k)) ⊎ (l .nesting < suc (open-around k)) → (ltb (l .values) (suc (begun k)) || ltb (l .nesting) (suc (depth (opened k)))) ≡ true
-    at (inl g) = or-left (ltb (l .nesting) (suc (depth (opened k)))) (less (l .values) (suc (begun k)) g)
+    at
+        : (l .values < suc (begun k)) ⊎ (l .nesting < suc (open-around k))
+        → (ltb (l .values) (suc (begun k)) || ltb (l .nesting) (suc (depth (opened k)))) ≡ true
+    at (inl g) = or-left (ltb (l .nesting) (suc (depth (opened k)))) (le-leb g)
     at (inr g) =
         or-right (ltb (l .values) (suc (begun k)))
-        (subst (λ (z : ℕ). ltb (l .nesting) (suc z) ≡ true) (sym (depth-opened k)) (less (l .nesting) (suc (open-around k)) g))
+        (subst (λ (z : ℕ). ltb (l .nesting) (suc z) ≡ true) (sym (depth-opened k)) (le-leb g))
 
 pub full-settled : {s r : Bytes} (l : Limits) → Full l s r → Settled r 6 (scan-by (limited l) 0 s start s)
 full-settled {s} {r} l c =
@@ -209,4 +230,5 @@ full-settled {s} {r} l c =
     settle (limited l) s r (begun k) (await k) 6 (before-comes (limited l) (c .before))
     (λ kept.
     subst (λ (z : Bytes). Stopped z (scan-by (limited l) (begun k) kept (State.gap (await k)) z)) (sym (c .split))
-    (opens-full l (begun k) kept (await k) (opened k) (c .others) (await-takes k) (over-full l k (c .over)) (value-opens (c .begins) (c .no-space))))
+    (opens-full l (begun k) kept (await k) (opened k) (c .others) (await-takes k) (over-full l k (c .over))
+    (value-opens (c .begins) (c .no-space))))
