@@ -56,8 +56,8 @@ buffer-of-39 = refl
 
 -- the bytes behind the fortieth, and behind what is written, are kept
 buffer-of-41
-  : plain-call (bytes "[ 1 ]") (room 4) (room 41)
-  ≡ record { number = 0; answer = words 0 0 3 0 0 ++ room 1; output = bytes "[1]" ++ room 1 }
+    : plain-call (bytes "[ 1 ]") (room 4) (room 41)
+    ≡ record { number = 0; answer = words 0 0 3 0 0 ++ room 1; output = bytes "[1]" ++ room 1 }
 unfolding evaluate
 buffer-of-41 = refl
 
@@ -75,8 +75,8 @@ call-says-yes = refl
 
 -- the lowest byte of a word comes first: place 258 is 2 and 1
 low-byte-first
-  : plain-call (replicate 258 0x20) [] (room 40)
-  ≡ record { number = 3; answer = 1 ∷ 0 ∷ 0 ∷ 0 ∷ 0 ∷ 0 ∷ 0 ∷ 0 ∷ 2 ∷ 1 ∷ replicate 30 0; output = [] }
+    : plain-call (replicate 258 0x20) [] (room 40)
+    ≡ record { number = 3; answer = 1 ∷ 0 ∷ 0 ∷ 0 ∷ 0 ∷ 0 ∷ 0 ∷ 0 ∷ 2 ∷ 1 ∷ replicate 30 0; output = [] }
 unfolding evaluate
 low-byte-first = refl
 
@@ -126,8 +126,8 @@ missing-member = refl
 
 -- P of `each` stands outside the new binding
 outside-the-binding
-  : check-operation [] [] standard (bytes "(each (it 1) (yes))") (bytes "(shape list (shape))") (room 4)
-  ≡ record { answer = refusal 7 1 10; output = room 4 }
+    : check-operation [] [] standard (bytes "(each (it 1) (yes))") (bytes "(shape list (shape))") (room 4)
+    ≡ record { answer = refusal 7 1 10; output = room 4 }
 unfolding evaluate
 outside-the-binding = refl
 

@@ -13,19 +13,22 @@ use Rattle.laws.specs.FormGrammar.{at, Shape-text, Reader-text, Place-te
 
 -- ---- brackets
 
--- the forms that are open behind a token, each with whether it is a shape form, innermost first: a bracket opens one, and
--- the word `shape`, which stands only behind its bracket, makes it a shape form
+-- the word that stands only behind the bracket of a shape form
+unfoldable pub is-shape : Bytes → Bool
+is-shape w = same w (bytes "shape")
+
+-- the innermost form that is open is a shape form
 unfoldable pub shape-named : List Bool → List Bool
 shape-named [] = []
 shape-named (f ∷ fs) = true ∷ fs
 
+-- the innermost form that is open ends
 unfoldable pub last-closed : List Bool → List Bool
 last-closed [] = []
 last-closed (f ∷ fs) = fs
 
-unfoldable pub is-shape : Bytes → Bool
-is-shape w = same w (bytes "shape")
-
+-- the forms that are open behind a token, each with whether it is a shape form, innermost first: a bracket opens one, and
+-- the word `shape` makes it a shape form
 unfoldable pub open-after : Token → List Bool → List Bool
 open-after opening fs = false ∷ fs
 open-after closing fs = last-closed fs
@@ -33,6 +36,7 @@ open-after (quoted t) fs = fs
 open-after (word w) fs = elim (is-shape w) [ true ↦ shape-named fs | false ↦ fs ]
 open-after broken fs = fs
 
+-- the forms that are open behind tokens, where fs were open before
 unfoldable pub open-behind : List Bool → List Placed → List Bool
 open-behind fs [] = fs
 open-behind fs (t ∷ ts) = open-behind (open-after (t .token) fs) ts
@@ -43,7 +47,7 @@ shapes-among [] = 0
 shapes-among (true ∷ fs) = suc (shapes-among fs)
 shapes-among (false ∷ fs) = shapes-among fs
 
--- how many shape forms begin with a token, and in these tokens
+-- how many shape forms begin with a token
 unfoldable pub shape-begun : Token → ℕ
 shape-begun opening = 0
 shape-begun closing = 0
@@ -51,6 +55,7 @@ shape-begun (quoted t) = 0
 shape-begun (word w) = elim (is-shape w) [ true ↦ 1 | false ↦ 0 ]
 shape-begun broken = 0
 
+-- in these tokens
 unfoldable pub shapes-begun : List Placed → ℕ
 shapes-begun [] = 0
 shapes-begun (t ∷ ts) = shape-begun (t .token) + shapes-begun ts
@@ -63,11 +68,12 @@ form-begun (quoted t) = 0
 form-begun (word w) = 0
 form-begun broken = 0
 
+-- how many forms begin in these tokens
 unfoldable pub forms-begun : List Placed → ℕ
 forms-begun [] = 0
 forms-begun (t ∷ ts) = form-begun (t .token) + forms-begun ts
 
--- how many forms are open behind tokens where n were open before
+-- how many forms are open behind a token, where n were open before
 unfoldable pub forms-after : Token → ℕ → ℕ
 forms-after opening n = suc n
 forms-after closing n = pred n
@@ -75,18 +81,19 @@ forms-after (quoted t) n = n
 forms-after (word w) n = n
 forms-after broken n = n
 
+-- the same behind tokens
 unfoldable pub forms-open : ℕ → List Placed → ℕ
 forms-open n [] = n
 forms-open n (t ∷ ts) = forms-open (forms-after (t .token) n) ts
 
 -- ---- the causes
 
--- some right text begins with these tokens
+-- some right text begins with these tokens; places play no part in what is right (FormTokens)
 pub record Begins (Right : List Placed → Type 0) (pre : List Placed) : Type 0 where
   pub rest : List Placed
   pub right : Right (pre ++ rest)
 
--- t, behind the tokens pre, is the bracket of a shape form, the n-th and with d shape forms open
+-- t, behind the tokens pre, is the bracket of a shape form: the n-th, and the d-th of those open
 pub data Shape-bracket (pre : List Placed) (t : Placed) : (n d : ℕ) → Type 0 where
   shape-bracket
       : t .token ≡ opening → Begins Shape-text (pre ++ t ∷ at 0 (word (bytes "shape")) ∷ [])
@@ -116,6 +123,7 @@ pub data Cause
 abbrev pub Shape-cause : Limits → Bytes → ℕ → ℕ → Type 0
 Shape-cause = Cause Shape-text Shape-bracket
 
+-- in a reader every form counts
 abbrev pub Reader-cause : Limits → Bytes → ℕ → ℕ → Type 0
 Reader-cause = Cause Reader-text (Form-bracket Reader-text)
 

@@ -1,12 +1,12 @@
 -- The places of a text's tokens ascend and stand before its end. Assumes nothing.
 use Prim.Native.Nat.{ℕ, suc, _+_, _≤_, _<_}
-use mathlib.Core.Path.{_≡_, refl, sym, subst}
+use mathlib.Core.Path.{_≡_}
 use mathlib.Core.List.{List, [], _∷_, _++_, reverse}
 use mathlib.Core.Option.{Option, none, some}
 use lib.ListN.{length}
 use native.Mathlib.Omega.{arith}
 use Rattle.definitions.specs.Bytes.{Bytes, look}
-use Rattle.definitions.specs.Text.{Inside, chars, Text-move, wrong, more, closed, text-step}
+use Rattle.definitions.specs.Text.{chars, Text-move, wrong, more, closed, text-step}
 use Rattle.definitions.specs.Tokens.{Token, opening, closing, quoted, word, broken, Placed, at-place, Border, space, bracket-open, bracket-close, quote, border-table, Partial, no-word, word-from, Lexing, outside, inside, ended, longer, lex, tokens}
 
 -- places ascend, none before lo, all before end

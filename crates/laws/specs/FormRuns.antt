@@ -1,47 +1,18 @@
 -- Reading tokens one step each, apart from any one grammar: a walk from state to state knows no limit, and reading goes
 -- along walks as far as the limits let it. Assumes nothing.
-use Prim.Native.Nat.{ℕ, suc, _+_, _≤_, _<_, max}
+use Prim.Native.Nat.{ℕ, suc, _+_, _≤_, max}
 use mathlib.Core.Path.{_≡_, refl, sym, _∙_, ap, subst}
-use mathlib.Core.Logic.{_⊎_, inl, inr}
-use mathlib.Core.Bool.{Bool, true, false, not, _||_}
+use mathlib.Core.Bool.{Bool, true, false, _||_}
 use mathlib.Core.List.{List, [], _∷_, _++_}
 use mathlib.Core.Option.{Option, none, some, Option·none-ne-some}
-use lib.Dec.{ltb, eqb, eqb-refl, T, not-T, ltb→lt, nltb→le, lt→ltb}
+use lib.Dec.{ltb}
 use lib.ListN.{length}
 use native.Mathlib.Omega.{arith}
 use Rattle.definitions.specs.declared.Limits.{Limits}
 use Rattle.definitions.specs.Outcome.{Outcome, ok, refused}
 use Rattle.definitions.specs.Tokens.{Placed, Step, misplaced, go, opens, full-forms, judge-step, or-end, read-tokens}
-use Rattle.laws.specs.Bools.{tell, or-cases, or-false-left, or-false-right, or-left, or-right, clash}
-
--- ---- tests of numbers
-
-pub below-test : (m n : ℕ) → ltb m n ≡ true → m < n
-below-test m n h = ltb→lt m n (subst T (sym h) tt)
-
-pub test-below : {m n : ℕ} → m < n → ltb m n ≡ true
-test-below {m} {n} h = go′ (ltb m n) refl
-  where
-    go′ : (b : Bool) → ltb m n ≡ b → b ≡ true
-    go′ true e = refl
-    go′ false e = absurd (subst T e (lt→ltb m n h))
-
-pub not-below-test : (m n : ℕ) → ltb m n ≡ false → n ≤ m
-not-below-test m n h = nltb→le m n (subst (λ b. T (not b)) (sym h) tt)
-
-pub test-not-below : {m n : ℕ} → n ≤ m → ltb m n ≡ false
-test-not-below {m} {n} h = go′ (ltb m n) refl
-  where
-    go′ : (b : Bool) → ltb m n ≡ b → b ≡ false
-    go′ false e = refl
-    go′ true e = absurd (let z : m < n = below-test m n e in let y : ⊥ = omega arith in y)
-
-pub eqb-true : {m n : ℕ} → m ≡ n → eqb m n ≡ true
-eqb-true {m} {n} e = is-true (eqb m n) (subst (λ x. T (eqb m x)) e (eqb-refl m))
-  where
-    is-true : (b : Bool) → T b → b ≡ true
-    is-true true t = refl
-    is-true false t = absurd t
+use Rattle.laws.specs.Tests.{ltb-le, le-ltb}
+use Rattle.laws.specs.Bools.{or-false-left, or-false-right, clash}
 
 -- ---- steps are told apart
 
@@ -203,8 +174,8 @@ module _ {Q A : Type 0} (step : Q → Placed → Step Q) (whole : Q → Option A
           → Accepted step whole l n q (t ∷ ts) a
       entered d r f true g e rest = refused-ok e
       entered d r f false g e rest =
-          let i : suc n ≤ l .values = not-below-test _ _ (or-false-left (ltb (l .values) (suc n)) (ltb (l .nesting) d) g) in
-          let j : d ≤ l .nesting = not-below-test _ _ (or-false-right (ltb (l .values) (suc n)) (ltb (l .nesting) d) g) in
+          let i : suc n ≤ l .values = ltb-le (l .values) (suc n) (or-false-left (ltb (l .values) (suc n)) (ltb (l .nesting) d) g) in
+          let j : d ≤ l .nesting = ltb-le (l .nesting) d (or-false-right (ltb (l .values) (suc n)) (ltb (l .nesting) d) g) in
           let w = rest (suc n) r i e in
           record { depths = d ∷ w .depths; last = w .last; walk = enter f (w .walk); is-whole = w .is-whole; fits = more i j (w .fits) }
 
@@ -230,8 +201,8 @@ module _ {Q A : Type 0} (step : Q → Placed → Step Q) (whole : Q → Option A
       closed : full-forms l (suc n) d ≡ false
       closed =
           none-over
-          (test-not-below {m = l .values} {n = suc n} (let z = f .count-fits in omega arith))
-          (test-not-below {m = l .nesting} {n = d} (let z = f .depth-fits in omega arith))
+          (le-ltb (l .values) (suc n) (let z = f .count-fits in omega arith))
+          (le-ltb (l .nesting) d (let z = f .depth-fits in omega arith))
 
       rest : Fits l (suc n) ds
       rest = record { count-fits = let z = f .count-fits in omega arith; depth-fits = let z = f .depth-fits in omega arith }

@@ -1,13 +1,12 @@
 -- The laws of `want-open` and its like: what a step that leads on says of its token. Assumes nothing.
 use Prim.Native.Nat.{ℕ}
-use mathlib.Core.Path.{_≡_, refl, sym, _∙_, ap, subst, subst₂}
+use mathlib.Core.Path.{_≡_, refl, sym, subst, subst₂}
 use mathlib.Core.Bool.{Bool, true, false}
 use mathlib.Core.List.{List, [], _∷_}
 use mathlib.Core.Option.{Option, none, some, Option·none-ne-some, Option·some-injective}
 use Rattle.definitions.specs.Bytes.{Bytes, same}
 use Rattle.definitions.specs.Tokens.{Token, opening, closing, quoted, word, broken, Placed, Step, misplaced, go, opens, want-open, want-close, want-text, want-word, where-true, where-some, Named, named, look-word, want-named}
-use Rattle.laws.specs.Bools.{clash}
-use Rattle.laws.specs.Names.{same-eq, same-refl}
+use Rattle.laws.specs.Names.{same-eq}
 use Rattle.laws.specs.FormGrammar.{at, Head, head, Name, name}
 use Rattle.laws.specs.FormRuns.{Walk, stay, on, enter}
 

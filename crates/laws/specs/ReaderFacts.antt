@@ -1,25 +1,25 @@
 -- Readers that are accepted are well-formed: no `it` reaches past the document, and no name comes twice. Assumes nothing.
-use Prim.Native.Nat.{ℕ, suc}
+use Prim.Native.Nat.{ℕ}
 use mathlib.Core.Path.{_≡_, refl}
-use mathlib.Core.Bool.{Bool, true, false}
-use mathlib.Core.List.{List, []}
+use mathlib.Core.Bool.{true}
+use mathlib.Core.List.{List}
 use Rattle.definitions.specs.declared.Limits.{Limits}
 use Rattle.definitions.specs.Bytes.{Bytes}
-use Rattle.definitions.specs.Outcome.{Outcome, ok}
+use Rattle.definitions.specs.Outcome.{ok}
 use Rattle.definitions.specs.Reader.{Place, Result, Pairs, read-reader}
 use Rattle.definitions.specs.Tokens.{Placed}
 use Rattle.laws.specs.Bools.{and-intro, not-false}
 use Rattle.laws.specs.Distinct.{distinct}
 use Rattle.laws.specs.Readers.{scoped-place, scoped, scoped-pairs, proper, proper-pairs}
-use Rattle.laws.specs.FormGrammar.{Index-word, index-word, Place-form, it-form, field-form, Result-form, convert-form, keep-form, count-form, each-form, when-form, if-form, num-form, str-form, yes-form, no-form, none-form, pack-form, Pairs-form, no-pair, next-pair}
-use Rattle.laws.specs.FormRuns.{test-below}
+use Rattle.laws.specs.FormGrammar.{index-word, Place-form, it-form, field-form, Result-form, convert-form, keep-form, count-form, each-form, when-form, if-form, num-form, str-form, yes-form, no-form, none-form, pack-form, Pairs-form, no-pair, next-pair}
+use Rattle.laws.specs.Tests.{lt-ltb}
 use Rattle.laws.specs.ReaderForms.{reader-accepted-to}
 
 -- ---- scope
 
 pub place-scoped : {k : ℕ} {ts us : List Placed} {p : Place} → Place-form k ts p us → scoped-place k p ≡ true
 unfolding scoped-place
-place-scoped (it-form h (index-word w a b c)) = test-below c
+place-scoped (it-form h (index-word w a b c)) = lt-ltb _ _ c
 place-scoped (field-form h f) = place-scoped f
 
 mutual

@@ -1,19 +1,20 @@
 -- Reading readers, and places that stand alone, accepts exactly the right texts within the limits. Assumes nothing.
-use Prim.Native.Nat.{ℕ, suc, _+_, _≤_, max}
+use Prim.Native.Nat.{ℕ, _+_, _≤_, max}
 use mathlib.Core.Path.{_≡_, refl, sym, _∙_, ap, subst}
 use mathlib.Core.List.{List, [], _∷_}
-use mathlib.Core.Option.{Option, none, some, Option·none-ne-some, Option·some-injective}
+use mathlib.Core.Option.{some, Option·none-ne-some, Option·some-injective}
 use lib.ListN.{length}
 use native.Mathlib.Omega.{arith}
 use Rattle.definitions.specs.declared.Limits.{Limits}
 use Rattle.definitions.specs.Bytes.{Bytes}
-use Rattle.definitions.specs.Outcome.{Outcome, ok, refused}
+use Rattle.definitions.specs.Outcome.{ok}
 use Rattle.definitions.specs.Reader.{Place, Result, text-end, place-end, place-open, result-open, State, want, whole-place, whole-result, put-place, put-result, depth, place-depth, bindings, place-bindings, step, finished-result, finished-place, empty-reader, read-result, read-reader, read-place}
 use Rattle.definitions.specs.Tokens.{Placed, tokens, or-end, read-tokens}
 use Rattle.laws.specs.FormGrammar.{Place-form, Result-form, place-forms, result-forms, place-levels, result-levels}
 use Rattle.laws.specs.FormRuns.{Walk, walk-unique, most, Fits, Accepted, read-accepted, read-along}
-use Rattle.laws.specs.ReaderRests.{walk-right, place-right}
-use Rattle.laws.specs.ReaderWalks.{place-depths, result-depths, depths-place-forms, depths-result-forms, depths-place-levels, depths-result-levels, place-walk, result-walk}
+use Rattle.laws.specs.ReaderBacks.{walk-right, place-right}
+use Rattle.laws.specs.ReaderDepths.{place-depths, result-depths, depths-place-forms, depths-result-forms, depths-place-levels, depths-result-levels}
+use Rattle.laws.specs.ReaderWalks.{place-walk, result-walk}
 
 -- ---- what is accepted is right
 

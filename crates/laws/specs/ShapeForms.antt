@@ -1,21 +1,21 @@
 -- Reading shape texts accepts exactly the right ones within the limits. Assumes nothing.
-use Prim.Native.Nat.{ℕ, suc, _≤_}
-use mathlib.Core.Path.{_≡_, refl, sym, _∙_, ap, subst}
-use mathlib.Core.Bool.{Bool, true, false, _&&_}
-use mathlib.Core.List.{List, [], _∷_}
-use mathlib.Core.Option.{Option, none, some, Option·none-ne-some, Option·some-injective}
+use Prim.Native.Nat.{ℕ, _≤_}
+use mathlib.Core.Path.{_≡_, refl, ap, subst}
+use mathlib.Core.Bool.{true}
+use mathlib.Core.List.{List, []}
+use mathlib.Core.Option.{some, Option·none-ne-some, Option·some-injective}
 use lib.ListN.{length}
 use native.Mathlib.Omega.{arith}
 use Rattle.definitions.specs.declared.Limits.{Limits}
 use Rattle.definitions.specs.Bytes.{Bytes}
-use Rattle.definitions.specs.Outcome.{Outcome, ok, refused}
-use Rattle.definitions.specs.Shape.{Shape, shape, Element, Record, Fields, ascending, ascending-element, ascending-record, ascending-fields, forms, levels}
+use Rattle.definitions.specs.Outcome.{ok}
+use Rattle.definitions.specs.Shape.{Shape, Element, Record, Fields, ascending, ascending-element, ascending-record, ascending-fields, forms, levels}
 use Rattle.definitions.specs.ShapeText.{text-end, shape-open, State, want, whole, put, depth, step, finished, read-shape}
 use Rattle.definitions.specs.Tokens.{Placed, tokens, or-end, read-tokens}
 use Rattle.laws.specs.Bools.{and-intro}
 use Rattle.laws.specs.FormGrammar.{Shape-form, shape-form, Element-form, no-element, element, Record-form, no-members, members, Members-form, no-member, member}
 use Rattle.laws.specs.FormRuns.{Walk, Fits, Accepted, read-accepted, read-along, walk-unique}
-use Rattle.laws.specs.ShapeRests.{walk-right}
+use Rattle.laws.specs.ShapeBacks.{walk-right}
 use Rattle.laws.specs.ShapeWalks.{shape-depths, depths-forms, depths-levels, shape-opens, shape-walk}
 
 -- ---- what is accepted is right

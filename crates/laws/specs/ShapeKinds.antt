@@ -2,17 +2,15 @@
 use Prim.Native.Nat.{ℕ, zero, suc, _≤_, _<_}
 use mathlib.Core.Path.{_≡_, refl, sym, _∙_, ap, subst}
 use mathlib.Core.Logic.{_⊎_, inl, inr, ⊎-elim}
-use mathlib.Core.Bool.{Bool, true, false, not, _&&_, _||_}
+use mathlib.Core.Bool.{Bool, true, false, not, _||_}
 use mathlib.Core.List.{List, [], _∷_}
-use mathlib.Core.Option.{Option, none, some}
-use lib.Dec.{ltb, eqb, eqb→eq, eqb-refl, T}
+use lib.Dec.{ltb, eqb}
 use native.Mathlib.Omega.{arith}
-use Rattle.definitions.specs.Bytes.{Bytes}
 use Rattle.definitions.specs.Shape.{Kind, all-kinds, rank, among, Numeric, no-number, int-only, int-and-dec, Shape, shape, has, has-int, has-dec}
 use Rattle.definitions.specs.ShapeText.{kind-name, in-order, may-follow, numeric-from}
 use Rattle.definitions.specs.Tokens.{word, Placed}
-use Rattle.laws.specs.Bools.{tell, and-left, and-right, and-intro, or-cases, or-left, or-right, not-false, clash}
-use Rattle.laws.specs.FormRuns.{eqb-true, below-test, test-below, not-below-test}
+use Rattle.laws.specs.Bools.{and-left, and-right, and-intro, or-left, or-right}
+use Rattle.laws.specs.Tests.{ltb-lt, lt-ltb, eq-eqb, ne-eqb, lt-or-le}
 use Rattle.laws.specs.FormGrammar.{at, Kind-words, no-kinds, has-kind, lacks-kind}
 
 -- ---- ranks
@@ -50,20 +48,13 @@ ranked-rank Kind.rec = refl
 rank-injective : {j k : Kind} → rank j ≡ rank k → j ≡ k
 rank-injective {j} {k} e = sym (ranked-rank j) ∙ ap ranked e ∙ ranked-rank k
 
-eqb-false : {m n : ℕ} → (m ≡ n → ⊥) → eqb m n ≡ false
-eqb-false {m} {n} h = go (eqb m n) refl
-  where
-    go : (b : Bool) → eqb m n ≡ b → b ≡ false
-    go true e = absurd (h (eqb→eq m n (subst T (sym e) tt)))
-    go false e = refl
-
 among-first : (k : Kind) (ks : List Kind) → among k (k ∷ ks) ≡ true
 unfolding among
-among-first k ks = or-left (among k ks) (eqb-true {m = rank k} refl)
+among-first k ks = or-left (among k ks) (eq-eqb {m = rank k} refl)
 
 among-later : (j k : Kind) (ks : List Kind) → (rank j ≡ rank k → ⊥) → among j (k ∷ ks) ≡ among j ks
 unfolding among
-among-later j k ks h = ap (λ b. b || among j ks) (eqb-false h)
+among-later j k ks h = ap (λ b. b || among j ks) (ne-eqb h)
 
 -- ---- kinds, one behind the other
 
@@ -82,7 +73,7 @@ bound (k ∷ ks) = suc (rank k)
 pub follow-bound : (ks : List Kind) (k : Kind) → may-follow ks k ≡ true → bound ks ≤ rank k
 unfolding may-follow in-order bound
 follow-bound [] k h = omega arith
-follow-bound (j ∷ js) k h = below-test (rank j) (rank k) (and-left (ltb (rank j) (rank k)) _ h)
+follow-bound (j ∷ js) k h = ltb-lt (rank j) (rank k) (and-left (ltb (rank j) (rank k)) _ h)
 
 -- a kind that was there stays
 kinds-keep : {b : ℕ} {ks ls : List Kind} {ts us : List Placed} → Kinds-on b ks ts ls us → (j : Kind) → among j ks ≡ true → among j ls ≡ true
@@ -127,11 +118,7 @@ unfolding all-kinds rank
 run-all = run-more refl (run-more refl (run-more refl (run-more refl (run-more refl (run-more refl (run-more refl run-end))))))
 
 at-or-above : {b c : ℕ} → b ≤ c → (c ≡ b) ⊎ (b < c)
-at-or-above {b} {c} h = go (tell (ltb b c))
-  where
-    go : (ltb b c ≡ true) ⊎ (ltb b c ≡ false) → (c ≡ b) ⊎ (b < c)
-    go (inl t) = inr (below-test b c t)
-    go (inr t) = inl (let z = not-below-test b c t in omega arith)
+at-or-above {b} {c} h = ⊎-elim inr (λ (t : c ≤ b). inl (omega arith)) (lt-or-le b c)
 
 -- words read one behind the other are the words of a shape with these kinds
 words-from
@@ -212,7 +199,7 @@ may-follow-has s ks k h f same = and-intro (ordered ks h) (only-dec k same f)
   where
     ordered : (ks : List Kind) → bound ks ≤ rank k → in-order ks k ≡ true
     ordered [] h = refl
-    ordered (j ∷ js) h = test-below h
+    ordered (j ∷ js) h = lt-ltb (rank j) (rank k) h
 
     only-dec
         : (k : Kind) → ((j : Kind) → rank j < rank k → among j ks ≡ has j s) → has k s ≡ true

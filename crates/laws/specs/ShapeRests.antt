@@ -1,19 +1,15 @@
--- What may still come in each state of reading a shape text, by the grammar; a walk to a whole text has just that. So what
--- is accepted is right. Assumes nothing.
-use Prim.Native.Nat.{ℕ, suc}
-use mathlib.Core.Path.{_≡_, refl, sym, _∙_, ap, subst}
-use mathlib.Core.Logic.{_⊎_, inl, inr, ⊎-elim}
+-- What may still come in each state of reading a shape text, by the grammar. Assumes nothing.
+use Prim.Native.Nat.{ℕ}
+use mathlib.Core.Path.{_≡_, refl, sym, subst}
+use mathlib.Core.Logic.{⊎-elim}
 use mathlib.Core.Bool.{Bool, true, false}
 use mathlib.Core.List.{List, [], _∷_}
-use mathlib.Core.Option.{Option, none, some}
 use Rattle.definitions.specs.Bytes.{Bytes, bytes}
-use Rattle.definitions.specs.Shape.{Kind, all-kinds, among, Numeric, Shape, shape, Element, no-list, list-of, Record, no-rec, rec-of, Fields, no-fields, field, has, has-int, has-dec, has-list, has-rec, behind}
-use Rattle.definitions.specs.ShapeText.{Parts, Around, text-end, as-element, as-member, Want, shape-open, shape-word, kind-word, member-open, member-word, member-name, member-close, State, want, whole, no-parts, with-kind, with-element, with-member, put, depth, fields-onto, numeric-from, record-from, build, kind-name, kind-words, shape-words, member-words, may-follow, name-fits, member-step, element-step, bracket-step, kind-step, want-step, step}
-use Rattle.definitions.specs.Tokens.{Token, opening, closing, quoted, word, broken, Placed, Step, misplaced, go, opens, want-open, where-true, where-some, look-word}
+use Rattle.definitions.specs.Shape.{Kind, among, Shape, shape, Record, no-rec, rec-of, Fields, no-fields, field, has, has-list, has-rec, behind}
+use Rattle.definitions.specs.ShapeText.{Parts, Around, as-element, as-member, shape-open, shape-word, kind-word, member-open, member-word, member-name, member-close, State, want, whole, no-parts, with-kind, with-element, with-member, put, fields-onto, numeric-from, record-from, build, kind-name, may-follow, name-fits}
+use Rattle.definitions.specs.Tokens.{opening, closing, quoted, word, Placed}
 use Rattle.laws.specs.Bools.{tell, clash}
-use Rattle.laws.specs.FormGrammar.{at, head, Shape-form, shape-form, Element-form, no-element, element, Record-form, no-members, members, Members-form, no-member, member}
-use Rattle.laws.specs.FormRuns.{Walk}
-use Rattle.laws.specs.FormSteps.{Back, walk-back, open-back, close-back, text-back, true-back, some-back, Each, look-each, named-back}
+use Rattle.laws.specs.FormGrammar.{at, head, Shape-form, shape-form, Element-form, no-element, element, no-members, members, Members-form, no-member, member}
 use Rattle.laws.specs.ShapeKinds.{Kinds-on, kinds-end, kinds-next, bound, follow-bound, kinds-dec, kinds-words, numeric-int, numeric-dec}
 
 -- ---- what may still come
@@ -29,25 +25,25 @@ follows gs no-fields = true
 follows gs (field n s fs) = name-fits gs n
 
 -- behind kinds and element: members and the bracket that ends the shape
-data Tail (p : Parts) : List Placed → Shape → List Placed → Type 0 where
+pub data Tail (p : Parts) : List Placed → Shape → List Placed → Type 0 where
   no-tail : {x : ℕ} {ts : List Placed} → among Kind.rec (p .kinds) ≡ false → Tail p (at x closing ∷ ts) (with-record p no-rec) ts
   tail
       : {x : ℕ} {fs : Fields} {ts us : List Placed} → among Kind.rec (p .kinds) ≡ true → Members-form ts fs (at x closing ∷ us)
       → follows (p .fields) fs ≡ true → Tail p ts (with-record p (rec-of (fields-onto (p .fields) fs))) us
 
 -- behind the kinds
-data After (p : Parts) : List Placed → Shape → List Placed → Type 0 where
+pub data After (p : Parts) : List Placed → Shape → List Placed → Type 0 where
   after-plain : {s : Shape} {ts us : List Placed} → among Kind.list (p .kinds) ≡ false → Tail p ts s us → After p ts s us
   after-list
       : {e s : Shape} {ts us vs : List Placed} → among Kind.list (p .kinds) ≡ true → Shape-form ts e us
       → Tail (with-element e p) us s vs → After p ts s vs
 
 -- the parts with other kinds
-abbrev re-kinded : Parts → List Kind → Parts
+abbrev pub re-kinded : Parts → List Kind → Parts
 re-kinded p ks = record { kinds = ks; element = p .element; fields = p .fields }
 
 -- what may still come in a state, up to the end of a text that means a
-data Rest : State → List Placed → Shape → Type 0 where
+pub data Rest : State → List Placed → Shape → Type 0 where
   rest-whole : {a : Shape} → Rest (whole a) [] a
   rest-open
       : {o : Around} {s a : Shape} {ts us : List Placed} → Shape-form ts s us → Rest (put s o) us a
@@ -120,7 +116,7 @@ unfolding build record-from
 ended-with p h = rw (h, record-from)
 
 -- the bracket that ends a shape
-tail-end : {p : Parts} {o : Around} {a : Shape} {x : ℕ} {ts : List Placed} → Rest (put (build p) o) ts a → Rest (want (member-open p o)) (at x closing ∷ ts) a
+pub tail-end : {p : Parts} {o : Around} {a : Shape} {x : ℕ} {ts : List Placed} → Rest (put (build p) o) ts a → Rest (want (member-open p o)) (at x closing ∷ ts) a
 tail-end {p} {o} {a} {ts = ts} r =
     ⊎-elim
     (λ (h : among Kind.rec (p .kinds) ≡ true).
@@ -154,27 +150,27 @@ member-closes
 member-closes h n s (rest-close (rest-members t r)) = rest-members (tail-more h n s t) r
 
 -- the bracket of a member
-tail-member
+pub tail-member
     : {p : Parts} {o : Around} {a : Shape} {x : ℕ} {ts : List Placed} → among Kind.rec (p .kinds) ≡ true
     → Rest (want (member-word p o)) ts a → Rest (want (member-open p o)) (at x opening ∷ ts) a
 unfolding put
 tail-member h (rest-member (rest-name n (rest-open s r))) = member-closes h n s r
 
 -- the bracket of a shape
-form-open
+pub form-open
     : {o : Around} {a : Shape} {x : ℕ} {ts : List Placed} → Rest (want (shape-word o)) ts a
     → Rest (want (shape-open o)) (at x opening ∷ ts) a
 unfolding no-parts bound
 form-open (rest-word (rest-kinds g t r)) = rest-open (after-form g t) r
 
-kind-begins
+pub kind-begins
     : {p : Parts} {o : Around} (k : Kind) {a : Shape} {x : ℕ} {ts : List Placed} → may-follow (p .kinds) k ≡ true
     → Rest (want (kind-word (with-kind k p) o)) ts a → Rest (want (kind-word p o)) (at x (word (kind-name k)) ∷ ts) a
 unfolding with-kind bound
 kind-begins {p} k h (rest-kinds g t r) = rest-kinds (kinds-next (follow-bound (p .kinds) k h) h g) t r
 
 -- a state behind kinds without list is one behind the element
-no-more-kinds
+pub no-more-kinds
     : {p : Parts} {o : Around} {a : Shape} {ts : List Placed} → among Kind.list (p .kinds) ≡ false
     → Rest (want (member-open p o)) ts a → Rest (want (kind-word p o)) ts a
 no-more-kinds h (rest-members t r) = rest-kinds kinds-end (after-plain h t) r
@@ -185,7 +181,7 @@ element-ends
 element-ends h e (rest-members t r) = rest-kinds kinds-end (after-list h e t) r
 
 -- the bracket of an element
-element-begins
+pub element-begins
     : {p : Parts} {o : Around} {a : Shape} {x : ℕ} {ts : List Placed} → among Kind.list (p .kinds) ≡ true
     → Rest (want (shape-word (as-element p o))) ts a → Rest (want (kind-word p o)) (at x opening ∷ ts) a
 unfolding put
@@ -195,120 +191,3 @@ element-begins h r = by-form h (form-open r)
         : {p : Parts} {o : Around} {a : Shape} {ts : List Placed} → among Kind.list (p .kinds) ≡ true
         → Rest (want (shape-open (as-element p o))) ts a → Rest (want (kind-word p o)) ts a
     by-form h (rest-open e r) = element-ends h e r
-
-member-back
-    : (p : Parts) (o : Around) (x : ℕ) (k : Token) (ts : List Placed) (a : Shape)
-    → Back (λ r. Rest r ts a) (member-step p o k) → Rest (want (member-open p o)) (at x k ∷ ts) a
-unfolding member-step
-member-back p o x opening ts a b = true-back (λ r. Rest r ts a) (among Kind.rec (p .kinds)) (go (want (member-word p o))) tail-member b
-member-back p o x closing ts a b = tail-end b
-member-back p o x (quoted t) ts a b = absurd b
-member-back p o x (word w) ts a b = absurd b
-member-back p o x broken ts a b = absurd b
-
-bracket-back
-    : (p : Parts) (o : Around) (x : ℕ) (ts : List Placed) (a : Shape)
-    → (Back (λ r. Rest r ts a) (bracket-step p o opening) → Rest (want (kind-word p o)) (at x opening ∷ ts) a)
-    × (Back (λ r. Rest r ts a) (bracket-step p o closing) → Rest (want (kind-word p o)) (at x closing ∷ ts) a)
-unfolding bracket-step element-step want-open
-bracket-back p o x ts a = by-list (among Kind.list (p .kinds)) refl
-  where
-    by-list
-        : (l : Bool) → among Kind.list (p .kinds) ≡ l
-        → (Back
-        (λ r. Rest r ts a)
-        (elim l [ true ↦ element-step p o opening | false ↦ member-step p o opening ])
-        → Rest (want (kind-word p o)) (at x opening ∷ ts) a)
-        × (Back
-        (λ r. Rest r ts a)
-        (elim l [ true ↦ element-step p o closing | false ↦ member-step p o closing ])
-        → Rest (want (kind-word p o)) (at x closing ∷ ts) a)
-    by-list true h = (element-begins h, λ b. absurd b)
-    by-list false h = (λ b. no-more-kinds h (member-back p o x opening ts a b), λ b. no-more-kinds h (member-back p o x closing ts a b))
-
-pub kind-spelled : (w : Bytes) (k : Kind) → look-word kind-words w ≡ some k → w ≡ kind-name k
-unfolding kind-words all-kinds
-kind-spelled w k e = look-each (λ w k. w ≡ kind-name k) kind-words (refl, (refl, (refl, (refl, (refl, (refl, (refl, tt))))))) w k e
-
-kind-back
-    : (p : Parts) (o : Around) (x : ℕ) (k : Token) (ts : List Placed) (a : Shape)
-    → Back (λ r. Rest r ts a) (kind-step p o k) → Rest (want (kind-word p o)) (at x k ∷ ts) a
-unfolding kind-step
-kind-back p o x opening ts a b = bracket-back p o x ts a .0 b
-kind-back p o x closing ts a b = bracket-back p o x ts a .1 b
-kind-back p o x (quoted t) ts a b = absurd b
-kind-back p o x (word w) ts a b =
-    some-back
-    (λ r. Rest r ts a)
-    (look-word kind-words w)
-    (λ k. where-true (may-follow (p .kinds) k) (go (want (kind-word (with-kind k p) o))))
-    (λ k e c.
-    true-back
-    (λ r. Rest r ts a)
-    (may-follow (p .kinds) k)
-    (go (want (kind-word (with-kind k p) o)))
-    (λ h r. subst (λ v. Rest (want (kind-word p o)) (at x (word v) ∷ ts) a) (sym (kind-spelled w k e)) (kind-begins k h r))
-    c)
-    b
-kind-back p o x broken ts a b = absurd b
-
--- what may come behind a token that leads on may come from that token on
-step-back : (q : State) (t : Placed) (ts : List Placed) (a : Shape) → Back (λ r. Rest r ts a) (step q t) → Rest q (t ∷ ts) a
-unfolding step want-step shape-words member-words
-step-back (whole s) t ts a b = absurd b
-step-back (want (shape-open o)) t ts a b =
-    open-back
-    (λ r. Rest r ts a)
-    (λ k. Rest (want (shape-open o)) (at (t .at) k ∷ ts) a)
-    (opens (suc (depth o)) (want (shape-word o)))
-    form-open
-    (t .token)
-    b
-step-back (want (shape-word o)) t ts a b =
-    named-back
-    (λ r. Rest r ts a)
-    (λ k. Rest (want (shape-word o)) (at (t .at) k ∷ ts) a)
-    shape-words
-    (λ u. go (want (kind-word no-parts o)))
-    (rest-word, tt)
-    (t .token)
-    b
-step-back (want (kind-word p o)) t ts a b = kind-back p o (t .at) (t .token) ts a b
-step-back (want (member-open p o)) t ts a b = member-back p o (t .at) (t .token) ts a b
-step-back (want (member-word p o)) t ts a b =
-    named-back
-    (λ r. Rest r ts a)
-    (λ k. Rest (want (member-word p o)) (at (t .at) k ∷ ts) a)
-    member-words
-    (λ u. go (want (member-name p o)))
-    (rest-member, tt)
-    (t .token)
-    b
-step-back (want (member-name p o)) t ts a b =
-    text-back
-    (λ r. Rest r ts a)
-    (λ k. Rest (want (member-name p o)) (at (t .at) k ∷ ts) a)
-    (λ n. where-true (name-fits (p .fields) n) (go (want (shape-open (as-member p n o)))))
-    (λ n c. true-back (λ r. Rest r ts a) (name-fits (p .fields) n) (go (want (shape-open (as-member p n o)))) rest-name c)
-    (t .token)
-    b
-step-back (want (member-close p o)) t ts a b =
-    close-back
-    (λ r. Rest r ts a)
-    (λ k. Rest (want (member-close p o)) (at (t .at) k ∷ ts) a)
-    (go (want (member-open p o)))
-    rest-close
-    (t .token)
-    b
-
--- a walk from the start to a whole shape is over a right text
-pub walk-right
-    : {s : Shape} {ts : List Placed} {ds : List ℕ} → Walk step (want (shape-open text-end)) ts ds (whole s) [] → Shape-form ts s []
-unfolding put
-walk-right {s} w = from-start (walk-back (λ q ts. Rest q ts s) (λ q t ts. step-back q t ts s) w rest-whole)
-  where
-    at-whole : {s a : Shape} {ts us : List Placed} → Shape-form ts s us → Rest (whole s) us a → Shape-form ts a []
-    at-whole f rest-whole = f
-
-    from-start : {a : Shape} {ts : List Placed} → Rest (want (shape-open text-end)) ts a → Shape-form ts a []
-    from-start (rest-open f r) = at-whole f r

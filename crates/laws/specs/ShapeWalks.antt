@@ -1,19 +1,19 @@
 -- Reading goes along every right shape text: from the state before a shape to the state behind it. Assumes nothing.
-use Prim.Native.Nat.{ℕ, suc, _+_, _≤_, max}
+use Prim.Native.Nat.{ℕ, suc, _+_, max}
 use mathlib.Core.Path.{_≡_, refl, sym, _∙_, ap, ap₂, subst}
 use mathlib.Core.Bool.{Bool, true, false}
 use mathlib.Core.List.{List, [], _∷_, _++_}
-use mathlib.Core.Option.{Option, none, some}
+use mathlib.Core.Option.{some}
 use lib.ListN.{length, length-append}
 use native.Mathlib.Omega.{arith}
 use Rattle.definitions.specs.Bytes.{Bytes, bytes, order, same}
 use Rattle.definitions.specs.Shape.{Kind, all-kinds, among, Numeric, Shape, shape, Element, no-list, list-of, Record, no-rec, rec-of, Fields, no-fields, field, has, has-list, has-rec, behind, forms, forms-element, forms-record, forms-fields, levels, levels-element, levels-record, levels-fields}
-use Rattle.definitions.specs.ShapeText.{Parts, Around, text-end, as-element, as-member, Want, shape-open, shape-word, kind-word, member-open, member-word, member-name, member-close, State, want, whole, no-parts, with-kind, with-element, with-member, put, depth, fields-onto, numeric-from, record-from, build, kind-name, kind-words, shape-words, member-words, may-follow, name-fits, member-step, element-step, bracket-step, kind-step, want-step, step}
-use Rattle.definitions.specs.Tokens.{Token, opening, closing, quoted, word, broken, Placed, Step, misplaced, go, opens, want-open, want-close, want-text, want-word, want-named, where-true, where-some, look-word}
-use Rattle.laws.specs.FormGrammar.{at, Head, head, Shape-form, shape-form, Element-form, no-element, element, Record-form, no-members, members, Members-form, no-member, member}
-use Rattle.laws.specs.FormRuns.{Walk, stay, on, enter, walk-append, most, most-append}
+use Rattle.definitions.specs.ShapeText.{Parts, Around, as-element, as-member, shape-open, shape-word, kind-word, member-open, member-word, member-name, member-close, State, want, no-parts, with-kind, with-element, with-member, put, depth, fields-onto, build, kind-name, kind-words, shape-words, member-words, may-follow, name-fits, member-step, element-step, bracket-step, kind-step, want-step, step}
+use Rattle.definitions.specs.Tokens.{opening, closing, quoted, word, Placed, go, opens, want-open, want-close, want-text, want-word, want-named, where-true, where-some, look-word}
+use Rattle.laws.specs.FormGrammar.{at, Shape-form, shape-form, Element-form, no-element, element, Record-form, no-members, members, Members-form, no-member, member}
+use Rattle.laws.specs.FormRuns.{Walk, stay, on, walk-append, most, most-append}
 use Rattle.laws.specs.FormSteps.{head-enter, head-on}
-use Rattle.laws.specs.ShapeKinds.{Kinds-on, kinds-end, kinds-next, Read, words-kinds, numeric-agrees}
+use Rattle.laws.specs.ShapeKinds.{Kinds-on, kinds-end, kinds-next, words-kinds, numeric-agrees}
 use Rattle.laws.specs.ShapeRests.{with-record, follows, ended-with, ended-without, behind-follows}
 
 -- ---- the nestings of shape forms, in the order of their brackets

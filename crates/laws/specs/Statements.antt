@@ -28,7 +28,7 @@ use Rattle.laws.specs.Distinct.{distinct}
 use Rattle.laws.specs.Tree.{Tree, meaning, Fits}
 use Rattle.laws.specs.Rfc8259.{JSON-text}
 use Rattle.laws.specs.Causes.{Cause, First}
-use Rattle.laws.specs.FormCauses.{Shape-cause}
+use Rattle.laws.specs.FormCauses.{Shape-cause, Reader-cause}
 use Rattle.laws.specs.FormGrammar.{Shape-form, Result-form, result-forms, result-levels}
 use Rattle.laws.specs.Good.{Good-value, Good-shape}
 use Rattle.laws.specs.Readers.{scoped, proper}
@@ -75,6 +75,14 @@ abbrev pub Readers-by-the-grammar : Type 0
 Readers-by-the-grammar =
     (l : Limits) (s : Bytes) (r : Result)
     → (read-reader l s ≡ ok r) ↔ (Result-form 1 (tokens s) r [] × (result-forms r ≤ l .values) × (result-levels r ≤ l .nesting))
+
+-- demand 1, of readers
+abbrev pub Readers-refused-for-cause : Type 0
+Readers-refused-for-cause = (l : Limits) (s : Bytes) (n p : ℕ) → read-reader l s ≡ refused n p → Reader-cause l s n p
+
+abbrev pub Readers-refused-for-the-least : Type 0
+Readers-refused-for-the-least =
+    (l : Limits) (s : Bytes) (n p m q : ℕ) → read-reader l s ≡ refused n p → Reader-cause l s m q → First n p m q
 
 -- ---- round trips: demand 2, "written so that, if short enough to read, they read back as the same value; shapes likewise"
 

@@ -16,6 +16,7 @@ use Rattle.laws.specs.JsonAdequate.{json-accepted-to, json-accepted-from
 use Rattle.laws.specs.ShapeForms.{shape-accepted-to, shape-accepted-from}
 use Rattle.laws.specs.ShapeCauses.{shape-refused, shape-least}
 use Rattle.laws.specs.ReaderForms.{reader-accepted-to, reader-accepted-from}
+use Rattle.laws.specs.ReaderCauses.{reader-refused, reader-least}
 use Rattle.laws.specs.ReaderFacts.{reader-proper}
 use Rattle.laws.specs.RoundLaws.{plain-reads-back, plain-idempotent, plain-not-longer, json-read-good, reader-read-good, run-good, shape-reads-back}
 use Rattle.laws.specs.RunLaws.{run-distinct}
@@ -27,7 +28,7 @@ use Rattle.laws.specs.Soundness.{sound}
 use Rattle.laws.specs.Causes.{Cause, cause-3, cause-4, cause-5, cause-6}
 use Rattle.laws.specs.Chain.{Proper-source, In-range}
 use Rattle.laws.specs.Demand3.{demand-3}
-use Rattle.laws.specs.Statements.{Documents-by-the-RFC, Documents-refused-for-cause, Documents-refused-for-the-least, Shapes-refused-for-cause, Shapes-refused-for-the-least, Shapes-by-the-grammar, Readers-by-the-grammar, Documents-read-back, Results-read-back, Values-read-back, Shapes-read-back, Partial-order, Least-upper-bound, Admits-is-below, Sizes-grow, Checked-readers-are-safe, Demand-3-from-every-source, Demand-3-for-documents}
+use Rattle.laws.specs.Statements.{Documents-by-the-RFC, Documents-refused-for-cause, Documents-refused-for-the-least, Shapes-refused-for-cause, Shapes-refused-for-the-least, Shapes-by-the-grammar, Readers-by-the-grammar, Readers-refused-for-cause, Readers-refused-for-the-least, Documents-read-back, Results-read-back, Values-read-back, Shapes-read-back, Partial-order, Least-upper-bound, Admits-is-below, Sizes-grow, Checked-readers-are-safe, Demand-3-from-every-source, Demand-3-for-documents}
 
 -- ---- reading
 
@@ -52,6 +53,12 @@ shapes-by-the-grammar l s t = (shape-accepted-to l s t, λ (f, a, b). shape-acce
 
 pub readers-by-the-grammar : Readers-by-the-grammar
 readers-by-the-grammar l s r = (reader-accepted-to l s r, λ (f, a, b). reader-accepted-from l s r f a b)
+
+pub readers-refused-for-cause : Readers-refused-for-cause
+readers-refused-for-cause = reader-refused
+
+pub readers-refused-for-the-least : Readers-refused-for-the-least
+readers-refused-for-the-least = reader-least
 
 -- ---- round trips
 
