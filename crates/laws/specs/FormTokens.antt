@@ -24,8 +24,8 @@ record Takes (k : Token) (vs us : List Placed) : Type 0 where
   split : us ≡ at place k ∷ left
   same-left : Same vs left
 
-take : {x : ℕ} {k : Token} {vs us : List Placed} → Same (at x k ∷ vs) us → Takes k vs us
-take (same-more {u = u} {us = us} e s) =
+take-token : {x : ℕ} {k : Token} {vs us : List Placed} → Same (at x k ∷ vs) us → Takes k vs us
+take-token (same-more {u = u} {us = us} e s) =
     record { place = u .at; left = us; split = λ i. at (u .at) (sym e i) ∷ us; same-left = s }
 
 -- a form of one list is a form of the other
@@ -37,7 +37,7 @@ record Moved (X : List Placed → List Placed → Type 0) (ts us : List Placed) 
 -- where a token must come next
 closed : {X : List Placed → List Placed → Type 0} {x : ℕ} {k : Token} {ts vs : List Placed} → Moved X ts (at x k ∷ vs) → (y : ℕ) × (ws : List Placed) × X ts (at y k ∷ ws) × Same vs ws
 closed {X} {ts = ts} m =
-    let t = take (m .same-left) in
+    let t = take-token (m .same-left) in
     (t .place, t .left, subst (X ts) (t .split) (m .form), t .same-left)
 
 closed-two
@@ -45,11 +45,11 @@ closed-two
     → (a : ℕ) × (b : ℕ) × (ws : List Placed) × X ts (at a k ∷ at b j ∷ ws) × Same vs ws
 closed-two {X} {k = k} {ts = ts} m =
     let (a, us, f, e) = closed m in
-    let t = take e in
+    let t = take-token e in
     (a, t .place, t .left, subst (λ us. X ts (at a k ∷ us)) (t .split) f, t .same-left)
 
 head-same : {w : Bytes} {p : ℕ} {ts us vs : List Placed} → Head w p ts us → Same ts vs → (q : ℕ) × Moved (Head w q) vs us
-head-same {w} head s = first (take s)
+head-same {w} head s = first (take-token s)
   where
     second : {q : ℕ} {us ws : List Placed} → Takes (word w) us ws → Moved (Head w q) (at q opening ∷ ws) us
     second {q = q} t =
@@ -60,10 +60,10 @@ head-same {w} head s = first (take s)
         }
 
     first : {x : ℕ} {us vs : List Placed} → Takes opening (at x (word w) ∷ us) vs → (q : ℕ) × Moved (Head w q) vs us
-    first {us = us} t = (t .place, subst (λ vs. Moved (Head w (t .place)) vs us) (sym (t .split)) (second (take (t .same-left))))
+    first {us = us} t = (t .place, subst (λ vs. Moved (Head w (t .place)) vs us) (sym (t .split)) (second (take-token (t .same-left))))
 
 name-same : {n : Bytes} {ts us vs : List Placed} → Name n ts us → Same ts vs → Moved (Name n) vs us
-name-same {n} name s = first (take s)
+name-same {n} name s = first (take-token s)
   where
     first : {us vs : List Placed} → Takes (quoted n) us vs → Moved (Name n) vs us
     first t =
@@ -75,7 +75,7 @@ kinds-same
     : {s : Shape} {ks : List Kind} {ts us vs : List Placed} → Kind-words s ks ts us → Same ts vs → Moved (Kind-words s ks) vs us
 kinds-same no-kinds e = record { left = _; form = no-kinds; same-left = e }
 kinds-same {s} {us = us} (has-kind {k = k} {ks = ks} h g) e =
-    let t = take e in
+    let t = take-token e in
     let m = kinds-same g (t .same-left) in
     subst
     (λ vs. Moved (Kind-words s (k ∷ ks)) vs us)

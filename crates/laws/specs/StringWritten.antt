@@ -84,10 +84,10 @@ pub written-char : {b : ℕ} {e : Bytes} → Written b e → b < 0x80 → (r : B
 written-char (as-short x f) l r = Rfc.escape x
 written-char {b} (as-hex m) l r =
     subst (λ t. Rfc.char (0x5C ∷ 0x75 ∷ 0x30 ∷ 0x30 ∷ hex-digit (b / 16) ∷ hex-digit (b % 16) ∷ r) t r) same
-    (Rfc.one-unicode (Rfc.hex-4 zero zero high low) (inl (omega arith)))
+    (Rfc.one-unicode (Rfc.hex-4 zero-digit zero-digit high low) (inl (omega arith)))
   where
-    zero : Rfc.HEXDIG 0x30 0
-    zero = Rfc.hex-digit {b = 0x30} (omega arith)
+    zero-digit : Rfc.HEXDIG 0x30 0
+    zero-digit = Rfc.hex-digit {b = 0x30} (omega arith)
 
     high : Rfc.HEXDIG (hex-digit (b / 16)) (b / 16)
     high = hex-digit-of (b / 16) (omega arith)
