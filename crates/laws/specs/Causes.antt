@@ -75,7 +75,7 @@ pub record Beyond (s r : Bytes) : Type 0 where
   pub digits : Numeral
   pub split : r ≡ run ++ behind
   pub complete : number r digits behind
-  -- no number begins with the run and the byte behind it
+  -- no number takes in the run and the byte b behind it
   pub longest
       : (b : ℕ) (w : Bytes) → behind ≡ b ∷ w → (d : Numeral) (c u : Bytes) → number (run ++ b ∷ c) d u → length u ≤ length c → ⊥
   pub over : beyond digits ≡ true
@@ -97,6 +97,7 @@ pub record Full (l : Limits) (s r : Bytes) : Type 0 where
   pub first : ℕ
   pub others : Bytes
   pub split : r ≡ first ∷ others
+  -- by the RFC's begin-array and begin-object a value may begin with white space, which is not where it is begun
   pub no-space : ws-char first → ⊥
   -- some value begins with that byte
   pub rest : Bytes

@@ -14,13 +14,14 @@ use Rattle.definitions.specs.Value.{Value, size, nesting}
 use Rattle.definitions.specs.Plain.{plain}
 use Rattle.definitions.specs.Shape.{Shape, ascending}
 use Rattle.definitions.specs.Order.{below}
+use Rattle.definitions.specs.Join.{shape-of}
 use Rattle.definitions.specs.Admits.{admits}
 use Rattle.definitions.specs.ShapeText.{read-shape}
 use Rattle.definitions.specs.Reader.{Result, read-reader}
 use Rattle.definitions.specs.Running.{Ran, run-reader}
 use Rattle.definitions.specs.Operations.{Done, Source, refusal, output-short, written, slices-short, infer-operation, check-operation, run-operation}
 use Rattle.laws.specs.Distinct.{distinct}
-use Rattle.laws.specs.Good.{Good-value}
+use Rattle.laws.specs.Good.{Good-shape}
 
 -- ---- lists
 
@@ -110,15 +111,15 @@ pub data Ends (published lent : List ℕ) (l : Limits) (r : Result) (v : Value) 
 -- a reader that passed: the result shape, which check wrote, and how run ends on every document that is read without
 -- refusal and admitted by the shape reached, with any lent buffers
 pub record Passes
-    (source : Source) (for-check for-run : List ℕ) (l : Limits) (shape : Shape) (reader : Bytes) (lent : List ℕ) (checked text : Bytes)
+    (source : Source) (for-check for-run : List ℕ) (l : Limits) (shape : Shape) (reader : Bytes) (lent : List ℕ) (check-output text : Bytes)
     : Type 0 where
   pub result : Shape
   pub wrote
       : read-shape
       l
       (take
-      (check-operation for-check lent l reader text checked .answer .length)
-      (check-operation for-check lent l reader text checked .output))
+      (check-operation for-check lent l reader text check-output .answer .length)
+      (check-operation for-check lent l reader text check-output .output))
       ≡ ok result
   pub form : Result
   pub reads : read-reader l reader ≡ ok form
@@ -126,11 +127,11 @@ pub record Passes
       : (document output : Bytes) (lent-to-run : List ℕ) (v : Value) → Reads source l document v → admits shape v ≡ true
       → Ends for-run lent-to-run l form v result output (run-operation source for-run lent-to-run l reader document output)
 
--- what is asked of a source: its refusals have a number, and what it accepts is a value of the paper with distinct names
+-- what is asked of a source: its refusals have a number, and the names of what it accepts are distinct and UTF-8
 pub record Proper-source (source : Source) : Type 0 where
   pub numbered : (l : Limits) (document : Bytes) (n p : ℕ) → source l document ≡ refused n p → 0 < n
   pub names-once : (l : Limits) (document : Bytes) (v : Value) → source l document ≡ ok v → distinct v ≡ true
-  pub good : (l : Limits) (document : Bytes) (v : Value) → source l document ≡ ok v → Good-value v
+  pub names-in-UTF-8 : (l : Limits) (document : Bytes) (v : Value) → source l document ≡ ok v → Good-shape (shape-of v)
 
 -- a set of limits in the ranges of request Q-6
 pub record In-range (l : Limits) : Type 0 where
@@ -146,6 +147,7 @@ pub record Demand-3 (source : Source) (for-infer for-check for-run : List ℕ) (
   pub shape : Shape
   pub well-formed : ascending shape ≡ true
   pub reads-as : read-shape l (reached source for-infer l calls start) ≡ ok shape
+  pub short-enough : length (reached source for-infer l calls start) ≤ l .bytes
   -- "the shape reached admits every accepted sample"
   pub admits-each
       : Each (λ d. (v : Value) × Reads source l d v × (admits shape v ≡ true)) (accepted source for-infer l calls start)
@@ -163,6 +165,6 @@ pub record Demand-3 (source : Source) (for-infer for-check for-run : List ℕ) (
   -- "Whichever reader passes the check against the shape reached, and whichever document that shape admits, the reader
   -- never gets stuck on it": what check wrote is the result shape
   pub never-stuck
-      : (reader checked : Bytes) (lent : List ℕ)
-      → check-operation for-check lent l reader (reached source for-infer l calls start) checked .answer .number ≡ 0
-      → Passes source for-check for-run l shape reader lent checked (reached source for-infer l calls start)
+      : (reader check-output : Bytes) (lent : List ℕ)
+      → check-operation for-check lent l reader (reached source for-infer l calls start) check-output .answer .number ≡ 0
+      → Passes source for-check for-run l shape reader lent check-output (reached source for-infer l calls start)

@@ -26,7 +26,7 @@ use Rattle.laws.specs.OrderLaws.{below-refl, below-trans, below-antisym}
 use Rattle.laws.specs.JoinLaws.{nothing-ascending, join-ascending, join-upper-left, join-upper-right, join-least, shape-of-ascending}
 use Rattle.laws.specs.AdmitsLaws.{admits-mono, shape-of-admits, admits-below}
 use Rattle.laws.specs.SizeLaws.{forms-mono, levels-mono, write-mono}
-use Rattle.laws.specs.RoundLaws.{shape-reads-back, nothing-good, join-good, shape-of-good}
+use Rattle.laws.specs.RoundLaws.{shape-reads-back, nothing-good, join-good}
 use Rattle.laws.specs.Judging.{shape-over, shape-fits, fits-shape}
 use Rattle.laws.specs.Numbered.{numbered-shape}
 use Rattle.laws.specs.Chain.{Each, each-none, each-one, Reordered, Call, start, takes, left-by, reached, accepted, Reads, Long-enough, Proper-source, In-range}
@@ -132,7 +132,7 @@ module _ (source : Source) (proper : Proper-source source) (published : List ℕ
       record {
         text = accepted-left source published l c t s v a .1;
         sorted = join-ascending s (shape-of v) (h .sorted) (shape-of-ascending v);
-        good = join-good s (shape-of v) (h .good) (shape-of-good v (proper .good l (c .sample) v (a .reads-sample .value)));
+        good = join-good s (shape-of v) (h .good) (proper .names-in-UTF-8 l (c .sample) v (a .reads-sample .value));
         fits = a .fits;
       }
 

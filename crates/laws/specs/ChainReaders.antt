@@ -19,7 +19,8 @@ use Rattle.definitions.specs.Checking.{check-reader}
 use Rattle.definitions.specs.Running.{Ran, run-reader}
 use Rattle.definitions.specs.Operations.{Done, Source, Judged, passed, stopped, _>>=_, refusal, output-short, written, in-text, judge-text, slices-short, judge-work, Text-out, shape-out, result-out, deliver, finish, check-operation, run-operation}
 use Rattle.laws.specs.Good.{Good-shape}
-use Rattle.laws.specs.Soundness.{Safe, sound}
+use Rattle.laws.specs.Readers.{Safe}
+use Rattle.laws.specs.Soundness.{sound}
 use Rattle.laws.specs.SoundShapes.{check-ascending}
 use Rattle.laws.specs.ReaderFacts.{reader-scoped, reader-proper}
 use Rattle.laws.specs.RoundLaws.{reader-read-good, check-good, shape-reads-back}

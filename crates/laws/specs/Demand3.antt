@@ -6,7 +6,7 @@ use Rattle.definitions.specs.Shape.{nothing}
 use Rattle.definitions.specs.Operations.{Source}
 use Rattle.laws.specs.OrderLaws.{nothing-below}
 use Rattle.laws.specs.Chain.{Call, start, Proper-source, In-range, Demand-3}
-use Rattle.laws.specs.ChainReached.{Reaches, reaches, stands-start, stands-reads, another-order}
+use Rattle.laws.specs.ChainReached.{Reaches, reaches, stands-start, stands-reads, stands-short, another-order}
 use Rattle.laws.specs.ChainReaders.{passes}
 
 pub demand-3
@@ -17,6 +17,7 @@ demand-3 source proper for-infer for-check for-run l range calls =
       shape = r .shape;
       well-formed = r .stands .sorted;
       reads-as = stands-reads (r .stands);
+        short-enough = stands-short (r .stands);
       admits-each = r .admits-each;
       lies-below = λ u a e. r .least u a (nothing-below u) e;
       other-order = λ others o long. another-order source proper for-infer l calls others start nothing (stands-start l range) o long;

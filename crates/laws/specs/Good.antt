@@ -1,14 +1,19 @@
--- Shapes, values and readers whose names and texts are UTF-8 and whose numbers keep the paper's limits: those that reading
--- and inferring make. Assumes nothing.
-use Prim.Native.Nat.{ℕ}
-use mathlib.Core.Bool.{Bool}
+-- Shapes, values and readers whose names and texts are UTF-8 and whose numbers keep the paper's limits. Assumes nothing.
+use Prim.Native.Nat.{ℕ, _≤_}
+use mathlib.Core.Path.{_≡_}
+use mathlib.Core.Bool.{Bool, true}
 use Rattle.definitions.specs.Bytes.{Bytes}
-use Rattle.definitions.specs.Number.{Number}
+use Rattle.definitions.specs.Number.{Number, most-coefficient, most-scale}
 use Rattle.definitions.specs.Value.{Value, Items, no-items, item, Members, no-members, member}
 use Rattle.definitions.specs.Shape.{Numeric, Shape, shape, Element, no-list, list-of, Record, no-rec, rec-of, Fields, no-fields, field}
 use Rattle.definitions.specs.Reader.{Place, Conversion, Test, Result, Pairs, no-pairs, pair}
 use Rattle.laws.specs.Rfc3629.{UTF8-octets}
-use Rattle.laws.specs.NumberRound.{Good-number}
+
+-- a number of the paper: coefficient and scale within refusal 4's limits, and "Zero has no minus"
+pub record Good-number (x : Number) : Type 0 where
+  pub coefficient-fits : x .coefficient ≤ most-coefficient
+  pub scale-fits : x .scale ≤ most-scale
+  pub minus-fits : x .negative ≡ true → x .coefficient ≡ 0 → ⊥
 
 -- ---- shapes
 

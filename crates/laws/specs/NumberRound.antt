@@ -13,15 +13,11 @@ use Rattle.definitions.specs.Number.{Number, most-coefficient, most-scale, Nume
 use Rattle.definitions.specs.Plain.{decimal-within, decimal, last-digits, fraction, minus, plain-number}
 use Rattle.laws.specs.Bools.{or-false-left, or-false-right, and-right, not-true, not-false}
 use Rattle.laws.specs.Ranges.{leb-le, le-leb, leb-gt, gt-leb, eqb-ne, ne-eqb}
+use Rattle.laws.specs.Good.{Good-number}
 use Rattle.laws.specs.Rfc3629.{In}
 use Rattle.laws.specs.Rfc8259 as Rfc
 
 -- ---- numbers that keep the limits
-
-pub record Good-number (x : Number) : Type 0 where
-  pub coefficient-fits : x .coefficient ≤ most-coefficient
-  pub scale-fits : x .scale ≤ most-scale
-  pub minus-fits : x .negative ≡ true → x .coefficient ≡ 0 → ⊥
 
 -- what a numeral that is not beyond the limits means keeps them
 pub good-number : (d : Numeral) → beyond d ≡ false → Good-number (number-of d)

@@ -1,8 +1,14 @@
--- Well-formed readers: what refusal 7 sees to for reader texts. Assumes nothing.
+-- Well-formed readers, what refusal 7 sees to for reader texts; and safe runs. Assumes nothing.
 use Prim.Native.Nat.{ℕ, suc}
 use mathlib.Core.Bool.{Bool, true, not, _&&_}
+use mathlib.Core.Path.{_≡_}
 use lib.Dec.{ltb}
 use Rattle.definitions.specs.Reader.{Place, Result, Pairs, no-pairs, pair, among-pairs}
+use Rattle.definitions.specs.Outcome.{Outcome, ok, refused}
+use Rattle.definitions.specs.Value.{Value}
+use Rattle.definitions.specs.Shape.{Shape}
+use Rattle.definitions.specs.Admits.{admits}
+use Rattle.definitions.specs.Running.{Ran}
 use Rattle.laws.specs.Distinct.{distinct}
 
 -- the place's binding is among k
@@ -42,3 +48,8 @@ unfoldable mutual
   pub proper-pairs : Pairs → Bool
   proper-pairs no-pairs = true
   proper-pairs (pair n r ps) = not (among-pairs n ps) && proper r && proper-pairs ps
+
+-- what a checked reader may come to: a value of the result shape, or 13
+abbrev pub Safe : Shape → Outcome ℕ (Ran Value) → Type 0
+Safe u (ok x) = (admits u (x .result) ≡ true) × (distinct (x .result) ≡ true)
+Safe u (refused n at) = n ≡ 13

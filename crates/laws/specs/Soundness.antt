@@ -18,7 +18,7 @@ use Rattle.definitions.specs.Running.{Ran, gives, field-value, converted, items
 use Rattle.laws.specs.Bools.{and-intro, not-true}
 use Rattle.laws.specs.Distinct.{distinct}
 use Rattle.laws.specs.AdmitsLaws.{shape-of-admits, admits-join-left, admits-join-right}
-use Rattle.laws.specs.Readers.{scoped-place, scoped, scoped-pairs, proper, proper-pairs}
+use Rattle.laws.specs.Readers.{Safe, scoped-place, scoped, scoped-pairs, proper, proper-pairs}
 use Rattle.laws.specs.Bools.{and-two, and-three}
 use Rattle.laws.specs.SoundHolds.{Holds, gave, any, holds-ok, holds-number, holds-of, holds-map, holds-both, holds-bind, holds-wants, holds-unstuck, holds-enter, holds-either, holds-listed}
 use Rattle.laws.specs.RunLaws.{distinct-none, distinct-bind, pairs-named, run-keeps-distinct}
@@ -187,11 +187,6 @@ mutual
       gave (pack-admitted i (x .result) s (xs .result) fs (f₁ .1) (h₁ .1 i ∙ not-true (among-pairs i ps) (d .0)) h (h₁ .0))
 
 -- ---- the theorem
-
--- what a checked reader may come to: a value of the result shape, or 13
-abbrev pub Safe : Shape → Outcome ℕ (Ran Value) → Type 0
-Safe u (ok x) = (admits u (x .result) ≡ true) × (distinct (x .result) ≡ true)
-Safe u (refused n at) = n ≡ 13
 
 safely
     : (u : Shape) (o : Outcome ℕ (Ran Value))

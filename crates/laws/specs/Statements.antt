@@ -31,8 +31,7 @@ use Rattle.laws.specs.Causes.{Cause, First}
 use Rattle.laws.specs.FormCauses.{Shape-cause, Reader-cause}
 use Rattle.laws.specs.FormGrammar.{Shape-form, Result-form, result-forms, result-levels}
 use Rattle.laws.specs.Good.{Good-value, Good-shape}
-use Rattle.laws.specs.Readers.{scoped, proper}
-use Rattle.laws.specs.Soundness.{Safe}
+use Rattle.laws.specs.Readers.{scoped, proper, Safe}
 use Rattle.laws.specs.Chain.{Call, Proper-source, In-range, Demand-3}
 
 -- ---- documents: demand 2, "Documents are read as RFC 8259 and RFC 3629 define them"

@@ -18,7 +18,7 @@ use Rattle.laws.specs.ShapeCauses.{shape-refused, shape-least}
 use Rattle.laws.specs.ReaderForms.{reader-accepted-to, reader-accepted-from}
 use Rattle.laws.specs.ReaderCauses.{reader-refused, reader-least}
 use Rattle.laws.specs.ReaderFacts.{reader-proper}
-use Rattle.laws.specs.RoundLaws.{plain-reads-back, plain-idempotent, plain-not-longer, json-read-good, reader-read-good, run-good, shape-reads-back}
+use Rattle.laws.specs.RoundLaws.{plain-reads-back, plain-idempotent, plain-not-longer, json-read-good, reader-read-good, run-good, shape-reads-back, shape-of-good}
 use Rattle.laws.specs.RunLaws.{run-distinct}
 use Rattle.laws.specs.OrderLaws.{below-refl, below-trans, below-antisym}
 use Rattle.laws.specs.JoinLaws.{join-ascending, join-upper-left, join-upper-right, join-least}
@@ -121,7 +121,8 @@ cause-numbered (cause-6 pre r e b) = lit≤ tt
 pub json-proper : Proper-source read-json
 json-proper =
     record
-    { numbered = λ l s n p e. cause-numbered (json-refused l s n p e); names-once = json-distinct; good = json-read-good }
+    { numbered = λ l s n p e. cause-numbered (json-refused l s n p e); names-once = json-distinct;
+        names-in-UTF-8 = λ l s v e. shape-of-good v (json-read-good l s v e) }
 
 pub demand-3-for-documents : Demand-3-for-documents
 demand-3-for-documents = demand-3 read-json json-proper
