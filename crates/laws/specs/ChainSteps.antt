@@ -35,7 +35,7 @@ module _ (source : Source) (published : List ℕ) (l : Limits) where
     pub fits : shape-over l (join s (shape-of v)) ≡ false
     pub room : length (write-shape (join s (shape-of v))) ≤ length (c .output)
 
-  left-taken
+  pub left-taken
       : (c : Call) (t : Bytes) → takes source published l c t ≡ true
       → left-by source published l c t ≡ take (infers source published l c t .answer .length) (infers source published l c t .output)
   unfolding left-by

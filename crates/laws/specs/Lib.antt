@@ -111,6 +111,8 @@ pub mod ChainLists
 pub mod ChainReached
 pub mod ChainReaders
 pub mod Demand3
+pub mod WrittenShapes
+pub mod CauseRefuses
 pub mod Counterexamples
 pub mod Statements
 pub mod Theorems

@@ -7,8 +7,9 @@ use mathlib.Core.Path.{_≡_}
 use mathlib.Core.Logic.{_↔_}
 use mathlib.Core.Bool.{Bool, true}
 use mathlib.Core.List.{List, []}
-use lib.ListN.{length}
+use lib.ListN.{length, take}
 use Rattle.definitions.specs.declared.Limits.{Limits}
+use Rattle.definitions.specs.Limits.{standard}
 use Rattle.definitions.specs.Bytes.{Bytes}
 use Rattle.definitions.specs.Outcome.{Outcome, ok, refused}
 use Rattle.definitions.specs.Value.{Value, size, nesting}
@@ -23,11 +24,12 @@ use Rattle.definitions.specs.ShapeText.{read-shape, write-shape}
 use Rattle.definitions.specs.Reader.{Result, read-reader}
 use Rattle.definitions.specs.Checking.{check-reader}
 use Rattle.definitions.specs.Running.{Ran, run-reader}
-use Rattle.definitions.specs.Operations.{Source}
+use Rattle.definitions.specs.Operations.{Done, Source, Judged, Text-out, finish, infer-operation, join-operation, check-operation}
 use Rattle.laws.specs.Distinct.{distinct}
 use Rattle.laws.specs.Tree.{Tree, meaning, Fits}
 use Rattle.laws.specs.Rfc8259.{JSON-text}
-use Rattle.laws.specs.Causes.{Cause, First}
+use Rattle.laws.specs.Causes.{Cause}
+use Rattle.laws.specs.CauseRefuses.{Refused-first}
 use Rattle.laws.specs.FormCauses.{Shape-cause, Reader-cause}
 use Rattle.laws.specs.FormGrammar.{Shape-form, Result-form, result-forms, result-levels}
 use Rattle.laws.specs.Good.{Good-value, Good-shape}
@@ -37,7 +39,7 @@ use Rattle.laws.specs.Chain.{Call, Proper-source, In-range, Demand-3}
 -- ---- documents: demand 2, "Documents are read as RFC 8259 and RFC 3629 define them"
 
 -- a document is accepted with a value exactly where the RFC's grammar derives a tree from it that means the value and
--- keeps the paper's limits
+-- keeps the paper's limits but 2, which is judged before
 abbrev pub Documents-by-the-RFC : Type 0
 Documents-by-the-RFC =
     (l : Limits) (s : Bytes) (v : Value)
@@ -47,10 +49,10 @@ Documents-by-the-RFC =
 abbrev pub Documents-refused-for-cause : Type 0
 Documents-refused-for-cause = (l : Limits) (s : Bytes) (n p : ℕ) → read-json l s ≡ refused n p → Cause l s n p
 
--- demand 1, "and under no other": every cause stands later, or there with a number no smaller
+-- demand 1, "and under no other": where a cause stands the document is refused, and every cause stands at the place of the
+-- refusal given or later, there with a number no smaller
 abbrev pub Documents-refused-for-the-least : Type 0
-Documents-refused-for-the-least =
-    (l : Limits) (s : Bytes) (n p m q : ℕ) → read-json l s ≡ refused n p → Cause l s m q → First n p m q
+Documents-refused-for-the-least = (l : Limits) (s : Bytes) (m q : ℕ) → Cause l s m q → Refused-first (read-json l s) m q
 
 -- ---- shape texts and readers: demand 2, "shapes likewise"
 
@@ -60,16 +62,14 @@ Shapes-by-the-grammar =
     (l : Limits) (s : Bytes) (t : Shape)
     → (read-shape l s ≡ ok t) ↔ (Shape-form (tokens s) t [] × (forms t ≤ l .values) × (levels t ≤ l .nesting))
 
--- demand 1: a refused shape text has its cause at its place, and every cause stands later, or there with a number no
--- smaller
+-- demand 1, of shape texts
 abbrev pub Shapes-refused-for-cause : Type 0
 Shapes-refused-for-cause = (l : Limits) (s : Bytes) (n p : ℕ) → read-shape l s ≡ refused n p → Shape-cause l s n p
 
 abbrev pub Shapes-refused-for-the-least : Type 0
-Shapes-refused-for-the-least =
-    (l : Limits) (s : Bytes) (n p m q : ℕ) → read-shape l s ≡ refused n p → Shape-cause l s m q → First n p m q
+Shapes-refused-for-the-least = (l : Limits) (s : Bytes) (m q : ℕ) → Shape-cause l s m q → Refused-first (read-shape l s) m q
 
--- so is a reader, with one binding, the document
+-- a reader is accepted exactly where it is a right text within the limits; the document is its one binding
 abbrev pub Readers-by-the-grammar : Type 0
 Readers-by-the-grammar =
     (l : Limits) (s : Bytes) (r : Result)
@@ -80,8 +80,7 @@ abbrev pub Readers-refused-for-cause : Type 0
 Readers-refused-for-cause = (l : Limits) (s : Bytes) (n p : ℕ) → read-reader l s ≡ refused n p → Reader-cause l s n p
 
 abbrev pub Readers-refused-for-the-least : Type 0
-Readers-refused-for-the-least =
-    (l : Limits) (s : Bytes) (n p m q : ℕ) → read-reader l s ≡ refused n p → Reader-cause l s m q → First n p m q
+Readers-refused-for-the-least = (l : Limits) (s : Bytes) (m q : ℕ) → Reader-cause l s m q → Refused-first (read-reader l s) m q
 
 -- ---- round trips: demand 2, "written so that, if short enough to read, they read back as the same value; shapes likewise"
 
@@ -107,6 +106,41 @@ abbrev pub Shapes-read-back : Type 0
 Shapes-read-back =
     (l : Limits) (s : Shape) → Good-shape s → ascending s ≡ true → forms s ≤ l .values → levels s ≤ l .nesting
     → read-shape l (write-shape s) ≡ ok s
+
+-- what was read as a shape is a shape of the paper, and its text reads back
+abbrev pub Read-shapes-read-back : Type 0
+Read-shapes-read-back =
+    (l : Limits) (s : Bytes) (t : Shape) → read-shape l s ≡ ok t
+    → (ascending t ≡ true) × Good-shape t × (read-shape l (write-shape t) ≡ ok t)
+
+-- the bytes that an operation wrote
+abbrev pub wrote : Done → Bytes
+wrote d = take (d .answer .length) (d .output)
+
+-- what infer, join and check write reads back as the shape that the definitions compute
+pub record Written-shapes-read-back : Type 0 where
+  pub by-infer
+    : (source : Source) → Proper-source source → (published lent : List ℕ) (l : Limits) (shape document output : Bytes)
+    → infer-operation source published lent l shape document output .answer .number ≡ 0
+    → (s : Shape) × (v : Value) × (read-shape l shape ≡ ok s) × (source l document ≡ ok v)
+    × (read-shape l (wrote (infer-operation source published lent l shape document output)) ≡ ok (join s (shape-of v)))
+  pub by-join
+    : (published lent : List ℕ) (l : Limits) (first second output : Bytes)
+    → join-operation published lent l first second output .answer .number ≡ 0
+    → (s : Shape) × (t : Shape) × (read-shape l first ≡ ok s) × (read-shape l second ≡ ok t)
+    × (read-shape l (wrote (join-operation published lent l first second output)) ≡ ok (join s t))
+  pub by-check
+    : (published lent : List ℕ) (l : Limits) (reader shape output : Bytes)
+    → check-operation published lent l reader shape output .answer .number ≡ 0
+    → (r : Result) × (s : Shape) × (u : Shape) × (read-reader l reader ≡ ok r) × (read-shape l shape ≡ ok s)
+    × (check-reader r s ≡ ok u) × (read-shape l (wrote (check-operation published lent l reader shape output)) ≡ ok u)
+
+-- ---- demand 1, "no refusal changes a byte of the output buffer"
+
+-- whatever was judged: every operation that writes ends in `finish`
+abbrev pub Refusals-keep-the-output : Type 0
+Refusals-keep-the-output =
+    (output : Bytes) (j : Judged Text-out) → (finish output j .answer .number ≡ 0 → ⊥) → finish output j .output ≡ output
 
 -- ---- order and join: demand 2, "inferring, ordering .. give just the answers that document 01 defines", and what demand 3
 -- stands on
@@ -165,3 +199,7 @@ Demand-3-from-every-source = (source : Source) → Proper-source source → Dema
 -- and so for JSON documents
 abbrev pub Demand-3-for-documents : Type 0
 Demand-3-for-documents = Demand-3-from read-json
+
+-- the paper's own limits are in range
+abbrev pub Standard-in-range : Type 0
+Standard-in-range = In-range standard

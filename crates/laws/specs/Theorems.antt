@@ -7,18 +7,21 @@ use mathlib.Core.Bool.{true}
 use mathlib.Core.List.{List, [], _∷_}
 use lib.Dec.{lit≤}
 use Rattle.definitions.specs.declared.Limits.{Limits}
+use Rattle.definitions.specs.Limits.{standard}
 use Rattle.definitions.specs.Bytes.{Bytes}
 use Rattle.definitions.specs.Outcome.{Outcome, ok, refused}
 use Rattle.definitions.specs.Number.{most-coefficient}
 use Rattle.definitions.specs.Value.{Value, size}
 use Rattle.definitions.specs.Json.{read-json}
-use Rattle.laws.specs.JsonAdequate.{json-accepted-to, json-accepted-from, json-distinct, json-refused, json-least}
-use Rattle.laws.specs.ShapeForms.{shape-accepted-to, shape-accepted-from}
-use Rattle.laws.specs.ShapeCauses.{shape-refused, shape-least}
+use Rattle.laws.specs.JsonAdequate.{json-accepted-to, json-accepted-from, json-distinct, json-refused}
+use Rattle.laws.specs.ShapeForms.{shape-accepted-to, shape-accepted-from, shape-ascending}
+use Rattle.laws.specs.ShapeCauses.{shape-refused}
+use Rattle.laws.specs.CauseRefuses.{json-cause-refuses, shape-cause-refuses, reader-cause-refuses}
+use Rattle.laws.specs.WrittenShapes.{refusal-keeps, infer-reads-back, join-reads-back, check-reads-back}
 use Rattle.laws.specs.ReaderForms.{reader-accepted-to, reader-accepted-from}
-use Rattle.laws.specs.ReaderCauses.{reader-refused, reader-least}
+use Rattle.laws.specs.ReaderCauses.{reader-refused}
 use Rattle.laws.specs.ReaderFacts.{reader-proper}
-use Rattle.laws.specs.RoundLaws.{plain-reads-back, plain-idempotent, plain-not-longer, json-read-good, reader-read-good, run-good, shape-reads-back, shape-of-good}
+use Rattle.laws.specs.RoundLaws.{plain-reads-back, plain-idempotent, plain-not-longer, json-read-good, reader-read-good, run-good, shape-reads-back, shape-idempotent, shape-read-good, shape-of-good}
 use Rattle.laws.specs.RunLaws.{run-distinct}
 use Rattle.laws.specs.OrderLaws.{below-refl, below-trans, below-antisym}
 use Rattle.laws.specs.JoinLaws.{join-ascending, join-upper-left, join-upper-right, join-least}
@@ -28,7 +31,7 @@ use Rattle.laws.specs.Soundness.{sound}
 use Rattle.laws.specs.Causes.{Cause, cause-3, cause-4, cause-5, cause-6}
 use Rattle.laws.specs.Chain.{Proper-source, In-range}
 use Rattle.laws.specs.Demand3.{demand-3}
-use Rattle.laws.specs.Statements.{Documents-by-the-RFC, Documents-refused-for-cause, Documents-refused-for-the-least, Shapes-refused-for-cause, Shapes-refused-for-the-least, Shapes-by-the-grammar, Readers-by-the-grammar, Readers-refused-for-cause, Readers-refused-for-the-least, Documents-read-back, Results-read-back, Values-read-back, Shapes-read-back, Partial-order, Least-upper-bound, Admits-is-below, Sizes-grow, Checked-readers-are-safe, Demand-3-from-every-source, Demand-3-for-documents}
+use Rattle.laws.specs.Statements.{Documents-by-the-RFC, Documents-refused-for-cause, Documents-refused-for-the-least, Shapes-refused-for-cause, Shapes-refused-for-the-least, Shapes-by-the-grammar, Readers-by-the-grammar, Readers-refused-for-cause, Readers-refused-for-the-least, Documents-read-back, Results-read-back, Values-read-back, Shapes-read-back, Read-shapes-read-back, Written-shapes-read-back, Refusals-keep-the-output, Partial-order, Least-upper-bound, Admits-is-below, Sizes-grow, Checked-readers-are-safe, Demand-3-from-every-source, Demand-3-for-documents, Standard-in-range}
 
 -- ---- reading
 
@@ -40,13 +43,13 @@ pub documents-refused-for-cause : Documents-refused-for-cause
 documents-refused-for-cause = json-refused
 
 pub documents-refused-for-the-least : Documents-refused-for-the-least
-documents-refused-for-the-least = json-least
+documents-refused-for-the-least = json-cause-refuses
 
 pub shapes-refused-for-cause : Shapes-refused-for-cause
 shapes-refused-for-cause = shape-refused
 
 pub shapes-refused-for-the-least : Shapes-refused-for-the-least
-shapes-refused-for-the-least = shape-least
+shapes-refused-for-the-least = shape-cause-refuses
 
 pub shapes-by-the-grammar : Shapes-by-the-grammar
 shapes-by-the-grammar l s t = (shape-accepted-to l s t, λ (f, a, b). shape-accepted-from l s t f a b)
@@ -58,7 +61,7 @@ pub readers-refused-for-cause : Readers-refused-for-cause
 readers-refused-for-cause = reader-refused
 
 pub readers-refused-for-the-least : Readers-refused-for-the-least
-readers-refused-for-the-least = reader-least
+readers-refused-for-the-least = reader-cause-refuses
 
 -- ---- round trips
 
@@ -87,6 +90,15 @@ values-read-back = plain-reads-back
 
 pub shapes-read-back : Shapes-read-back
 shapes-read-back = shape-reads-back
+
+pub read-shapes-read-back : Read-shapes-read-back
+read-shapes-read-back l s t e = (shape-ascending l s t e, shape-read-good l s t e, shape-idempotent l s t e)
+
+pub written-shapes-read-back : Written-shapes-read-back
+written-shapes-read-back = record { by-infer = infer-reads-back; by-join = join-reads-back; by-check = check-reads-back }
+
+pub refusals-keep-the-output : Refusals-keep-the-output
+refusals-keep-the-output = refusal-keeps
 
 -- ---- order and join
 
@@ -126,3 +138,9 @@ json-proper =
 
 pub demand-3-for-documents : Demand-3-for-documents
 demand-3-for-documents = demand-3 read-json json-proper
+
+pub standard-in-range : Standard-in-range
+unfolding standard
+standard-in-range =
+    record
+      { bytes = (lit≤ tt, lit≤ tt); values = (lit≤ tt, lit≤ tt); nesting = (lit≤ tt, lit≤ tt); steps = (lit≤ tt, lit≤ tt) }

@@ -1,0 +1,6 @@
+-- The laws that the functions' proofs cite.
+pub mod Rows
+pub mod Caps
+pub mod Reading
+pub mod Counting
+pub mod Writing

@@ -1,0 +1,7 @@
+-- The definitions and laws of this crate.
+pub mod NumberRun
+pub mod NumberRead
+pub mod NumberWrite
+pub mod NumberCode
+pub mod NumberLaws
+pub mod DecimalLaws

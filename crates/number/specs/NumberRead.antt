@@ -1,0 +1,30 @@
+-- What reading a number at a place of a document answers. Assumes nothing.
+use Prim.Native.Nat.{ℕ, _≤_}
+use mathlib.Core.Path.{_≡_}
+use mathlib.Core.Bool.{false}
+use lib.ListN.{length, drop}
+use Rattle.definitions.specs.Bytes.{Bytes}
+use Rattle.definitions.specs.Number.{Number, no-digits, beyond, number-of, begin, complete}
+use Rattle.number.specs.NumberRun.{Run, longest}
+use Rattle.number.specs.declared.NumberRead.{NumberRead}
+
+-- the longest run that begins a number at a place of a document
+abbrev pub run-at : Bytes → ℕ → Run
+run-at doc at = longest begin no-digits (drop at doc)
+
+-- the number that an answer holds
+abbrev pub number-in : NumberRead → Number
+number-in r = record { negative = r .negative; coefficient = r .coefficient; scale = r .scale }
+
+-- what is read at a place of a document
+pub record Reads-number (doc : Bytes) (at : ℕ) (r : NumberRead) : Type 0 where
+  pub behind : at ≤ r .end
+  pub within : r .end ≤ length doc
+  -- the run ends there
+  pub rest : drop (r .end) doc ≡ run-at doc at .rest
+  -- it is a number
+  pub whole : r .complete ≡ complete (run-at doc at .phase)
+  -- it is one that refusal 4 is for
+  pub over : r .beyond ≡ beyond (run-at doc at .digits)
+  -- the number that it means
+  pub meaning : r .beyond ≡ false → number-in r ≡ number-of (run-at doc at .digits)
