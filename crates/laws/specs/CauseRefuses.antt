@@ -8,7 +8,7 @@ use Rattle.definitions.specs.Value.{Value}
 use Rattle.definitions.specs.Json.{read-json, scan}
 use Rattle.definitions.specs.ShapeText.{read-shape}
 use Rattle.definitions.specs.Reader.{read-reader}
-use Rattle.laws.specs.Causes.{Cause, cause-3, cause-4, cause-5, cause-6, First}
+use Rattle.laws.specs.Causes.{Cause, cause-3, cause-4, cause-5, cause-6, First, Refused-first}
 use Rattle.laws.specs.FormCauses.{Shape-cause, Reader-cause}
 use Rattle.laws.specs.JsonMoves.{limited, scan-by, scan-limited, ok≢refused}
 use Rattle.laws.specs.JsonLive.{start}
@@ -17,10 +17,6 @@ use Rattle.laws.specs.JsonBroken.{breaks-settled}
 use Rattle.laws.specs.JsonAdequate.{json-least}
 use Rattle.laws.specs.ShapeCauses.{shape-least, shape-causeless}
 use Rattle.laws.specs.ReaderCauses.{reader-least, reader-causeless}
-
--- refused, at the least cause
-abbrev pub Refused-first : {A : Type 0} → Outcome ℕ A → (m q : ℕ) → Type 0
-Refused-first o m q = (n : ℕ) × (p : ℕ) × (o ≡ refused n p) × First n p m q
 
 -- what no cause leaves to be accepted is refused
 refuses

@@ -8,6 +8,7 @@ use mathlib.Core.List.{List, [], _∷_, _++_}
 use lib.ListN.{length}
 use Rattle.definitions.specs.declared.Limits.{Limits}
 use Rattle.definitions.specs.Bytes.{Bytes}
+use Rattle.definitions.specs.Outcome.{Outcome, refused}
 use Rattle.definitions.specs.Number.{Numeral, beyond}
 use Rattle.definitions.specs.Value.{size-items, size-members, has-name}
 use Rattle.laws.specs.Tree.{Tree, Trees, no-trees, tree, Named, no-named, named, meaning-trees, meaning-named}
@@ -117,3 +118,7 @@ pub data Cause (l : Limits) (s : Bytes) : ℕ → ℕ → Type 0 where
 pub data First (n p m q : ℕ) : Type 0 where
   earlier : p < q → First n p m q
   same-place : p ≡ q → n ≤ m → First n p m q
+
+-- an outcome is a refusal that goes before the cause m at q, or is it
+abbrev pub Refused-first : {A : Type 0} → Outcome ℕ A → (m q : ℕ) → Type 0
+Refused-first o m q = (n : ℕ) × (p : ℕ) × (o ≡ refused n p) × First n p m q

@@ -1,8 +1,8 @@
 -- That the theorems say something: with a hypothesis left out, turned round or weakened by one, each is false. Every name
 -- says what would go wrong. Assumes nothing.
-use Prim.Native.Nat.{ℕ, zero, suc, _≤_, _+_}
+use Prim.Native.Nat.{ℕ, suc, _≤_, _<_, _+_}
 use mathlib.Core.Path.{_≡_, refl, sym, ap, _∙_, subst}
-use mathlib.Core.Bool.{Bool, true, false, false≢true}
+use mathlib.Core.Bool.{Bool, true, false, false≢true, true≢false}
 use mathlib.Core.List.{List, [], _∷_, _++_, map}
 use lib.Dec.{lit≤}
 use lib.ListN.{length, replicate}
@@ -26,8 +26,11 @@ use Rattle.definitions.specs.Operations.{Source}
 use Rattle.definitions.specs.Evaluate.{evaluate}
 use Rattle.laws.specs.Distinct.{distinct}
 use Rattle.laws.specs.Rfc8259.{ws, ws-none, structural, char-of, value, is-array, array, empty-array, values, no-value, JSON-text, json-text}
-use Rattle.laws.specs.Tree.{Tree, Trees, no-trees, tree, meaning}
-use Rattle.laws.specs.Chain.{Call, start, infers, takes, left-by, accepted, reached, Reordered, no-element, keep-first, swap-first, again}
+use Rattle.laws.specs.Rfc3629.{UTF8-octets, no-octets, octets, char-1, utf8-1}
+use Rattle.laws.specs.Tree.{Tree, Trees, no-trees, tree, meaning, Numbers-fit, list-fits, tree-fits, no-trees-fit}
+use Rattle.laws.specs.Good.{Good-value, good-null, good-rec, good-member, good-no-members}
+use Rattle.laws.specs.Readers.{scoped, scoped-place, proper}
+use Rattle.laws.specs.Chain.{Each, each-none, each-one, Call, start, infers, takes, left-by, accepted, reached, Reordered, swap-first}
 
 -- ---- values and shapes that serve below
 
@@ -61,11 +64,22 @@ pub repeated-name-slips-through
 unfolding evaluate twice with-a int-shape an-int
 repeated-name-slips-through h = false≢true (h with-a twice refl refl)
 
--- without ascending names a shape would not lie below itself
-pub unsorted-shape-is-not-below-itself : ((s : Shape) → below s s ≡ true) → ⊥
+-- a shape with a member name twice would not lie below itself
+pub repeated-member-is-not-below-itself : ((s : Shape) → below s s ≡ true) → ⊥
 unfolding evaluate int-shape
-unsorted-shape-is-not-below-itself h =
+repeated-member-is-not-below-itself h =
     false≢true (h (only-rec (rec-of (field (bytes "a") int-shape (field (bytes "a") only-text no-fields)))))
+
+-- without sorted names two shapes would lie below each other
+a-then-b : Shape
+a-then-b = only-rec (rec-of (field (bytes "a") only-null (field (bytes "b") only-text no-fields)))
+
+b-then-a : Shape
+b-then-a = only-rec (rec-of (field (bytes "b") only-text (field (bytes "a") only-null no-fields)))
+
+pub unsorted-shapes-lie-below-each-other : ((s t : Shape) → below s t ≡ true → below t s ≡ true → s ≡ t) → ⊥
+unfolding evaluate a-then-b b-then-a
+unsorted-shapes-lie-below-each-other h = true≢false (ap ascending (h a-then-b b-then-a refl refl))
 
 -- with the order turned round the shape of a value would lie above all that admit it
 pub order-turned-round
@@ -82,15 +96,19 @@ int-reader = Result.convert 0 Conversion.to-int (Place.it 5 0)
 
 -- without the check a reader gets stuck on a document that the shape admits
 pub unchecked-reader-gets-stuck
-    : ((r : Result) (l : Limits) (s : Shape) (v : Value) (p : ℕ) → admits s v ≡ true → run-reader r l v ≡ refused 12 p → ⊥) → ⊥
-unfolding evaluate int-reader
-unchecked-reader-gets-stuck h = h int-reader standard only-null Value.null 0 refl refl
+    : ((r : Result) (l : Limits) (s : Shape) (v : Value) (p : ℕ) → ascending s ≡ true → distinct v ≡ true → scoped 1 r ≡ true
+    → proper r ≡ true → admits s v ≡ true → run-reader r l v ≡ refused 12 p → ⊥)
+    → ⊥
+unfolding evaluate int-reader distinct scoped scoped-place proper
+unchecked-reader-gets-stuck h = h int-reader standard only-null Value.null 0 refl refl refl refl refl refl
 
 -- a reader that passed gets stuck on a document that the shape does not admit
 pub document-not-admitted-gets-stuck
-    : ((r : Result) (l : Limits) (s u : Shape) (v : Value) (p : ℕ) → check-reader r s ≡ ok u → run-reader r l v ≡ refused 12 p → ⊥) → ⊥
-unfolding evaluate int-reader int-shape
-document-not-admitted-gets-stuck h = h int-reader standard int-shape int-shape Value.null 0 refl refl
+    : ((r : Result) (l : Limits) (s u : Shape) (v : Value) (p : ℕ) → ascending s ≡ true → distinct v ≡ true → scoped 1 r ≡ true
+    → proper r ≡ true → check-reader r s ≡ ok u → run-reader r l v ≡ refused 12 p → ⊥)
+    → ⊥
+unfolding evaluate int-reader int-shape distinct scoped scoped-place proper
+document-not-admitted-gets-stuck h = h int-reader standard int-shape int-shape Value.null 0 refl refl refl refl refl refl
 
 -- ---- reading
 
@@ -113,24 +131,48 @@ five-lists-text =
     (inner (inner (inner (inner (is-array (empty-array (char-of ws-none ws-none) (char-of ws-none ws-none)))))))
     ws-none
 
+five-lists-fit : Numbers-fit five-lists
+unfolding five-lists
+five-lists-fit = one (one (one (one (list-fits no-trees-fit))))
+  where
+    one : {t : Tree} → Numbers-fit t → Numbers-fit (Tree.list (tree t no-trees))
+    one h = list-fits (tree-fits h no-trees-fit)
+
 -- with a nesting limit one larger than the reader's, texts of the grammar would be accepted that are not
 pub one-level-too-deep
-    : ((l : Limits) (s : Bytes) (x : Tree) → JSON-text s x → nesting (meaning x) ≤ l .nesting + 1 → read-json l s ≡ ok (meaning x)) → ⊥
-unfolding evaluate five-lists meaning smallest
+    : ((l : Limits) (s : Bytes) (x : Tree) → JSON-text s x → Numbers-fit x → distinct (meaning x) ≡ true
+    → size (meaning x) ≤ l .values → nesting (meaning x) ≤ l .nesting + 1 → read-json l s ≡ ok (meaning x))
+    → ⊥
+unfolding evaluate five-lists meaning smallest distinct
 one-level-too-deep h =
-    clash {n = 6} {p = 4} refl (h smallest (bytes "[[[[[]]]]]") five-lists five-lists-text (lit≤ tt))
+    clash {n = 6} {p = 4} refl
+    (h smallest (bytes "[[[[[]]]]]") five-lists five-lists-text five-lists-fit refl (lit≤ tt) (lit≤ tt))
 
 -- ---- round trips
 
+name-a : UTF8-octets (bytes "a")
+unfolding evaluate
+name-a = octets (char-1 (utf8-1 (record { from = lit≤ tt; to = lit≤ tt }))) no-octets
+
+null-twice : Value
+null-twice = Value.rec (member (bytes "a") Value.null (member (bytes "a") Value.null no-members))
+
+null-twice-good : Good-value null-twice
+unfolding null-twice
+null-twice-good = good-rec (good-member name-a good-null (good-member name-a good-null good-no-members))
+
 -- without distinct names plain JSON would not read back
-pub repeated-name-does-not-read-back : ((v : Value) → read-json standard (plain v) ≡ ok v) → ⊥
-unfolding evaluate twice an-int
-repeated-name-does-not-read-back h = clash {n = 5} {p = 7} refl (h twice)
+pub repeated-name-does-not-read-back
+    : ((l : Limits) (v : Value) → Good-value v → size v ≤ l .values → nesting v ≤ l .nesting → read-json l (plain v) ≡ ok v) → ⊥
+unfolding evaluate null-twice
+repeated-name-does-not-read-back h = clash {n = 5} {p = 10} refl (h standard null-twice null-twice-good (lit≤ tt) (lit≤ tt))
 
 -- a text that is no UTF-8 would not read back
-pub broken-text-does-not-read-back : ((v : Value) → distinct v ≡ true → read-json standard (plain v) ≡ ok v) → ⊥
+pub broken-text-does-not-read-back
+    : ((l : Limits) (v : Value) → distinct v ≡ true → size v ≤ l .values → nesting v ≤ l .nesting → read-json l (plain v) ≡ ok v) → ⊥
 unfolding evaluate distinct
-broken-text-does-not-read-back h = clash {n = 3} {p = 1} refl (h (Value.text (0xFF ∷ [])) refl)
+broken-text-does-not-read-back h =
+    clash {n = 3} {p = 1} refl (h standard (Value.text (0xFF ∷ [])) refl (lit≤ tt) (lit≤ tt))
 
 -- ---- demand 3
 
@@ -145,16 +187,46 @@ scant d = record { sample = d; output = replicate 15 0; lent = [] }
 pub short-output-loses-a-sample
     : ((calls others : List Call)
     → Reordered (accepted read-json [] standard calls start) (map (λ c. c .sample) others)
+    → Each (λ c. length (reached read-json [] standard calls start) ≤ suc (length (c .output))) others
     → accepted read-json [] standard others start ≡ map (λ c. c .sample) others)
     → ⊥
-unfolding evaluate start accepted takes left-by infers ample scant
+unfolding evaluate start accepted reached takes left-by infers ample scant
 short-output-loses-a-sample h =
-    false≢true (ap one-left (h (ample (bytes "1") ∷ ample (bytes "2.5") ∷ []) (ample (bytes "2.5") ∷ scant (bytes "1") ∷ []) swap-first))
+    false≢true
+    (ap one-left
+    (h (ample (bytes "1") ∷ ample (bytes "2.5") ∷ []) (ample (bytes "2.5") ∷ scant (bytes "1") ∷ []) swap-first
+    (each-one (lit≤ tt) (each-one (lit≤ tt) each-none))))
   where
     one-left : List Bytes → Bool
     one-left [] = false
     one-left (x ∷ []) = false
     one-left (x ∷ y ∷ zs) = true
+
+-- from a source with a refusal whose number is 0, the text reached is no shape text
+zero-source : Source
+zero-source l document = refused 0 0
+
+pub unnumbered-refusal-loses-the-shape
+    : ((source : Source) → ((l : Limits) (document : Bytes) (v : Value) → source l document ≡ ok v → distinct v ≡ true)
+    → (calls : List Call) → (s : Shape) × (read-shape standard (reached source [] standard calls start) ≡ ok s))
+    → ⊥
+unfolding evaluate start reached takes left-by infers ample zero-source
+unnumbered-refusal-loses-the-shape h =
+    clash {n = 7} {p = 0} refl (h zero-source (λ l d v e. absurd (clash refl e)) (ample [] ∷ []) .1)
+
+-- from a source that gives a name twice, the shape reached does not admit the sample
+twice-source : Source
+twice-source l document = ok twice
+
+pub repeated-name-is-not-admitted
+    : ((source : Source) (calls : List Call) (s : Shape) (v : Value) (d : Bytes)
+    → read-shape standard (reached source [] standard calls start) ≡ ok s
+    → accepted source [] standard calls start ≡ d ∷ [] → source standard d ≡ ok v → admits s v ≡ true)
+    → ⊥
+unfolding evaluate start reached accepted takes left-by infers twice-source twice an-int int-shape with-a
+repeated-name-is-not-admitted h =
+    false≢true
+    (h twice-source (record { sample = []; output = replicate 60 0; lent = [] } ∷ []) with-a twice [] refl refl refl)
 
 -- every document is a record with one name, which is no UTF-8
 odd-source : Source

@@ -28,8 +28,7 @@ use Rattle.definitions.specs.Operations.{Done, Source, Judged, Text-out, finish
 use Rattle.laws.specs.Distinct.{distinct}
 use Rattle.laws.specs.Tree.{Tree, meaning, Fits}
 use Rattle.laws.specs.Rfc8259.{JSON-text}
-use Rattle.laws.specs.Causes.{Cause}
-use Rattle.laws.specs.CauseRefuses.{Refused-first}
+use Rattle.laws.specs.Causes.{Cause, Refused-first}
 use Rattle.laws.specs.FormCauses.{Shape-cause, Reader-cause}
 use Rattle.laws.specs.FormGrammar.{Shape-form, Result-form, result-forms, result-levels}
 use Rattle.laws.specs.Good.{Good-value, Good-shape}
@@ -120,20 +119,20 @@ wrote d = take (d .answer .length) (d .output)
 -- what infer, join and check write reads back as the shape that the definitions compute
 pub record Written-shapes-read-back : Type 0 where
   pub by-infer
-    : (source : Source) → Proper-source source → (published lent : List ℕ) (l : Limits) (shape document output : Bytes)
-    → infer-operation source published lent l shape document output .answer .number ≡ 0
-    → (s : Shape) × (v : Value) × (read-shape l shape ≡ ok s) × (source l document ≡ ok v)
-    × (read-shape l (wrote (infer-operation source published lent l shape document output)) ≡ ok (join s (shape-of v)))
+      : (source : Source) → Proper-source source → (published lent : List ℕ) (l : Limits) (shape document output : Bytes)
+      → infer-operation source published lent l shape document output .answer .number ≡ 0
+      → (s : Shape) × (v : Value) × (read-shape l shape ≡ ok s) × (source l document ≡ ok v)
+      × (read-shape l (wrote (infer-operation source published lent l shape document output)) ≡ ok (join s (shape-of v)))
   pub by-join
-    : (published lent : List ℕ) (l : Limits) (first second output : Bytes)
-    → join-operation published lent l first second output .answer .number ≡ 0
-    → (s : Shape) × (t : Shape) × (read-shape l first ≡ ok s) × (read-shape l second ≡ ok t)
-    × (read-shape l (wrote (join-operation published lent l first second output)) ≡ ok (join s t))
+      : (published lent : List ℕ) (l : Limits) (first second output : Bytes)
+      → join-operation published lent l first second output .answer .number ≡ 0
+      → (s : Shape) × (t : Shape) × (read-shape l first ≡ ok s) × (read-shape l second ≡ ok t)
+      × (read-shape l (wrote (join-operation published lent l first second output)) ≡ ok (join s t))
   pub by-check
-    : (published lent : List ℕ) (l : Limits) (reader shape output : Bytes)
-    → check-operation published lent l reader shape output .answer .number ≡ 0
-    → (r : Result) × (s : Shape) × (u : Shape) × (read-reader l reader ≡ ok r) × (read-shape l shape ≡ ok s)
-    × (check-reader r s ≡ ok u) × (read-shape l (wrote (check-operation published lent l reader shape output)) ≡ ok u)
+      : (published lent : List ℕ) (l : Limits) (reader shape output : Bytes)
+      → check-operation published lent l reader shape output .answer .number ≡ 0
+      → (r : Result) × (s : Shape) × (u : Shape) × (read-reader l reader ≡ ok r) × (read-shape l shape ≡ ok s)
+      × (check-reader r s ≡ ok u) × (read-shape l (wrote (check-operation published lent l reader shape output)) ≡ ok u)
 
 -- ---- demand 1, "no refusal changes a byte of the output buffer"
 

@@ -132,9 +132,11 @@ cause-numbered (cause-6 pre r e b) = lit≤ tt
 -- JSON keeps to what is asked of a source
 pub json-proper : Proper-source read-json
 json-proper =
-    record
-    { numbered = λ l s n p e. cause-numbered (json-refused l s n p e); names-once = json-distinct;
-        names-in-UTF-8 = λ l s v e. shape-of-good v (json-read-good l s v e) }
+    record {
+      numbered = λ l s n p e. cause-numbered (json-refused l s n p e);
+      names-once = json-distinct;
+      names-in-UTF-8 = λ l s v e. shape-of-good v (json-read-good l s v e);
+    }
 
 pub demand-3-for-documents : Demand-3-for-documents
 demand-3-for-documents = demand-3 read-json json-proper
@@ -143,4 +145,4 @@ pub standard-in-range : Standard-in-range
 unfolding standard
 standard-in-range =
     record
-      { bytes = (lit≤ tt, lit≤ tt); values = (lit≤ tt, lit≤ tt); nesting = (lit≤ tt, lit≤ tt); steps = (lit≤ tt, lit≤ tt) }
+    { bytes = (lit≤ tt, lit≤ tt); values = (lit≤ tt, lit≤ tt); nesting = (lit≤ tt, lit≤ tt); steps = (lit≤ tt, lit≤ tt) }

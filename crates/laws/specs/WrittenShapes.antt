@@ -61,17 +61,18 @@ infer-reads-back source proper published lent l shape document output e =
     go : (c : Call) → takes source published l c shape ≡ true → ((s : Shape) × (v : Value) × Accepted source published l c shape s v)
         → (s : Shape) × (v : Value) × (read-shape l shape ≡ ok s) × (source l (c .sample) ≡ ok v)
         × (read-shape l (take (infers source published l c shape .answer .length) (infers source published l c shape .output)) ≡ ok (join s (shape-of v)))
-    go c t (s, v, a) =
-        (s,
-          v,
-          a .reads-shape,
-          a .reads-sample .value,
-          ap (λ (x : Bytes). read-shape l x)
+    go c t (s, v, a) = (
+      s,
+      v,
+      a .reads-shape,
+      a .reads-sample .value,
+      ap (λ (x : Bytes). read-shape l x)
           (sym (left-taken source published l c shape t) ∙ accepted-left source published l c shape s v a .1)
           ∙ written-reads l (join s (shape-of v))
           (join-ascending s (shape-of v) (shape-ascending l shape s (a .reads-shape)) (shape-of-ascending v))
           (join-good s (shape-of v) (shape-read-good l shape s (a .reads-shape)) (proper .names-in-UTF-8 l (c .sample) v (a .reads-sample .value)))
-          (a .fits))
+          (a .fits),
+    )
 
 module _ (published lent : List ℕ) (l : Limits) where
   -- what is judged of a join before its output
@@ -108,15 +109,16 @@ module _ (published lent : List ℕ) (l : Limits) where
           let (t, e₃, f₃) = bind-passed (judge-text 2 l read-shape second) _ o f₂ in
           let (x, y) = shape-out-passed l (join s t) o f₃ in
           let r = text-passed 1 l read-shape first s e₂ .1 in
-          let q = text-passed 2 l read-shape second t e₃ .1 in
-          (s,
+          let q = text-passed 2 l read-shape second t e₃ .1 in (
+            s,
             t,
             r,
             q,
             ap (λ (z : Bytes). read-shape l z)
-            (front output o (finish output (joined first second)) (finish-written output o p room) .1 ∙ ap (λ (z : Text-out). z .bytes) y)
-            ∙ written-reads l (join s t) (join-ascending s t (shape-ascending l first s r) (shape-ascending l second t q))
-            (join-good s t (shape-read-good l first s r) (shape-read-good l second t q)) x)
+                (front output o (finish output (joined first second)) (finish-written output o p room) .1 ∙ ap (λ (z : Text-out). z .bytes) y)
+                ∙ written-reads l (join s t) (join-ascending s t (shape-ascending l first s r) (shape-ascending l second t q))
+                (join-good s t (shape-read-good l first s r) (shape-read-good l second t q)) x,
+          )
 
   pub check-reads-back
       : (reader shape output : Bytes) → check-operation published lent l reader shape output .answer .number ≡ 0
@@ -124,14 +126,15 @@ module _ (published lent : List ℕ) (l : Limits) where
       × (read-shape l (take (check-operation published lent l reader shape output .answer .length) (check-operation published lent l reader shape output .output))
       ≡ ok u)
   check-reads-back reader shape output e =
-      let (r, s, u, p) = check-passed published lent l reader shape output e in
-      (r,
+      let (r, s, u, p) = check-passed published lent l reader shape output e in (
+        r,
         s,
         u,
         p .reads-reader,
         p .reads-shape,
         p .checks,
         ap (λ (z : Bytes). read-shape l z) (p .wrote)
-        ∙ written-reads l u (check-ascending r s u (shape-ascending l shape s (p .reads-shape)) (p .checks))
-        (check-good r s u (reader-read-good l reader r (p .reads-reader)) (shape-read-good l shape s (p .reads-shape)) (p .checks))
-        (p .fits))
+            ∙ written-reads l u (check-ascending r s u (shape-ascending l shape s (p .reads-shape)) (p .checks))
+            (check-good r s u (reader-read-good l reader r (p .reads-reader)) (shape-read-good l shape s (p .reads-shape)) (p .checks))
+            (p .fits),
+      )
