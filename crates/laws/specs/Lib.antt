@@ -34,6 +34,8 @@ pub mod NumberSteps
 pub mod NumberSound
 pub mod NumberTokens
 pub mod NumberRound
+pub mod EncodeLaws
+pub mod EncodeLaws
 pub mod StringRows
 pub mod StringSteps
 pub mod StringUtf8

@@ -1,7 +1,11 @@
--- RFC 3629 section 4, the syntax of UTF-8 byte sequences, rule by rule with the RFC's names. `X s t r` says that s begins
--- with an X made of the bytes t, and that r is left. Assumes nothing.
-use Prim.Native.Nat.{ℕ, _≤_}
+-- RFC 3629: section 4, the syntax of UTF-8 byte sequences, rule by rule with the RFC's names, and section 3, the octets of a
+-- character number, row by row. `X s t r` says that s begins with an X made of the bytes t, and that r is left. Assumes
+-- nothing.
+use Prim.Native.Nat.{ℕ, _+_, _-_, _*_, _≤_}
+use mathlib.Core.Path.{_≡_}
 use mathlib.Core.List.{List, [], _∷_, _++_}
+
+-- ---- section 4: syntax of UTF-8 byte sequences
 
 -- %xlo-hi
 pub record In (lo hi b : ℕ) : Type 0 where
@@ -50,3 +54,23 @@ pub data UTF8-char (s t r : List ℕ) : Type 0 where
 pub data UTF8-octets : List ℕ → Type 0 where
   no-octets : UTF8-octets []
   octets : {s t r : List ℕ} → UTF8-char s t r → UTF8-octets r → UTF8-octets s
+
+-- ---- section 3: UTF-8 definition
+
+-- Char. number range | UTF-8 octet sequence: the bits x are the number's. The octets are section 4's, which leave out
+-- sequences longer than needed, D800-DFFF and what is above 10FFFF
+pub data Encodes (n : ℕ) : List ℕ → Type 0 where
+  -- 0000 0000-0000 007F | 0xxxxxxx
+  one-octet : n ≤ 0x7F → Encodes n (n ∷ [])
+  -- 0000 0080-0000 07FF | 110xxxxx 10xxxxxx
+  two-octets
+      : {a b : ℕ} → UTF8-2 (a ∷ b ∷ []) (a ∷ b ∷ []) []
+      → n ≡ (a - 0xC0) * 64 + (b - 0x80) → Encodes n (a ∷ b ∷ [])
+  -- 0000 0800-0000 FFFF | 1110xxxx 10xxxxxx 10xxxxxx
+  three-octets
+      : {a b c : ℕ} → UTF8-3 (a ∷ b ∷ c ∷ []) (a ∷ b ∷ c ∷ []) []
+      → n ≡ (a - 0xE0) * 4096 + (b - 0x80) * 64 + (c - 0x80) → Encodes n (a ∷ b ∷ c ∷ [])
+  -- 0001 0000-0010 FFFF | 11110xxx 10xxxxxx 10xxxxxx 10xxxxxx
+  four-octets
+      : {a b c d : ℕ} → UTF8-4 (a ∷ b ∷ c ∷ d ∷ []) (a ∷ b ∷ c ∷ d ∷ []) []
+      → n ≡ (a - 0xF0) * 262144 + (b - 0x80) * 4096 + (c - 0x80) * 64 + (d - 0x80) → Encodes n (a ∷ b ∷ c ∷ d ∷ [])

@@ -7,9 +7,8 @@ use mathlib.Core.Logic.{_⊎_}
 use mathlib.Core.Bool.{Bool, true, false}
 use mathlib.Core.List.{List, [], _∷_, _++_}
 use Rattle.definitions.specs.Bytes.{Bytes}
-use Rattle.definitions.specs.Utf8.{encode}
 use Rattle.definitions.specs.Number.{Numeral}
-use Rattle.laws.specs.Rfc3629.{In, UTF8-1, UTF8-2, UTF8-3, UTF8-4}
+use Rattle.laws.specs.Rfc3629.{In, UTF8-1, UTF8-2, UTF8-3, UTF8-4, Encodes}
 use Rattle.laws.specs.Tree.{Tree, Trees, no-trees, tree, Named, no-named, named}
 
 -- ---- section 2: JSON grammar
@@ -138,11 +137,11 @@ pub data char : Bytes → Bytes → Bytes → Type 0 where
   itself : {s t r : Bytes} → unescaped s t r → char s t r
   escape : {c b : ℕ} {r : Bytes} → escaped-char c b → char (0x5C ∷ c ∷ r) (b ∷ []) r
   -- an escape that is no surrogate
-  one-unicode : {c : ℕ} {s r : Bytes} → unicode s c r → (c < 0xD800) ⊎ (0xDFFF < c) → char s (encode c) r
+  one-unicode : {c : ℕ} {s t r : Bytes} → unicode s c r → (c < 0xD800) ⊎ (0xDFFF < c) → Encodes c t → char s t r
   -- a high surrogate's and a low one's
   two-unicode
-      : {h l : ℕ} {s t r : Bytes} → unicode s h t → In 0xD800 0xDBFF h → unicode t l r → In 0xDC00 0xDFFF l
-      → char s (encode (0x10000 + (h - 0xD800) * 0x400 + (l - 0xDC00))) r
+      : {h l : ℕ} {s t u r : Bytes} → unicode s h u → In 0xD800 0xDBFF h → unicode u l r → In 0xDC00 0xDFFF l
+      → Encodes (0x10000 + (h - 0xD800) * 0x400 + (l - 0xDC00)) t → char s t r
 
 -- *char
 pub data chars : Bytes → Bytes → Bytes → Type 0 where

@@ -1,18 +1,14 @@
 -- Texts written as plain JSON (definitions' Plain) are RFC 8259's strings, and none is longer than the string that it was
 -- read from. Assumes nothing.
-use Prim.Native.Nat.{ℕ, _+_, _-_, _*_, _/_, _%_, _≤_, _<_}
+use Prim.Native.Nat.{ℕ, _+_, _≤_}
 use mathlib.Core.Path.{_≡_, refl, sym, _∙_, ap, subst}
-use mathlib.Core.Logic.{_⊎_, inl, inr}
 use mathlib.Core.List.{[], _∷_, _++_, append-assoc, append-nil}
 use lib.ListN.{length, length-append}
 use native.Mathlib.Omega.{arith}
 use Rattle.definitions.specs.Bytes.{Bytes, bytes, look, between}
-use Rattle.definitions.specs.Utf8.{encode}
 use Rattle.definitions.specs.Plain.{short-escapes, escaped, escaped-all, plain-text}
-use Rattle.laws.specs.Ranges.{lt-or-le}
-use Rattle.laws.specs.Rfc3629.{utf8-1, utf8-2, utf8-3a, utf8-3b, utf8-3c, utf8-3d, utf8-4a, utf8-4b, utf8-4c, UTF8-char, char-1, char-2, char-3, char-4, UTF8-octets, no-octets, octets}
+use Rattle.laws.specs.Rfc3629.{utf8-1, utf8-2, utf8-3a, utf8-3b, utf8-3c, utf8-3d, utf8-4a, utf8-4b, utf8-4c, UTF8-char, char-1, char-2, char-3, char-4, UTF8-octets, no-octets, octets, Encodes, one-octet, two-octets, three-octets, four-octets}
 use Rattle.laws.specs.Rfc8259 as Rfc
-use Rattle.laws.specs.StringUtf8.{encode-1, encode-2, encode-3, encode-4}
 use Rattle.laws.specs.StringWritten.{written, written-char, written-length, written-plain, escaped-high-2, escaped-high-3, escaped-high-4}
 
 -- ---- what was written is read
@@ -120,50 +116,6 @@ short-length Rfc.escaped-char.line-feed = omega arith
 short-length Rfc.escaped-char.carriage-return = omega arith
 short-length Rfc.escaped-char.tab = omega arith
 
--- a character number is written in at most six bytes
-encode-length : (c : ℕ) → length (escaped-all (encode c)) ≤ 6
-unfolding escaped-all
-encode-length c = go (lt-or-le c 0x80) (lt-or-le c 0x800) (lt-or-le c 0x10000)
-  where
-    go
-        : (c < 0x80) ⊎ (0x80 ≤ c) → (c < 0x800) ⊎ (0x800 ≤ c) → (c < 0x10000) ⊎ (0x10000 ≤ c)
-        → length (escaped-all (encode c)) ≤ 6
-    go (inl a) x y =
-        let e = alone-length c in
-        let l = written-length (written c) in
-        rw (encode-1 c a) (omega arith)
-    go (inr a) (inl x) y =
-        let e = ap length (escaped-high-2 (0xC0 + c / 64) (0x80 + c % 64) [] (omega arith) (omega arith)) in
-        rw (encode-2 c a x) (omega arith)
-    go (inr a) (inr x) (inl y) =
-        let e =
-        ap
-        length
-        (escaped-high-3
-        (0xE0 + c / 4096)
-        (0x80 + c / 64 % 64)
-        (0x80 + c % 64)
-        []
-        (omega arith)
-        (omega arith)
-        (omega arith)) in
-        rw (encode-3 c x y) (omega arith)
-    go (inr a) (inr x) (inr y) =
-        let e =
-        ap
-        length
-        (escaped-high-4
-        (0xF0 + c / 262144)
-        (0x80 + c / 4096 % 64)
-        (0x80 + c / 64 % 64)
-        (0x80 + c % 64)
-        []
-        (omega arith)
-        (omega arith)
-        (omega arith)
-        (omega arith)) in
-        rw (encode-4 c y) (omega arith)
-
 unescaped-length : {s t r : Bytes} → Rfc.unescaped s t r → length (escaped-all t) + length r ≡ length s
 unfolding escaped-all
 unescaped-length (Rfc.plain-1 {b} i) = let e = plain-length b (omega arith) (omega arith) (omega arith) in omega arith
@@ -197,17 +149,27 @@ unescaped-length (Rfc.wide-4 (utf8-4c {a} {b} {c} {d} i j k l)) =
 unicode-length : {s r : Bytes} {c : ℕ} → Rfc.unicode s c r → length s ≡ 6 + length r
 unicode-length (Rfc.hex-4 x y z w) = omega arith
 
+-- the octets of a character number, written, are at most six bytes
+encodes-length : {n : ℕ} {t : Bytes} → Encodes n t → length (escaped-all t) ≤ 6
+encodes-length {n} (one-octet i) =
+    let e = alone-length n in
+    let l = written-length (written n) in
+    omega arith
+encodes-length (two-octets x i) = let e = unescaped-length (Rfc.wide-2 x) in omega arith
+encodes-length (three-octets x i) = let e = unescaped-length (Rfc.wide-3 x) in omega arith
+encodes-length (four-octets x i) = let e = unescaped-length (Rfc.wide-4 x) in omega arith
+
 char-length : {s t r : Bytes} → Rfc.char s t r → length (escaped-all t) + length r ≤ length s
 char-length (Rfc.itself x) = let e = unescaped-length x in omega arith
 char-length (Rfc.escape x) = let e = short-length x in omega arith
-char-length (Rfc.one-unicode {c} x o) =
+char-length (Rfc.one-unicode x o n) =
     let e = unicode-length x in
-    let l = encode-length c in
+    let l = encodes-length n in
     omega arith
-char-length (Rfc.two-unicode {h} {l} x i y j) =
+char-length (Rfc.two-unicode x i y j n) =
     let e = unicode-length x in
     let f = unicode-length y in
-    let k = encode-length (0x10000 + (h - 0xD800) * 0x400 + (l - 0xDC00)) in
+    let k = encodes-length n in
     omega arith
 
 chars-length : {s t r : Bytes} → Rfc.chars s t r → length (escaped-all t) + length r ≤ length s

@@ -13,8 +13,9 @@ use Rattle.definitions.specs.Utf8.{encode}
 use Rattle.definitions.specs.Text.{Inside, tail, pair, pair-u, digit-fits, pair-of}
 use Rattle.laws.specs.Bools.{tell, and-left, not-true}
 use Rattle.laws.specs.Ranges.{leb-le, leb-gt, eqb-eq, eq-eqb}
-use Rattle.laws.specs.Rfc3629.{In, utf8-2, utf8-3a, utf8-3b, utf8-3c, utf8-3d, utf8-4a, utf8-4b, utf8-4c}
+use Rattle.laws.specs.Rfc3629.{In, utf8-2, utf8-3a, utf8-3b, utf8-3c, utf8-3d, utf8-4a, utf8-4b, utf8-4c, Encodes}
 use Rattle.laws.specs.Rfc8259 as Rfc
+use Rattle.laws.specs.EncodeLaws.{encode-encodes}
 use Rattle.laws.specs.Steps.{Text-steps, text-stay, text-then}
 use Rattle.laws.specs.StringRows.{Heads, head-c2, head-e0, head-e1, head-ed, head-ee, head-f0, head-f1, head-f4}
 use Rattle.laws.specs.StringSteps.{Move, plain, head, last-tail, next-tail, backslash, short, hex, digit, high, alone, low, pair-backslash, pair-hex, step-move}
@@ -33,6 +34,14 @@ pub hexdig-under : {b d : ℕ} → Rfc.HEXDIG b d → d < 16
 hexdig-under (Rfc.hex-digit i) = omega arith
 hexdig-under (Rfc.hex-upper i) = omega arith
 hexdig-under (Rfc.hex-lower i) = omega arith
+
+unicode-under : {s r : Bytes} {c : ℕ} → Rfc.unicode s c r → c < 0x10000
+unicode-under (Rfc.hex-4 {i} {j} {k} {l} x y z w) =
+    let a : i < 16 = hexdig-under x in
+    let b : j < 16 = hexdig-under y in
+    let c : k < 16 = hexdig-under z in
+    let d : l < 16 = hexdig-under w in
+    omega arith
 
 -- four digits, and that the first two fit
 data Four (o : Option ℕ) : Bytes → ℕ → Bytes → Type 0 where
@@ -165,6 +174,10 @@ no-surrogate v f g = go (tell (ltb v 0xD800)) (tell (leb v 0xDBFF)) (tell (leb v
         absurd (g (omega arith))
     go (inr e) (inr k) (inr l) = inr (leb-gt l)
 
+pair-encodes : (h l : ℕ) → In 0xD800 0xDBFF h → In 0xDC00 0xDFFF l → Encodes (pair-of h l) (encode (pair-of h l))
+unfolding pair-of
+pair-encodes h l i j = encode-encodes (pair-of h l) (omega arith) (inr (omega arith))
+
 hex-left : (a acc q s : Bytes) → Left acc q (Inside.digits none 0 0) a s → Left acc q Inside.escape a (0x75 ∷ s)
 unfolding pair-of
 hex-left a acc q s k = go (k .3)
@@ -174,10 +187,14 @@ hex-left a acc q s k = go (k .3)
 
     go : Left-digits a acc q none (k .0) (k .1) → Left acc q Inside.escape a (0x75 ∷ s)
     go (inl x) =
-        (encode (k .0), k .1, Rfc.one-unicode (four-unicode f) (no-surrogate (k .0) (x .0) (four-alone f)), x .1)
+        let u = four-unicode f in
+        let l = unicode-under u in
+        let o = no-surrogate (k .0) (x .0) (four-alone f) in
+        (encode (k .0), k .1, Rfc.one-unicode u o (encode-encodes (k .0) (omega arith) o), x .1)
     go (inr x) =
         let l = x .1 in
-        (encode (pair-of (k .0) (l .0)), l .1, Rfc.two-unicode (four-unicode f) (x .0) (l .2) (l .3), l .4)
+        let e = pair-encodes (k .0) (l .0) (x .0) (l .3) in
+        (encode (pair-of (k .0) (l .0)), l .1, Rfc.two-unicode (four-unicode f) (x .0) (l .2) (l .3) e, l .4)
 
 step-left
     : (acc q s : Bytes) {i j : Inside} {a c : Bytes} {b : ℕ} → Move i a b j c → Left acc q j c s → Left acc q i a (b ∷ s)

@@ -14,6 +14,7 @@ use Rattle.laws.specs.Bools.{and-left, and-right, and-intro, not-false}
 use Rattle.laws.specs.Ranges.{leb-le, le-leb, eqb-eq, eq-eqb, ne-eqb, fails}
 use Rattle.laws.specs.Rfc3629.{In, utf8-2, utf8-3a, utf8-3b, utf8-3c, utf8-3d, utf8-4a, utf8-4b, utf8-4c}
 use Rattle.laws.specs.Rfc8259 as Rfc
+use Rattle.laws.specs.EncodeLaws.{encodes-encode}
 use Rattle.laws.specs.Steps.{Text-steps, text-stay, text-then, text-steps-append}
 use Rattle.laws.specs.StringRows.{Heads, head-c2, head-e0, head-e1, head-ed, head-ee, head-f0, head-f1, head-f4}
 use Rattle.laws.specs.StringSteps.{Move, plain, head, last-tail, next-tail, backslash, short, hex, digit, high, alone, low, pair-backslash, pair-hex, move-step}
@@ -196,8 +197,8 @@ char-through : {s t r a : Bytes} → Rfc.char s t r → Through Inside.chars a I
 unfolding pair-of
 char-through (Rfc.itself x) = unescaped-through x
 char-through (Rfc.escape x) = through-then backslash (through-then (short x) through-none)
-char-through (Rfc.one-unicode x o) = one-through x o
-char-through (Rfc.two-unicode {h} x i y j) = through-append (high-through x i) (low-through h y j)
+char-through (Rfc.one-unicode x o e) = rw (encodes-encode e) (one-through x o)
+char-through (Rfc.two-unicode {h} x i y j e) = rw (encodes-encode e) (through-append (high-through x i) (low-through h y j))
 
 pub chars-through : {s t r : Bytes} (a : Bytes) → Rfc.chars s t r → Through Inside.chars a Inside.chars (reverseAux t a) s r
 chars-through a Rfc.no-chars = through-none

@@ -10,13 +10,11 @@ use lib.Dec.{ltb}
 use lib.ListN.{length}
 use native.Mathlib.Omega.{arith}
 use Rattle.definitions.specs.Bytes.{Bytes, bytes, look, between}
-use Rattle.definitions.specs.Utf8.{encode}
 use Rattle.definitions.specs.Plain.{short-escapes, hex-digit, escaped, escaped-all}
 use Rattle.laws.specs.Ranges.{Hit, here, there, look-hit, in-one, at-one, leb-le, leb-gt}
-use Rattle.laws.specs.Rfc3629.{In}
+use Rattle.laws.specs.Rfc3629.{In, Encodes, one-octet}
 use Rattle.laws.specs.Rfc8259 as Rfc
 use Rattle.laws.specs.StringSound.{plain-char}
-use Rattle.laws.specs.StringUtf8.{encode-1}
 
 -- ---- how a byte is written
 
@@ -82,9 +80,7 @@ hex-digit-of d l = go (ltb d 10) refl
 -- a byte below 80 is a character
 pub written-char : {b : ℕ} {e : Bytes} → Written b e → b < 0x80 → (r : Bytes) → Rfc.char (e ++ r) (b ∷ []) r
 written-char (as-short x f) l r = Rfc.escape x
-written-char {b} (as-hex m) l r =
-    subst (λ t. Rfc.char (0x5C ∷ 0x75 ∷ 0x30 ∷ 0x30 ∷ hex-digit (b / 16) ∷ hex-digit (b % 16) ∷ r) t r) same
-    (Rfc.one-unicode (Rfc.hex-4 zero-digit zero-digit high low) (inl (omega arith)))
+written-char {b} (as-hex m) l r = Rfc.one-unicode (Rfc.hex-4 zero-digit zero-digit high low) (inl (omega arith)) itself
   where
     zero-digit : Rfc.HEXDIG 0x30 0
     zero-digit = Rfc.hex-digit {b = 0x30} (omega arith)
@@ -95,8 +91,10 @@ written-char {b} (as-hex m) l r =
     low : Rfc.HEXDIG (hex-digit (b % 16)) (b % 16)
     low = hex-digit-of (b % 16) (omega arith)
 
-    same : encode (((0 * 16 + 0) * 16 + b / 16) * 16 + b % 16) ≡ b ∷ []
-    same = ap encode (let e : ((0 * 16 + 0) * 16 + b / 16) * 16 + b % 16 ≡ b = omega arith in e) ∙ encode-1 b l
+    itself : Encodes (((0 * 16 + 0) * 16 + b / 16) * 16 + b % 16) (b ∷ [])
+    itself =
+        let e : b ≡ ((0 * 16 + 0) * 16 + b / 16) * 16 + b % 16 = omega arith in
+        subst (λ n. Encodes n (b ∷ [])) e (one-octet (omega arith))
 written-char {b} (as-itself m q n) l r = let i : In 0x20 0x7F b = omega arith in plain-char i q n
 
 -- a byte from 80 on stands for itself
