@@ -5,14 +5,14 @@ use Prim.Native.Nat.{ℕ, suc, _+_, _<_, max}
 use mathlib.Core.Path.{_≡_}
 use mathlib.Core.Bool.{Bool, true, false}
 use mathlib.Core.List.{List, [], _∷_}
-use mathlib.Core.Option.{some}
 use Rattle.definitions.specs.Bytes.{Bytes, bytes}
-use Rattle.definitions.specs.Number.{Number, Numeral, no-digits, beyond, number-of, begin, spelled}
+use Rattle.definitions.specs.Number.{Number, Numeral, beyond, number-of}
 use Rattle.definitions.specs.Value.{Value}
 use Rattle.definitions.specs.Shape.{Kind, all-kinds, Numeric, Shape, shape, Element, no-list, list-of, Record, no-rec, rec-of, Fields, no-fields, field, has, behind}
 use Rattle.definitions.specs.ShapeText.{kind-name}
 use Rattle.definitions.specs.Reader.{Place, Result, Pairs, no-pairs, pair, Conversion, to-int, to-dec, to-bool, to-text, Test, among-pairs}
 use Rattle.definitions.specs.Tokens.{Token, opening, closing, quoted, word, Placed}
+use Rattle.laws.specs.Rfc8259 as Rfc
 
 -- a token that stands at p
 abbrev pub at : ℕ → Token → Placed
@@ -69,9 +69,9 @@ Shape-text ts = (s : Shape) × Shape-form ts s []
 
 -- ---- the parts of readers
 
--- a number word: a JSON number to its end, within refusal 4's limits
+-- a number word: RFC 8259's number, to the word's end, within refusal 4's limits
 pub data Number-word (w : Bytes) (d : Numeral) : Type 0 where
-  number-word : spelled begin no-digits w ≡ some d → beyond d ≡ false → Number-word w d
+  number-word : Rfc.number w d [] → beyond d ≡ false → Number-word w d
 
 -- the number that it means
 pub data Number-meant (w : Bytes) : Number → Type 0 where

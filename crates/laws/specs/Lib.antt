@@ -33,8 +33,8 @@ pub mod Ranges
 pub mod NumberSteps
 pub mod NumberSound
 pub mod NumberTokens
+pub mod NumberWords
 pub mod NumberRound
-pub mod EncodeLaws
 pub mod EncodeLaws
 pub mod StringRows
 pub mod StringSteps
@@ -62,6 +62,7 @@ pub mod JsonSettled
 pub mod JsonBroken
 pub mod JsonAdequate
 pub mod FormGrammar
+pub mod TokenGrammar
 pub mod FormRuns
 pub mod FormSteps
 pub mod FormCauses
@@ -90,6 +91,8 @@ pub mod FormTokens
 pub mod Good
 pub mod LexLaws
 pub mod LexGood
+pub mod TokenLexing
+pub mod TokenLaws
 pub mod RoundReads
 pub mod RoundKinds
 pub mod RoundPieces

@@ -13,6 +13,7 @@ use Rattle.definitions.specs.Reader.{Place, Result, Pairs, no-pairs, pair, pack
 use Rattle.definitions.specs.Tokens.{Token, opening, closing, quoted, word, broken, Placed, go, opens, where-some}
 use Rattle.laws.specs.Bools.{and-left, and-right, or-false-left, or-false-right, not-true}
 use Rattle.laws.specs.Names.{same-sym}
+use Rattle.laws.specs.NumberWords.{spelled-number}
 use Rattle.laws.specs.FormGrammar.{at, name, Number-word, number-word, Index-word, index-word, int-word, dec-word, bool-word, text-word, null-test, bool-test, int-test, num-test, text-test, list-test, rec-test, Place-form, Result-form, no-pair, next-pair}
 use Rattle.laws.specs.Tests.{ltb-lt, eqb-eq}
 use Rattle.laws.specs.FormRuns.{Walk, none-over}
@@ -72,7 +73,7 @@ number-read w d e = by-spelled (spelled begin no-digits w) refl e
         → Path (Option Numeral) (elim b [ true ↦ none | false ↦ some f ]) (some d) → Number-word w d
     by-beyond f g true h e = absurd (Option·none-ne-some d e)
     by-beyond f g false h e =
-        subst (Number-word w) (Option·some-injective f d e) (number-word g h)
+        subst (Number-word w) (Option·some-injective f d e) (number-word (spelled-number w f g) h)
 
     by-spelled
         : (o : Option Numeral) → spelled begin no-digits w ≡ o

@@ -5,11 +5,12 @@ use mathlib.Core.Bool.{Bool, true, false}
 use mathlib.Core.List.{List, [], _∷_}
 use mathlib.Core.Option.{none}
 use native.Mathlib.Omega.{arith}
-use Rattle.definitions.specs.Bytes.{bytes, look, between}
-use Rattle.definitions.specs.Number.{no-digits, beyond, number-of, spelled, next, int-rows, complete, extend, most-coefficient, most-scale}
+use Rattle.definitions.specs.Bytes.{bytes}
+use Rattle.definitions.specs.Number.{no-digits, beyond, number-of, most-coefficient, most-scale}
 use Rattle.definitions.specs.Value.{Value}
 use Rattle.definitions.specs.Reader.{Place, Test, Result, no-pairs, pair, each-body, when-first, when-second, if-first, if-second, if-third, pack-part, Around, text-end, in-form, Place-use, converts, keeps, counts, maps, tests, Place-around, place-end, in-field, in-result, place-open, place-word, it-index, field-name, place-close, result-open, result-word, when-test, num-number, str-text, pack-name, result-close, State, want, whole-place, whole-result, use-place, put-place, use-result, put-result, binds, bindings, place-bindings, pairs-onto, step}
 use Rattle.definitions.specs.Tokens.{opening, closing, quoted, word, Placed, go, opens}
+use Rattle.laws.specs.Rfc8259 as Rfc
 use Rattle.laws.specs.FormGrammar.{at, Number-word, number-word, number-meant, Index-word, index-word, null-test}
 use Rattle.laws.specs.FormRuns.{Walk, stay, on, enter}
 use Rattle.laws.specs.ReaderSteps.{place-opens, it-named, field-called, place-closed, index-goes, result-opens, result-closed, none-named, test-named, number-goes, text-goes, pack-closed}
@@ -105,8 +106,8 @@ live-put-place (in-result x u o) p = live-use x u p o
 
 -- `0` is a number word, and there is always a binding
 zero-word : Number-word (bytes "0") no-digits
-unfolding spelled next int-rows look between complete extend bytes beyond no-digits most-coefficient most-scale
-zero-word = number-word refl refl
+unfolding bytes beyond no-digits most-coefficient most-scale
+zero-word = number-word (Rfc.numeral Rfc.no-minus Rfc.int-zero Rfc.no-frac Rfc.no-exp) refl
 
 bound : (o : Around) → 0 < bindings o
 unfolding bindings binds

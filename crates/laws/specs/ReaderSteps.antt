@@ -10,6 +10,7 @@ use Rattle.definitions.specs.Value.{Value}
 use Rattle.definitions.specs.Reader.{Place, Conversion, Test, Result, Pairs, no-pairs, if-first, pack-part, Around, in-form, converts, keeps, counts, maps, tests, Place-around, in-field, in-result, place-open, place-word, it-index, field-name, place-close, result-open, result-word, when-test, num-number, str-text, pack-name, result-close, want, put-place, put-result, depth, place-depth, place-bindings, word-number, index-fits, among-pairs, pairs-onto, test-words, place-words, result-words, index-step, literal-step, pack-step, want-step, step}
 use Rattle.definitions.specs.Tokens.{opening, closing, quoted, word, go, opens, want-open, want-close, want-text, want-word, want-named, where-true, where-some, look-word}
 use Rattle.laws.specs.Bools.{and-intro, not-false}
+use Rattle.laws.specs.NumberWords.{number-spelled}
 use Rattle.laws.specs.FormGrammar.{at, Number-word, number-word, Number-meant, number-meant, Index-word, index-word, Conversion-word, int-word, dec-word, bool-word, text-word, Test-word, null-test, bool-test, int-test, num-test, text-test, list-test, rec-test}
 use Rattle.laws.specs.Tests.{eq-eqb, lt-ltb}
 
@@ -41,7 +42,7 @@ place-closed p o y = refl
 
 word-is-number : {w : Bytes} {d : Numeral} → Number-word w d → word-number w ≡ some d
 unfolding word-number
-word-is-number (number-word e f) = rw (e, word-number, f)
+word-is-number {w} {d} (number-word e f) = rw (number-spelled w d e, word-number, f)
 
 pub index-goes
     : {k n : ℕ} {w : Bytes} → Index-word k w n → (x : ℕ) (o : Place-around) (y : ℕ) → k ≡ place-bindings o

@@ -1,5 +1,5 @@
 -- The promises of `definitions`, each tied to its demand (document 00). Everything that a reader has to believe of the
--- theorems stands here and in what these statements name: `definitions`, the grammars (Rfc3629, Rfc8259, FormGrammar), the
+-- theorems stands here and in what these statements name: `definitions`, the grammars (Rfc3629, Rfc8259, TokenGrammar, FormGrammar), the
 -- causes (Causes, FormCauses), trees and what fits (Tree), values of the paper (Distinct, Good, Readers) and the chain of
 -- calls (Chain). They hold for every set of limits where no range is named. Theorems proves them. Assumes nothing.
 use Prim.Native.Nat.{ℕ, _≤_, _<_}
@@ -19,7 +19,7 @@ use Rattle.definitions.specs.Shape.{Shape, ascending, forms, levels}
 use Rattle.definitions.specs.Order.{below}
 use Rattle.definitions.specs.Join.{join, shape-of}
 use Rattle.definitions.specs.Admits.{admits}
-use Rattle.definitions.specs.Tokens.{tokens}
+use Rattle.definitions.specs.Tokens.{Placed, tokens}
 use Rattle.definitions.specs.ShapeText.{read-shape, write-shape}
 use Rattle.definitions.specs.Reader.{Result, read-reader}
 use Rattle.definitions.specs.Checking.{check-reader}
@@ -29,6 +29,7 @@ use Rattle.laws.specs.Distinct.{distinct}
 use Rattle.laws.specs.Tree.{Tree, meaning, Fits}
 use Rattle.laws.specs.Rfc8259.{JSON-text}
 use Rattle.laws.specs.Causes.{Cause, Refused-first}
+use Rattle.laws.specs.TokenGrammar.{Tokens-of}
 use Rattle.laws.specs.FormCauses.{Shape-cause, Reader-cause}
 use Rattle.laws.specs.FormGrammar.{Shape-form, Result-form, result-forms, result-levels}
 use Rattle.laws.specs.Good.{Good-value, Good-shape}
@@ -54,6 +55,10 @@ abbrev pub Documents-refused-for-the-least : Type 0
 Documents-refused-for-the-least = (l : Limits) (s : Bytes) (m q : ℕ) → Cause l s m q → Refused-first (read-json l s) m q
 
 -- ---- shape texts and readers: demand 2, "shapes likewise"
+
+-- the tokens of a text, with their places, are just those that the paper defines
+abbrev pub Tokens-by-the-grammar : Type 0
+Tokens-by-the-grammar = (s : Bytes) (ts : List Placed) → (tokens s ≡ ts) ↔ Tokens-of 0 s ts
 
 -- a shape text is accepted exactly where it is a right text within the limits
 abbrev pub Shapes-by-the-grammar : Type 0

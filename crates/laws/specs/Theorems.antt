@@ -14,6 +14,7 @@ use Rattle.definitions.specs.Number.{most-coefficient}
 use Rattle.definitions.specs.Value.{Value, size}
 use Rattle.definitions.specs.Json.{read-json}
 use Rattle.laws.specs.JsonAdequate.{json-accepted-to, json-accepted-from, json-distinct, json-refused}
+use Rattle.laws.specs.TokenLaws.{tokens-by-the-grammar}
 use Rattle.laws.specs.ShapeForms.{shape-accepted-to, shape-accepted-from, shape-ascending}
 use Rattle.laws.specs.ShapeCauses.{shape-refused}
 use Rattle.laws.specs.CauseRefuses.{json-cause-refuses, shape-cause-refuses, reader-cause-refuses}
@@ -31,7 +32,7 @@ use Rattle.laws.specs.Soundness.{sound}
 use Rattle.laws.specs.Causes.{Cause, cause-3, cause-4, cause-5, cause-6}
 use Rattle.laws.specs.Chain.{Proper-source, In-range}
 use Rattle.laws.specs.Demand3.{demand-3}
-use Rattle.laws.specs.Statements.{Documents-by-the-RFC, Documents-refused-for-cause, Documents-refused-for-the-least, Shapes-refused-for-cause, Shapes-refused-for-the-least, Shapes-by-the-grammar, Readers-by-the-grammar, Readers-refused-for-cause, Readers-refused-for-the-least, Documents-read-back, Results-read-back, Values-read-back, Shapes-read-back, Read-shapes-read-back, Written-shapes-read-back, Refusals-keep-the-output, Partial-order, Least-upper-bound, Admits-is-below, Sizes-grow, Checked-readers-are-safe, Demand-3-from-every-source, Demand-3-for-documents, Standard-in-range}
+use Rattle.laws.specs.Statements.{Documents-by-the-RFC, Documents-refused-for-cause, Documents-refused-for-the-least, Tokens-by-the-grammar, Shapes-refused-for-cause, Shapes-refused-for-the-least, Shapes-by-the-grammar, Readers-by-the-grammar, Readers-refused-for-cause, Readers-refused-for-the-least, Documents-read-back, Results-read-back, Values-read-back, Shapes-read-back, Read-shapes-read-back, Written-shapes-read-back, Refusals-keep-the-output, Partial-order, Least-upper-bound, Admits-is-below, Sizes-grow, Checked-readers-are-safe, Demand-3-from-every-source, Demand-3-for-documents, Standard-in-range}
 
 -- ---- reading
 
@@ -44,6 +45,9 @@ documents-refused-for-cause = json-refused
 
 pub documents-refused-for-the-least : Documents-refused-for-the-least
 documents-refused-for-the-least = json-cause-refuses
+
+pub tokens-are-by-the-grammar : Tokens-by-the-grammar
+tokens-are-by-the-grammar = tokens-by-the-grammar
 
 pub shapes-refused-for-cause : Shapes-refused-for-cause
 shapes-refused-for-cause = shape-refused
