@@ -1,0 +1,7 @@
+pub mod Writing
+pub mod Rows
+pub mod Parts
+pub mod Singles
+pub mod Labels
+pub mod Wholes
+pub mod Loop

@@ -1,0 +1,9 @@
+pub mod Tables
+pub mod Places
+pub mod Digits
+pub mod Surrogates
+pub mod Escaped
+pub mod Characters
+pub mod Puts
+pub mod Reading
+pub mod Writing

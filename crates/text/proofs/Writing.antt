@@ -1,0 +1,154 @@
+-- Bytes written into a slice one after the other, and a text of the pool byte by byte. Assumes nothing.
+use Prim.Native.Nat.{ℕ, zero, suc, _+_, _-_, _*_, _≤_, _<_, _^_}
+use mathlib.Core.Path.{_≡_, refl, sym, ap, ap₂, _∙_, subst, subst₂}
+use mathlib.Core.List.{List, [], _∷_, _++_, append-assoc, append-nil}
+use lib.ListN.{length, getD, take, drop, set, length-append, length-take, length-drop, length-set, take-append-drop}
+use lib.Seq.{length-take-le, take-suc, take-all, set-split, take-at, drop-at, drop-append-add, drop-drop}
+use native.Mathlib.Numerals.{add-one}
+use native.Mathlib.Omega.{arith}
+use Rattle.definitions.specs.Bytes.{Bytes, bytes}
+use Rattle.definitions.specs.Plain.{escaped, escaped-all, plain-text}
+use Rattle.pool.specs.Pool.{pool-bytes, words, text-in}
+use Rattle.pool.specs.PoolLaws.{words-bytes, length-text-in, getD-text-in}
+use Rattle.text.specs.Writes.{Writes}
+use Rattle.text.proofs.Escaped.{escaped-append, escaped-none, escaped-snoc, length-plain}
+
+-- ---- Writes
+
+pub writes-none : (out : Bytes) (at : ℕ) → at ≤ length out → Writes out out at [] at
+writes-none out at h = record { bytes = sym (take-append-drop at out) ∙ ap (λ (x : Bytes). x ++ drop at out) (sym (append-nil (take at out))); end = omega arith }
+
+pub writes-length : (out out′ : Bytes) (at : ℕ) (s : Bytes) (r : ℕ) → r ≤ length out → Writes out out′ at s r → length out′ ≡ length out
+writes-length out out′ at s r l h =
+    let e = h .end in
+    ap length (h .bytes)
+    ∙ length-append (take at out ++ s) (drop r out)
+    ∙ omega (arith, length-append (take at out) s, length-drop r out, length-take-le at out (omega arith))
+
+-- one part behind another
+pub writes-then
+    : {out out′ out″ : Bytes} {at r q : ℕ} {s t : Bytes} → at ≤ length out → Writes out out′ at s r → Writes out′ out″ r t q
+    → Writes out out″ at (s ++ t) q
+writes-then {out} {out′} {out″} {at} {r} {q} {s} {t} l h k =
+    record {
+      bytes = k .bytes
+          ∙ ap₂ (λ (x y : Bytes). x ++ t ++ y) front back
+          ∙ ap (λ (x : Bytes). x ++ drop q out) (append-assoc (take at out) s t);
+      end = omega (arith, h .end, k .end, length-append s t);
+    }
+  where
+    size : length (take at out ++ s) ≡ r
+    size = length-append (take at out) s ∙ omega (arith, h .end, length-take-le at out l)
+
+    front : take r out′ ≡ take at out ++ s
+    front = ap (λ (x : Bytes). take r x) (h .bytes) ∙ take-at (take at out ++ s) (drop r out) r size
+
+    back : drop q out′ ≡ drop q out
+    back =
+        ap (λ (x : Bytes). drop q x) (h .bytes)
+        ∙ ap (λ (x : ℕ). drop x (take at out ++ s ++ drop r out)) (let e : q ≡ length (take at out ++ s) + length t = omega (arith, k .end, size) in e)
+        ∙ drop-append-add (take at out ++ s) (drop r out) (length t)
+        ∙ drop-drop (length t) r out
+        ∙ ap (λ (x : ℕ). drop x out) (sym (k .end))
+
+writes-one : (out : Bytes) (at b : ℕ) → at < length out → Writes out (set out at b) at (b ∷ []) (at + 1)
+writes-one out at b h =
+    record {
+      bytes = set-split out at b h
+          ∙ ap (λ (x : ℕ). take at out ++ (b ∷ drop x out)) (sym (add-one at))
+          ∙ sym (append-assoc (take at out) (b ∷ []) (drop (at + 1) out));
+      end = refl;
+    }
+
+-- a byte behind what is written
+pub writes-next
+    : {out out′ : Bytes} {at r : ℕ} {s : Bytes} (k b : ℕ) → Writes out out′ at s r → k ≡ r → r < length out
+    → Writes out (set out′ k b) at (s ++ (b ∷ [])) (k + 1)
+writes-next {out} {out′} {at} {r} {s} k b h e l =
+    subst (λ (x : ℕ). Writes out (set out′ x b) at (s ++ (b ∷ [])) (x + 1)) (sym e)
+    (writes-then (omega (arith, h .end)) h
+    (writes-one out′ r b (omega (arith, writes-length out out′ at s r (omega arith) h))))
+
+pub writes-as
+    : {out out′ : Bytes} {at r : ℕ} {s : Bytes} (t : Bytes) (q : ℕ) → Writes out out′ at s r → s ≡ t → r ≡ q → Writes out out′ at t q
+writes-as {out} {out′} {at} t q h e f = subst₂ (λ x y. Writes out out′ at x y) e f h
+
+-- ---- the bytes of a text
+
+escaped-part : (k : ℕ) (t : Bytes) → length (escaped-all (take k t)) ≤ length (escaped-all t)
+escaped-part k t =
+    omega (
+      arith,
+      ap (λ (x : Bytes). length (escaped-all x)) (take-append-drop k t),
+      ap length (escaped-append (take k t) (drop k t)),
+      length-append (escaped-all (take k t)) (escaped-all (drop k t)),
+    )
+
+module _ (p : List ℕ) (w n : ℕ) (room : w + words n ≤ length p) where
+  size : length (text-in p w n) ≡ n
+  size = length-text-in p w n room
+
+  pub text-place : 8 * w + n ≤ 8 * length p
+  text-place = words-bytes w n (length p) room
+
+  -- the first bytes, and one more
+  pub text-next
+      : (i b : ℕ) → i < n → b ≡ getD (pool-bytes p) (8 * w + i) 0
+      → escaped-all (take (i + 1) (text-in p w n)) ≡ escaped-all (take i (text-in p w n)) ++ escaped b
+  text-next i b l e =
+      ap escaped-all
+      (ap (λ (k : ℕ). take k (text-in p w n)) (add-one i)
+      ∙ take-suc (text-in p w n) i 0 (omega (arith, size))
+      ∙ ap (λ (x : ℕ). take i (text-in p w n) ++ (x ∷ [])) (getD-text-in p w n i l ∙ sym e))
+      ∙ escaped-snoc (take i (text-in p w n)) b
+
+  pub text-count
+      : (i b : ℕ) → i < n → b ≡ getD (pool-bytes p) (8 * w + i) 0
+      → length (escaped-all (take (i + 1) (text-in p w n))) ≡ length (escaped-all (take i (text-in p w n))) + length (escaped b)
+  text-count i b l e = ap length (text-next i b l e) ∙ length-append (escaped-all (take i (text-in p w n))) (escaped b)
+
+  pub text-all : (i : ℕ) → n ≤ i → escaped-all (take i (text-in p w n)) ≡ escaped-all (text-in p w n)
+  text-all i l = ap escaped-all (take-all i (text-in p w n) (omega (arith, size)))
+
+  -- what is written so far, and with one byte more, is no longer than the whole
+  pub text-bound : (i : ℕ) → 2 + length (escaped-all (take i (text-in p w n))) ≤ length (plain-text (text-in p w n))
+  text-bound i = omega (arith, escaped-part i (text-in p w n), length-plain (text-in p w n))
+
+  -- ---- the loop: the first i bytes stand from place at up to place j
+
+  pub written-start : (out : Bytes) (at : ℕ) → at ≤ length out → Writes out out at (escaped-all (take 0 (text-in p w n))) at
+  written-start out at l = writes-as (escaped-all []) at (writes-none out at l) (sym escaped-none) refl
+
+  module _ (i : ℕ) {out out′ : Bytes} {at j : ℕ} (h : Writes out out′ at (escaped-all (take i (text-in p w n))) j)
+      (l : at + length (plain-text (text-in p w n)) ≤ length out + 1) where
+    -- no place lies behind the slice
+    pub written-place : j < length out
+    written-place = omega (arith, h .end, text-bound i)
+
+    pub written-length : length out′ ≡ length out
+    written-length = writes-length out out′ at (escaped-all (take i (text-in p w n))) j (omega (arith, written-place)) h
+
+    pub written-room : (b : ℕ) → i < n → b ≡ getD (pool-bytes p) (8 * w + i) 0 → j + length (escaped b) ≤ length out′
+    written-room b m e =
+        omega
+        (arith, h .end, written-length, text-bound (i + 1), text-count i b m e)
+
+    pub written-next
+        : (out″ : Bytes) (b q : ℕ) → i < n → b ≡ getD (pool-bytes p) (8 * w + i) 0 → Writes out′ out″ j (escaped b) q
+        → Writes out out″ at (escaped-all (take (i + 1) (text-in p w n))) q
+    written-next out″ b q m e k =
+        writes-as (escaped-all (take (i + 1) (text-in p w n))) q (writes-then (omega (arith, text-bound i)) h k) (sym (text-next i b m e)) refl
+
+  -- all between the quotes
+  pub written-done
+      : (out out′ : Bytes) (at i j : ℕ) → at + length (plain-text (text-in p w n)) ≤ length out → n ≤ i
+      → Writes (set out at 0x22) out′ (at + 1) (escaped-all (take i (text-in p w n))) j
+      → Writes out (set out′ j 0x22) at (plain-text (text-in p w n)) (j + 1)
+  unfolding plain-text bytes
+  written-done out out′ at i j l m h =
+      let s = length-plain (text-in p w n) in
+      let f = writes-next at 0x22 (writes-none out at (omega arith)) refl (omega arith) in
+      let g = writes-then {s = 0x22 ∷ []} (omega arith) f h in
+      writes-as (plain-text (text-in p w n)) (j + 1)
+      (writes-next j 0x22 g refl (omega (arith, h .end, ap length (text-all i m))))
+      (ap (λ (x : Bytes). 0x22 ∷ (x ++ (0x22 ∷ []))) (text-all i m)) refl

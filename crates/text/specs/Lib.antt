@@ -1,0 +1,5 @@
+pub mod TextRun
+pub mod TextLaws
+pub mod TextRead
+pub mod TextParts
+pub mod Writes

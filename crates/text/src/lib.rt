@@ -1,0 +1,97 @@
+// JSON texts (RFC 8259 section 7): read from a document, decoded into the pool, and written from the pool as plain JSON.
+ghost use mathlib.Core.Path.{_≡_};
+ghost use Prim.Native.Nat.{_+_, _-_, _^_, _≤_, _<_};
+ghost use lib.ListN.{length};
+ghost use Rattle.definitions.specs.Plain.{plain-text};
+ghost use Rattle.pool.specs.Pool.{words, text-in};
+ghost use Rattle.text.specs.TextRead.{Reads-text};
+ghost use Rattle.text.specs.Writes.{Writes};
+
+mod unicode; // escapes by hexadecimal digits
+mod wide; // characters of several bytes
+mod pieces; // what is no plain ASCII byte, put into the pool
+mod plain; // a byte as plain JSON has it
+
+use pieces::Piece;
+
+// How reading a text ends.
+pub enum TextRead {
+    // behind the closing quote, with so many bytes decoded, and as long in plain JSON
+    Closed {
+        end: usize,
+        length: usize,
+        written: usize,
+    },
+    // at the byte, or the end, that no text has there
+    Broken {
+        place: usize,
+    },
+}
+
+// Reads a text from behind its opening quote; what it decodes to goes into the pool from word w on.
+pub fn read_text(doc: &[u8], at: usize, pool: &mut [u64], w: usize) -> TextRead
+    requires { ⌜ (at ≤ length (now doc)) × (w + words (length (now doc) - at) ≤ length (now pool)) ⌝ }
+    ensures read { λ r. ⌜ Reads-text (now (doc .entry)) at (now (pool .entry)) (now (pool .exit)) w r ⌝ }
+{
+    let mut i = at;
+    let mut n: usize = 0;
+    let mut written: usize = 2;
+    while i < doc.len() {
+        let b = doc[i];
+        if b == b'"' {
+            return TextRead::Closed {
+                end: i + 1,
+                length: n,
+                written,
+            };
+        }
+        if plain::stands(b) {
+            pool::put_byte(pool, 8 * w + n, b);
+            i += 1;
+            n += 1;
+            written += 1;
+        } else {
+            match pieces::read_piece(doc, i, pool, w, n) {
+                Piece::Went { next, length, cost } => {
+                    i = next;
+                    n = length;
+                    written += cost;
+                }
+                Piece::Stopped { place } => {
+                    return TextRead::Broken { place };
+                }
+            }
+        }
+    }
+    TextRead::Broken { place: i }
+}
+
+// How long a text of the pool is in plain JSON.
+pub fn text_length(pool: &[u64], w: usize, n: usize) -> usize
+    requires { ⌜ (w + words n ≤ length (now pool)) × (length (plain-text (text-in (now pool) w n)) < 2 ^ 64) ⌝ }
+    ensures counted { λ r. ⌜ r ≡ length (plain-text (text-in (now (pool .entry)) w n)) ⌝ }
+{
+    let mut i: usize = 0;
+    let mut written: usize = 2;
+    while i < n {
+        written += plain::cost(pool::byte_at(pool, 8 * w + i));
+        i += 1;
+    }
+    written
+}
+
+// Writes a text of the pool as plain JSON, and answers the place behind it.
+pub fn write_text(out: &mut [u8], at: usize, pool: &[u64], w: usize, n: usize) -> usize
+    requires { ⌜ (w + words n ≤ length (now pool)) × (at + length (plain-text (text-in (now pool) w n)) ≤ length (now out)) ⌝ }
+    ensures written { λ r. ⌜ Writes (now (out .entry)) (now (out .exit)) at (plain-text (text-in (now (pool .entry)) w n)) r ⌝ }
+{
+    out[at] = b'"';
+    let mut j = at + 1;
+    let mut i: usize = 0;
+    while i < n {
+        j = plain::write_byte(out, j, pool::byte_at(pool, 8 * w + i));
+        i += 1;
+    }
+    out[j] = b'"';
+    j + 1
+}
