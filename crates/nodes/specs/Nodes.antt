@@ -65,24 +65,24 @@ mutual
     text-row : {m k : ℕ} {t : Bytes} → Refers p t k → Rows p m (Value.text t) (head-word (Value.text t) ∷ k ∷ m ∷ [])
     -- a list's and a record's payload is how many words its rows take, their own among them
     list-rows
-      : {m : ℕ} {vs : Items} {rs : List ℕ} → Item-rows p vs rs
-      → Rows p m (Value.list vs) (head-word (Value.list vs) ∷ 3 * size (Value.list vs) ∷ m ∷ rs)
+        : {m : ℕ} {vs : Items} {rs : List ℕ} → Item-rows p vs rs
+        → Rows p m (Value.list vs) (head-word (Value.list vs) ∷ 3 * size (Value.list vs) ∷ m ∷ rs)
     rec-rows
-      : {m : ℕ} {ms : Members} {rs : List ℕ} → Member-rows p ms rs
-      → Rows p m (Value.rec ms) (head-word (Value.rec ms) ∷ 3 * size (Value.rec ms) ∷ m ∷ rs)
+        : {m : ℕ} {ms : Members} {rs : List ℕ} → Member-rows p ms rs
+        → Rows p m (Value.rec ms) (head-word (Value.rec ms) ∷ 3 * size (Value.rec ms) ∷ m ∷ rs)
 
   -- the rows of a list's elements, which have no name
   pub data Item-rows (p : List ℕ) : Items → List ℕ → Type 0 where
     no-item-rows : Item-rows p no-items []
     item-rows
-      : {v : Value} {vs : Items} {rs qs : List ℕ} → Rows p 0 v rs → Item-rows p vs qs → Item-rows p (item v vs) (rs ++ qs)
+        : {v : Value} {vs : Items} {rs qs : List ℕ} → Rows p 0 v rs → Item-rows p vs qs → Item-rows p (item v vs) (rs ++ qs)
 
   -- the rows of a record's members, each under its name
   pub data Member-rows (p : List ℕ) : Members → List ℕ → Type 0 where
     no-member-rows : Member-rows p no-members []
     member-rows
-      : {n : Bytes} {k : ℕ} {v : Value} {ms : Members} {rs qs : List ℕ} → Refers p n k → Rows p k v rs → Member-rows p ms qs
-      → Member-rows p (member n v ms) (rs ++ qs)
+        : {n : Bytes} {k : ℕ} {v : Value} {ms : Members} {rs qs : List ℕ} → Refers p n k → Rows p k v rs → Member-rows p ms qs
+        → Member-rows p (member n v ms) (rs ++ qs)
 
 -- how many words the value at a row takes: of a list or a record its payload, of any other three
 unfoldable pub row-size : List ℕ → ℕ → ℕ
@@ -93,10 +93,10 @@ row-size ns row = elim (ltb 4 (getD ns row 0 % 8)) [ true ↦ getD ns (row + 1) 
 pub data Items-before (p : List ℕ) : Items → List ℕ → Type 0 where
   no-items-before : Items-before p no-items []
   item-before
-    : {v : Value} {vs : Items} {rs qs : List ℕ} → Items-before p vs rs → Rows p 0 v qs → Items-before p (item v vs) (rs ++ qs)
+      : {v : Value} {vs : Items} {rs qs : List ℕ} → Items-before p vs rs → Rows p 0 v qs → Items-before p (item v vs) (rs ++ qs)
 
 pub data Members-before (p : List ℕ) : Members → List ℕ → Type 0 where
   no-members-before : Members-before p no-members []
   member-before
-    : {n : Bytes} {k : ℕ} {v : Value} {ms : Members} {rs qs : List ℕ} → Members-before p ms rs → Refers p n k → Rows p k v qs
-    → Members-before p (member n v ms) (rs ++ qs)
+      : {n : Bytes} {k : ℕ} {v : Value} {ms : Members} {rs qs : List ℕ} → Members-before p ms rs → Refers p n k → Rows p k v qs
+      → Members-before p (member n v ms) (rs ++ qs)

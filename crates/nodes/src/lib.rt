@@ -9,11 +9,17 @@ ghost use Rattle.nodes.specs.Nodes.{head-of, reference, row-size, sign-b
 
 // The codes of the kinds.
 pub const NULL: u64 = 0;
+
 pub const FALSE: u64 = 1;
+
 pub const TRUE: u64 = 2;
+
 pub const NUMBER: u64 = 3;
+
 pub const TEXT: u64 = 4;
+
 pub const LIST: u64 = 5;
+
 pub const RECORD: u64 = 6;
 
 // ---- a row's words
@@ -57,21 +63,33 @@ pub fn row_written(nodes: &[u64], row: usize) -> usize
 pub fn row_payload(nodes: &[u64], row: usize) -> u64
     ensures read { λ r. ⌜ r ≡ getD (now (nodes .entry)) (row + 1) 0 ⌝ }
 {
-    if row < nodes.len() { word(nodes, row + 1) } else { 0 }
+    if row < nodes.len() {
+        word(nodes, row + 1)
+    } else {
+        0
+    }
 }
 
 // Where the name of the value at a row stands.
 pub fn row_name(nodes: &[u64], row: usize) -> u64
     ensures read { λ r. ⌜ r ≡ getD (now (nodes .entry)) (row + 2) 0 ⌝ }
 {
-    if row < nodes.len() { row_payload(nodes, row + 1) } else { 0 }
+    if row < nodes.len() {
+        row_payload(nodes, row + 1)
+    } else {
+        0
+    }
 }
 
 // How many words the value at a row takes: of a list or a record its payload, of any other three.
 pub fn row_size(nodes: &[u64], row: usize) -> usize
     ensures sized { λ r. ⌜ r ≡ row-size (now (nodes .entry)) row ⌝ }
 {
-    if TEXT < row_kind(nodes, row) { row_payload(nodes, row) as usize } else { 3 }
+    if TEXT < row_kind(nodes, row) {
+        row_payload(nodes, row) as usize
+    } else {
+        3
+    }
 }
 
 // ---- words made and taken apart

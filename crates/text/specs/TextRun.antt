@@ -14,4 +14,3 @@ unfoldable pub text-run : Inside → Bytes → Bytes → Text-end
 text-run i acc [] = broke []
 text-run i acc (b ∷ r) =
     elim (text-step i acc b) [ wrong ↦ broke (b ∷ r) | more j a ↦ text-run j a r | closed ↦ ended (reverse acc) r ]
-

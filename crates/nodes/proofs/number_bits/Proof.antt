@@ -1,6 +1,5 @@
 -- `nodes::number_bits` meets its contract. Assumes nothing.
 use borrow.Author.Needs.{needs}
-
 use mathlib.Core.Path.{ap}
 use native.Mathlib.Omega.{arith}
 use Rattle.nodes.specs.Nodes.{sign-bit}
