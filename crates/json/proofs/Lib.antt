@@ -1,0 +1,15 @@
+pub mod Scan
+pub mod Kept
+pub mod White
+pub mod Spelling
+pub mod Table
+pub mod Answers
+pub mod Scalars
+pub mod Literals
+pub mod Names
+pub mod Bracketed
+pub mod Turns
+pub mod NameReading
+pub mod Loops
+pub mod Values
+pub mod Documents

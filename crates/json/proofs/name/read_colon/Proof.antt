@@ -1,0 +1,13 @@
+-- `json::name::read_colon` meets its contract. Assumes nothing.
+use borrow.Author.Needs.{needs}
+use mathlib.Core.Path.{sym, _∙_}
+use native.Mathlib.Omega.{arith}
+use Rattle.json.proofs.White.{token}
+use Rattle.json.proofs.name.read_colon.Statement.{statement}
+use Rattle.json.proofs.name.read_colon.Tie as tie
+
+returns : tie.Need-returns
+returns c = token (c .before .before .skip-white .ensures) (sym (c .before .peek .ensures) ∙ c .if1 .taken) (omega arith)
+
+pub read-colon-spec : {M : Type 1} → statement M
+read-colon-spec = tie.close (tie.spec (λ c κs. search needs) (λ c κs. search needs) (λ c. search needs) returns (λ c. search needs))

@@ -1,0 +1,28 @@
+-- `json::parts::close` meets its contract. Assumes nothing.
+use borrow.Author.Needs.{needs}
+use Prim.Native.Nat.{ℕ, _-_, _*_}
+use mathlib.Core.Path.{refl, ap, _∙_}
+use Rattle.json.proofs.Table.{with-row}
+use Rattle.json.proofs.parts.close.Statement.{statement}
+use Rattle.json.proofs.parts.close.Tie as tie
+
+returns : tie.Need-returns
+returns c =
+    record {
+      row =
+          c .before .before .put-row .ensures
+          ∙ ap (λ (h : ℕ). with-row (c .before .before .before .before .before .before .before .args .nodes .now) (c .before .before .before .before .before .before .before .args .begun) h (3 * (c .before .before .before .before .before .before .before .args .to .begun - c .before .before .before .before .before .before .before .args .begun)) (c .before .before .before .before .before .before .before .args .name)) (c .before .before .before .before .before .head-word .ensures);
+      answer = refl;
+    }
+
+pub close-spec : {M : Type 1} → statement M
+close-spec =
+    tie.close
+    (tie.spec
+    (λ c κs. search needs)
+    (λ c. search needs)
+    (λ c. search needs)
+    (λ c. search needs)
+    (λ c κs. search needs)
+    (λ c. search needs)
+    returns)

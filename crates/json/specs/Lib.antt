@@ -1,0 +1,2 @@
+pub mod JsonRead
+pub mod JsonParts

@@ -1,0 +1,110 @@
+// The parts of a list or a record: what comes behind the opening bracket and behind each part.
+ghost use mathlib.Core.Path.{_≡_};
+ghost use Prim.Native.Nat.{ℕ, suc, _+_, _*_, _^_, _≤_, _<_};
+ghost use mathlib.Core.List.{List};
+ghost use lib.ListN.{length};
+ghost use Rattle.nodes.specs.Nodes.{head-of};
+ghost use Rattle.json.specs.JsonParts.{Placed, Bracket, code-of, closing-of, Turn-answer, Closes, Behind-ready, Goes-on};
+use crate::reading::Cursor;
+use crate::reading::ValueRead;
+use crate::space::Behind;
+use crate::space::behind_part;
+use crate::space::peek;
+use crate::space::skip_white;
+
+// What comes next: a part at a place, where what stands before is so long in plain JSON; or the answer.
+pub enum Turn {
+    More { from: Cursor, written: usize },
+    Stop { answer: ValueRead },
+}
+
+// Puts the row of the list or record whose parts have been read up to `to`; it is that of value `begun`.
+fn close(
+    nodes: &mut [u64],
+    begun: usize,
+    kind: u64,
+    name: u64,
+    to: Cursor,
+    written: usize,
+) -> ValueRead
+    requires rows { ⌜ (begun ≤ to .begun) × (3 * begun + 3 ≤ length (now nodes)) × (3 * to .begun < 2 ^ 60) ⌝ }
+    requires head { ⌜ head-of kind 0 written < 2 ^ 64 ⌝ }
+    ensures closed { λ r. ⌜ Closes (now (nodes .entry)) (now (nodes .exit)) begun kind name to written r ⌝ }
+{
+    let head = nodes::head_word(kind, 0, written);
+    let size = 3 * (to.begun - begun);
+    nodes::put_row(nodes, 3 * begun, head, size as u64, name);
+    ValueRead::Done { to, written }
+}
+
+// Goes on behind an opening bracket, which stands before c and of which `closing` is the other; its row is the next one.
+pub fn enter(
+    doc: &[u8],
+    nodes: &mut [u64],
+    values: usize,
+    c: Cursor,
+    kind: u64,
+    closing: usize,
+    name: u64,
+) -> Turn
+    requires { ⌜ Placed (now doc) (now nodes) values c × (c .begun < values) × (kind < 8) × (closing < 256) ⌝ }
+    ensures entered { λ r. ⌜ ((k : Bracket) → kind ≡ code-of k → closing ≡ closing-of k → (left : ℕ) (pool : List ℕ) → Turn-answer k left values (now (doc .entry)) (now (nodes .entry)) pool (now (nodes .exit)) pool name c r) ⌝ }
+{
+    let at = skip_white(doc, c.at);
+    let begun = c.begun + 1;
+    if peek(doc, at) == closing {
+        let to = Cursor {
+            at: at + 1,
+            begun,
+            top: c.top,
+        };
+        return Turn::Stop {
+            answer: close(nodes, c.begun, kind, name, to, 2),
+        };
+    }
+    let from = Cursor {
+        at,
+        begun,
+        top: c.top,
+    };
+    Turn::More { from, written: 1 }
+}
+
+// Goes on behind a part that ends at `to`, of the list or record that was opened at c.
+pub fn go_on(
+    doc: &[u8],
+    nodes: &mut [u64],
+    c: Cursor,
+    kind: u64,
+    closing: usize,
+    name: u64,
+    to: Cursor,
+    written: usize,
+) -> Turn
+    requires { ⌜ Behind-ready (now doc) (now nodes) c kind closing to written ⌝ }
+    ensures gone { λ r. ⌜ Goes-on (now (doc .entry)) (now (nodes .entry)) (now (nodes .exit)) c kind closing name to written r ⌝ }
+{
+    match behind_part(doc, to.at, closing) {
+        Behind::Next { at } => {
+            let from = Cursor {
+                at,
+                begun: to.begun,
+                top: to.top,
+            };
+            Turn::More { from, written }
+        }
+        Behind::End { at } => {
+            let end = Cursor {
+                at,
+                begun: to.begun,
+                top: to.top,
+            };
+            Turn::Stop {
+                answer: close(nodes, c.begun, kind, name, end, written),
+            }
+        }
+        Behind::Broken { place } => Turn::Stop {
+            answer: ValueRead::Refused { number: 3, place },
+        },
+    }
+}

@@ -1,0 +1,204 @@
+// Values that hold no others: texts, literal names and numbers.
+ghost use mathlib.Core.Path.{_≡_};
+ghost use Prim.Native.Nat.{ℕ, _+_, _*_, _^_, _≤_, _<_};
+ghost use mathlib.Core.List.{List};
+ghost use lib.ListN.{length, getD};
+ghost use Rattle.definitions.specs.Json.{Gap};
+ghost use Rattle.json.specs.JsonParts.{Judges, Matches, Literal, Placed, Ready, Reads, Puts-number, No-row, Scalar-byte};
+ghost use Rattle.number.specs.NumberRead.{number-in};
+ghost use Rattle.number.specs.NumberWrite.{Bounded};
+use crate::reading::Cursor;
+use crate::reading::ValueRead;
+use crate::space::peek;
+use number::NumberRead;
+use text::TextRead;
+
+// Whether a value that begins here is one too many or too deep: refusal 6.
+pub fn is_full(values: usize, left: usize, begun: usize) -> bool
+    ensures judged { λ r. ⌜ Judges values left begun r ⌝ }
+{
+    if begun < values { left == 0 } else { true }
+}
+
+// How many bytes of a literal name stand at a place.
+fn matching(doc: &[u8], at: usize, name: &[u8]) -> usize
+    requires { ⌜ at ≤ length (now doc) ⌝ }
+    ensures matched { λ r. ⌜ Matches (now (doc .entry)) at (now (name .entry)) r ⌝ }
+{
+    let mut i: usize = 0;
+    while i < name.len() {
+        if peek(doc, at + i) != peek(name, i) {
+            return i;
+        }
+        i += 1;
+    }
+    i
+}
+
+// Reads a value of this kind by its literal name, whose first byte stands here.
+fn read_literal(
+    doc: &[u8],
+    nodes: &mut [u64],
+    values: usize,
+    left: usize,
+    c: Cursor,
+    name: u64,
+    literal: &[u8],
+    kind: u64,
+) -> ValueRead
+    requires { ⌜ Placed (now doc) (now nodes) values c × Literal (now literal) kind × (getD (now doc) (c .at) 256 ≡ getD (now literal) 0 256) ⌝ }
+    ensures read { λ r. ⌜ ((pool : List ℕ) → Reads Gap.value (c .begun) left values (now (doc .entry)) (now (nodes .entry)) pool (now (nodes .exit)) pool name c r) ⌝ }
+{
+    if is_full(values, left, c.begun) {
+        return ValueRead::Refused {
+            number: 6,
+            place: c.at,
+        };
+    }
+    let k = matching(doc, c.at, literal);
+    if k < literal.len() {
+        return ValueRead::Refused {
+            number: 3,
+            place: c.at + k,
+        };
+    }
+    nodes::put_row(nodes, 3 * c.begun, nodes::head_word(kind, 0, k), 0, name);
+    let to = Cursor {
+        at: c.at + k,
+        begun: c.begun + 1,
+        top: c.top,
+    };
+    ValueRead::Done { to, written: k }
+}
+
+// Reads a text, whose opening quote stands here.
+fn read_text_value(
+    doc: &[u8],
+    nodes: &mut [u64],
+    pool: &mut [u64],
+    values: usize,
+    left: usize,
+    c: Cursor,
+    name: u64,
+) -> ValueRead
+    requires { ⌜ Ready (now doc) (now nodes) (now pool) values c × (getD (now doc) (c .at) 256 ≡ 0x22) ⌝ }
+    ensures read { λ r. ⌜ Reads Gap.value (c .begun) left values (now (doc .entry)) (now (nodes .entry)) (now (pool .entry)) (now (nodes .exit)) (now (pool .exit)) name c r ⌝ }
+{
+    if is_full(values, left, c.begun) {
+        return ValueRead::Refused {
+            number: 6,
+            place: c.at,
+        };
+    }
+    match text::read_text(doc, c.at + 1, pool, c.top) {
+        TextRead::Closed {
+            end,
+            length,
+            written,
+        } => {
+            let reference = nodes::text_reference(c.top, length);
+            let head = nodes::head_word(nodes::TEXT, 0, written);
+            nodes::put_row(nodes, 3 * c.begun, head, reference, name);
+            let to = Cursor {
+                at: end,
+                begun: c.begun + 1,
+                top: c.top + (length + 7) / 8,
+            };
+            ValueRead::Done { to, written }
+        }
+        TextRead::Broken { place } => ValueRead::Refused { number: 3, place },
+    }
+}
+
+// Puts the row of a number that refusals 4 and 6 are not for.
+fn put_number(nodes: &mut [u64], c: Cursor, name: u64, x: NumberRead) -> ValueRead
+    requires { ⌜ (3 * c .begun + 3 ≤ length (now nodes)) × (c .begun < 2 ^ 60) × Bounded (number-in x) ⌝ }
+    ensures put { λ r. ⌜ Puts-number (now (nodes .entry)) (now (nodes .exit)) c name x r ⌝ }
+{
+    let bits = nodes::number_bits(x.negative, x.scale);
+    let written = number::number_length(x.negative, x.coefficient, x.scale);
+    let head = nodes::head_word(nodes::NUMBER, bits, written);
+    nodes::put_row(nodes, 3 * c.begun, head, x.coefficient, name);
+    let to = Cursor {
+        at: x.end,
+        begun: c.begun + 1,
+        top: c.top,
+    };
+    ValueRead::Done { to, written }
+}
+
+// Reads a number, or refuses where no value begins.
+fn read_number_value(
+    doc: &[u8],
+    nodes: &mut [u64],
+    values: usize,
+    left: usize,
+    c: Cursor,
+    name: u64,
+) -> ValueRead
+    requires { ⌜ Placed (now doc) (now nodes) values c × No-row (getD (now doc) (c .at) 256) ⌝ }
+    ensures read { λ r. ⌜ ((pool : List ℕ) → Reads Gap.value (c .begun) left values (now (doc .entry)) (now (nodes .entry)) pool (now (nodes .exit)) pool name c r) ⌝ }
+{
+    let x = number::read_number(doc, c.at);
+    if x.end == c.at {
+        return ValueRead::Refused {
+            number: 3,
+            place: c.at,
+        };
+    }
+    let full = is_full(values, left, c.begun);
+    if x.complete {
+        if x.beyond {
+            return ValueRead::Refused {
+                number: 4,
+                place: c.at,
+            };
+        }
+        if full {
+            return ValueRead::Refused {
+                number: 6,
+                place: c.at,
+            };
+        }
+        return put_number(nodes, c, name, x);
+    }
+    if full {
+        return ValueRead::Refused {
+            number: 6,
+            place: c.at,
+        };
+    }
+    ValueRead::Refused {
+        number: 3,
+        place: x.end,
+    }
+}
+
+// Reads a value that is no list and no record, from its first byte on.
+pub fn read_scalar(
+    doc: &[u8],
+    nodes: &mut [u64],
+    pool: &mut [u64],
+    values: usize,
+    left: usize,
+    c: Cursor,
+    name: u64,
+) -> ValueRead
+    requires { ⌜ Ready (now doc) (now nodes) (now pool) values c × Scalar-byte (getD (now doc) (c .at) 256) ⌝ }
+    ensures read { λ r. ⌜ Reads Gap.value (c .begun) left values (now (doc .entry)) (now (nodes .entry)) (now (pool .entry)) (now (nodes .exit)) (now (pool .exit)) name c r ⌝ }
+{
+    let b = peek(doc, c.at);
+    if b == 0x22 {
+        return read_text_value(doc, nodes, pool, values, left, c, name);
+    }
+    if b == 0x74 {
+        return read_literal(doc, nodes, values, left, c, name, b"true", nodes::TRUE);
+    }
+    if b == 0x66 {
+        return read_literal(doc, nodes, values, left, c, name, b"false", nodes::FALSE);
+    }
+    if b == 0x6E {
+        return read_literal(doc, nodes, values, left, c, name, b"null", nodes::NULL);
+    }
+    read_number_value(doc, nodes, values, left, c, name)
+}

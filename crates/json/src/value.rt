@@ -1,0 +1,152 @@
+// Values, lists and records: the value reader calls the list and the record reader, which call it back; the nesting left falls.
+ghost use Prim.Native.Nat.{suc, _<_};
+ghost use Rattle.definitions.specs.Json.{Gap};
+ghost use Rattle.json.specs.JsonParts.{Ready, Reads};
+use crate::name::NameRead;
+use crate::name::read_name;
+use crate::parts::Turn;
+use crate::parts::enter;
+use crate::parts::go_on;
+use crate::reading::Cursor;
+use crate::reading::ValueRead;
+use crate::scalar::is_full;
+use crate::scalar::read_scalar;
+use crate::space::peek;
+use crate::space::skip_white;
+
+// Reads the rest of a list from behind its bracket, with so much nesting left inside; its row is the next one.
+fn read_list(
+    doc: &[u8],
+    nodes: &mut [u64],
+    pool: &mut [u64],
+    values: usize,
+    left: usize,
+    c: Cursor,
+    name: u64,
+) -> ValueRead
+    requires { ⌜ Ready (now doc) (now nodes) (now pool) values c × (c .begun < values) ⌝ }
+    ensures read { λ r. ⌜ Reads Gap.first-item (suc (c .begun)) (suc left) values (now (doc .entry)) (now (nodes .entry)) (now (pool .entry)) (now (nodes .exit)) (now (pool .exit)) name c r ⌝ }
+{
+    let mut turn = enter(doc, nodes, values, c, nodes::LIST, 0x5D, name);
+    loop {
+        match turn {
+            Turn::More { from, written } => {
+                let r = read_value(doc, nodes, pool, values, left, from, 0);
+                let ValueRead::Done {
+                    to,
+                    written: length,
+                } = r
+                else {
+                    return r;
+                };
+                let total = written + length + 1;
+                turn = go_on(doc, nodes, c, nodes::LIST, 0x5D, name, to, total);
+            }
+            Turn::Stop { answer } => {
+                return answer;
+            }
+        }
+    }
+}
+
+// Reads the rest of a record from behind its brace, with so much nesting left inside; its row is the next one.
+fn read_record(
+    doc: &[u8],
+    nodes: &mut [u64],
+    pool: &mut [u64],
+    values: usize,
+    left: usize,
+    c: Cursor,
+    name: u64,
+) -> ValueRead
+    requires { ⌜ Ready (now doc) (now nodes) (now pool) values c × (c .begun < values) ⌝ }
+    ensures read { λ r. ⌜ Reads Gap.first-name (suc (c .begun)) (suc left) values (now (doc .entry)) (now (nodes .entry)) (now (pool .entry)) (now (nodes .exit)) (now (pool .exit)) name c r ⌝ }
+{
+    let mut turn = enter(doc, nodes, values, c, nodes::RECORD, 0x7D, name);
+    loop {
+        match turn {
+            Turn::More { from, written } => match read_name(
+                doc,
+                nodes,
+                pool,
+                values,
+                c.begun + 1,
+                from,
+            ) {
+                NameRead::Done {
+                    to: at,
+                    word,
+                    written: named,
+                } => {
+                    let r = read_value(doc, nodes, pool, values, left, at, word);
+                    let ValueRead::Done {
+                        to,
+                        written: length,
+                    } = r
+                    else {
+                        return r;
+                    };
+                    let total = written + named + length + 2;
+                    turn = go_on(doc, nodes, c, nodes::RECORD, 0x7D, name, to, total);
+                }
+                NameRead::Refused { number, place } => {
+                    return ValueRead::Refused { number, place };
+                }
+            },
+            Turn::Stop { answer } => {
+                return answer;
+            }
+        }
+    }
+}
+
+// Reads a value that may begin at c, with so much nesting left, and puts its row under this name.
+pub fn read_value(
+    doc: &[u8],
+    nodes: &mut [u64],
+    pool: &mut [u64],
+    values: usize,
+    left: usize,
+    c: Cursor,
+    name: u64,
+) -> ValueRead
+    requires { ⌜ Ready (now doc) (now nodes) (now pool) values c ⌝ }
+    ensures read { λ r. ⌜ Reads Gap.value (c .begun) left values (now (doc .entry)) (now (nodes .entry)) (now (pool .entry)) (now (nodes .exit)) (now (pool .exit)) name c r ⌝ }
+{
+    let at = skip_white(doc, c.at);
+    let b = peek(doc, at);
+    if b == 0x5B {
+        if is_full(values, left, c.begun) {
+            return ValueRead::Refused {
+                number: 6,
+                place: at,
+            };
+        }
+        let inner = Cursor {
+            at: at + 1,
+            begun: c.begun,
+            top: c.top,
+        };
+        return read_list(doc, nodes, pool, values, left - 1, inner, name);
+    }
+    if b == 0x7B {
+        if is_full(values, left, c.begun) {
+            return ValueRead::Refused {
+                number: 6,
+                place: at,
+            };
+        }
+        let inner = Cursor {
+            at: at + 1,
+            begun: c.begun,
+            top: c.top,
+        };
+        return read_record(doc, nodes, pool, values, left - 1, inner, name);
+    }
+    let from = Cursor {
+        at,
+        begun: c.begun,
+        top: c.top,
+    };
+    read_scalar(doc, nodes, pool, values, left, from, name)
+}
