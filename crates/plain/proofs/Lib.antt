@@ -5,3 +5,4 @@ pub mod Singles
 pub mod Labels
 pub mod Wholes
 pub mod Loop
+pub mod Delivery

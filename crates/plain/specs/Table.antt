@@ -50,6 +50,11 @@ pub record Holds (nodes pool : List ℕ) (row : ℕ) (v : Value) : Type 0 where
   pub pooled : Used pool used
   pub bounded : Bounded-numbers v
 
+-- some value stands at the first row
+pub record Held (nodes pool : List ℕ) : Type 0 where
+  pub value : Value
+  pub holds : Holds nodes pool 0 value
+
 -- ---- what a writer asks and answers
 
 -- a value stands there, and the output has room for it from a place on

@@ -5,9 +5,11 @@ ghost use Prim.Native.Nat.{ℕ, _+_, _%_, _≤_, _<_};
 ghost use lib.ListN.{length, getD};
 ghost use Rattle.definitions.specs.Value.{Value};
 ghost use Rattle.definitions.specs.Plain.{plain};
+ghost use Rattle.definitions.specs.Operations.{deliver};
 ghost use Rattle.text.specs.Writes.{Writes};
-ghost use Rattle.plain.specs.Table.{Bounded-numbers, Stands, Writable, Writes-value, Writes-front};
+ghost use Rattle.plain.specs.Table.{Bounded-numbers, Holds, Held, Stands, Writable, Writes-value, Writes-front};
 ghost use Rattle.plain.specs.Parts.{comma, Writable-text, Writes-text, Writable-label, Writes-label, Writable-parts, Writes-parts};
+use definitions::Answer;
 
 // How long the value at a row is as plain JSON, so that a short output shows before a byte is written.
 pub fn written_length(nodes: &[u64], at: usize) -> usize
@@ -148,4 +150,32 @@ pub fn write_value(out: &mut [u8], nodes: &[u64], pool: &[u64]) -> usize
     ensures written { λ r. ⌜ Writes-front (now (nodes .entry)) (now (pool .entry)) (now (out .entry)) (now (out .exit)) r ⌝ }
 {
     write_at(out, 0, nodes, 0, pool)
+}
+
+// The end of an operation that writes the value at the first row: refusal 15, or the bytes at the front of the output.
+pub fn deliver(output: &mut [u8], nodes: &[u64], pool: &[u64], steps: usize) -> Answer
+    requires { ⌜ Held (now nodes) (now pool) ⌝ }
+    ensures answered { λ r. ⌜ ((v : Value) → Holds (now (nodes .entry)) (now (pool .entry)) 0 v → r ≡ deliver (now (output .entry)) (record { bytes = plain v; steps = steps }) .answer) ⌝ }
+    ensures kept { λ _. ⌜ ((v : Value) → Holds (now (nodes .entry)) (now (pool .entry)) 0 v → now (output .exit) ≡ deliver (now (output .entry)) (record { bytes = plain v; steps = steps }) .output) ⌝ }
+{
+    let needed = written_length(nodes, 0);
+    if output.len() < needed {
+        return Answer {
+            number: 15,
+            text: 0,
+            place: 0,
+            length: needed,
+            steps: 0,
+            yes: false,
+        };
+    }
+    let length = write_value(output, nodes, pool);
+    Answer {
+        number: 0,
+        text: 0,
+        place: 0,
+        length,
+        steps,
+        yes: false,
+    }
 }

@@ -1,0 +1,54 @@
+// The operations of the scope document on lent slices: nothing is asked of what is lent, every answer is one of the
+// definitions, and so is the output afterwards.
+ghost use mathlib.Core.Path.{_≡_};
+ghost use mathlib.Core.List.{[], _∷_};
+ghost use lib.ListN.{length};
+ghost use Rattle.definitions.specs.Limits.{standard};
+ghost use Rattle.definitions.specs.Json.{read-json};
+ghost use Rattle.definitions.specs.Operations.{refusal, plain-operation};
+use definitions::Answer;
+use definitions::Limits;
+use json::DocumentRead;
+
+// The paper's limits.
+fn standard() -> Limits
+    ensures set { λ r. ⌜ r ≡ standard ⌝ }
+{
+    Limits {
+        bytes: 16384,
+        values: 512,
+        nesting: 32,
+        steps: 65536,
+    }
+}
+
+// The answer of a refusal.
+fn refusal(number: u64, text: u64, place: usize) -> Answer
+    ensures set { λ r. ⌜ r ≡ refusal number text place ⌝ }
+{
+    Answer {
+        number,
+        text,
+        place,
+        length: 0,
+        steps: 0,
+        yes: false,
+    }
+}
+
+// Writes a document as plain JSON.
+pub fn plain(document: &[u8], output: &mut [u8], nodes: &mut [u64], pool: &mut [u64]) -> Answer
+    ensures answered { λ r. ⌜ r ≡ plain-operation read-json (1536 ∷ 2562 ∷ []) (length (now (nodes .entry)) ∷ length (now (pool .entry)) ∷ []) standard (now (document .entry)) (now (output .entry)) .answer ⌝ }
+    ensures written { λ _. ⌜ now (output .exit) ≡ plain-operation read-json (1536 ∷ 2562 ∷ []) (length (now (nodes .entry)) ∷ length (now (pool .entry)) ∷ []) standard (now (document .entry)) (now (output .entry)) .output ⌝ }
+{
+    if nodes.len() < 1536 || pool.len() < 2562 {
+        return refusal(1, 0, 0);
+    }
+    if document.len() > 16384 {
+        return refusal(2, 1, 0);
+    }
+    match json::read_document(document, nodes, pool, standard()) {
+        DocumentRead::Read { words: _, top: _ } => plain::deliver(output, nodes, pool, 0),
+        DocumentRead::Refused { number, place } => refusal(number, 1, place),
+    }
+}
