@@ -108,6 +108,7 @@ module _ (l : Limits) {doc nodes pool nodes′ pool′ : List ℕ} where
                 held = rw (v .table) (v .held);
                 counted = omega (arith, v .counted);
                 within = omega (arith, v .moves .room, v .moves .within, v .moves .limit, t .texts, d .pool-kept);
+                small = omega (arith, v .moves .room, v .moves .within, v .moves .limit, t .short, t .few);
               };
           nodes-kept = d .nodes-kept;
           pool-kept = d .pool-kept;

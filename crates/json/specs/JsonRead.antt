@@ -1,5 +1,5 @@
 -- What `read_document` answers: what the definitions come to, with the value in a node table. Assumes nothing.
-use Prim.Native.Nat.{ℕ, _+_, _*_, _/_, _≤_}
+use Prim.Native.Nat.{ℕ, _+_, _*_, _/_, _≤_, _<_}
 use mathlib.Core.Path.{_≡_}
 use mathlib.Core.List.{List}
 use lib.ListN.{length, take}
@@ -28,6 +28,8 @@ pub record Document-held (l : Limits) (doc : Bytes) (nodes pool : List ℕ) (wor
   pub held : Rows (take top pool) 0 value (take words nodes)
   pub counted : words ≡ 3 * size value
   pub within : top ≤ length pool
+  -- a reference has 16 bits for a text's first word
+  pub small : top < 65536
 
 abbrev pub Document-answer : Limits → Bytes → List ℕ → List ℕ → DocumentRead → Type 0
 Document-answer l doc nodes pool (Read words top) = Document-held l doc nodes pool words top

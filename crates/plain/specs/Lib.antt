@@ -4,3 +4,4 @@ pub mod Parts
 pub mod PlainLaws
 pub mod HeadLaws
 pub mod TableSample
+pub mod GoodBounded
