@@ -28,6 +28,7 @@ start-ready t =
     record {
       placed = record { rows = t .rows; short = t .short; few = t .few; within = omega arith; limit = omega arith };
       texts = t .texts;
+      used = omega arith;
       room = omega arith;
     }
 

@@ -61,12 +61,13 @@ part-ready k c from r op =
             limit = op .moves .limit;
           };
       texts = omega (arith, r .texts, op .pool-kept);
+      used = omega (arith, r .room, op .moves .room, op .moves .within, op .moves .limit, r .texts, op .pool-kept);
       room = omega (arith, r .room, op .moves .room);
     }
 
 pub used-within
     : {doc nodes pool : List ℕ} {values : ℕ} (c : Cursor) → Ready doc nodes pool values c → c .top ≤ length pool
-used-within c r = omega (arith, r .room, r .texts, r .placed .within, r .placed .limit)
+used-within c r = r .used
 
 -- ---- a list's element
 
@@ -174,6 +175,7 @@ module _
   name-ready r =
       record {
         ready = part-ready curly c from r op;
+        spare = omega (arith, r .room, op .moves .room);
         members = op .parts;
         before = members-before;
         ordered = omega (arith, op .counted);
@@ -209,6 +211,7 @@ module _
                   limit = omega (arith, q .placed .limit, m .begun);
                 };
             texts = omega (arith, q .texts, d .pool-kept);
+            used = omega (arith, op .moves .room, r .room, m .room, m .begun, m .within, op .moves .limit, q .texts, d .pool-kept);
             room = omega (arith, op .moves .room, r .room, m .room, m .begun);
           }
 

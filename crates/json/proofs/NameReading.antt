@@ -86,9 +86,7 @@ module _ {doc nodes pool : List ℕ} {values first : ℕ} (c : Cursor) (p : Name
       omega (arith, r .room, r .placed .within, r .placed .short, r .placed .limit, r .placed .few)
 
   pub used-within : c .top ≤ length pool
-  used-within =
-      let r = p .ready in
-      omega (arith, r .room, r .texts, r .placed .within, r .placed .limit)
+  used-within = p .ready .used
 
   pub walkable
       : {pool′ : List ℕ} → length pool′ ≡ length pool → take (c .top) pool′ ≡ take (c .top) pool
@@ -231,5 +229,5 @@ name-room {doc} {pool} {at} c p s e =
     let r = p .ready in (
       omega arith,
       bytes-words (c .top) (length doc - (at + 1)) (length pool)
-          (omega (arith, r .room, r .texts, r .placed .limit, r .placed .within, s .from)),
+          (omega (arith, p .spare, r .texts, r .placed .limit, r .placed .within, s .from)),
     )

@@ -436,11 +436,11 @@ literal-code li = omega (arith, li .code, code-small (li .value))
 
 -- the pool has room for a text that begins here
 pub text-room
-    : {doc nodes pool : List ℕ} {values : ℕ} (c : Cursor) → Ready doc nodes pool values c → getD doc (c .at) 256 ≡ 0x22
+    : {doc nodes pool : List ℕ} {values : ℕ} (c : Cursor) → Ready doc nodes pool values c → getD doc (c .at) 256 ≡ 0x22 → c .begun < values
     → (c .at + 1 ≤ length doc) × (c .top + words (length doc - (c .at + 1)) ≤ length pool)
-text-room {doc} {pool} c p e =
+text-room {doc} {pool} c p e free =
     let inside : c .at < length doc = byte-inside doc (c .at) e (omega arith) in (
       omega arith,
       bytes-words (c .top) (length doc - (c .at + 1)) (length pool)
-          (omega (arith, p .room, p .texts, p .placed .limit, p .placed .within)),
+          (omega (arith, p .room, p .texts, free, p .placed .within)),
     )

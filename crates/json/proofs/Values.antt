@@ -106,6 +106,7 @@ module _
                 limit = p .placed .limit;
               };
           texts = p .texts;
+          used = p .used;
           room = omega (arith, p .room, s .from);
         }
 
@@ -138,6 +139,7 @@ module _
               limit = p .placed .limit;
             };
         texts = p .texts;
+        used = p .used;
         room = omega (arith, p .room, s .from);
       }
 

@@ -107,7 +107,9 @@ pub record Placed (doc : Bytes) (nodes : List ℕ) (values : ℕ) (c : Cursor) :
 -- the same, and the pool has room for its text: what is used of it is paid for
 pub record Ready (doc : Bytes) (nodes pool : List ℕ) (values : ℕ) (c : Cursor) : Type 0 where
   pub placed : Placed doc nodes values c
-  pub texts : length doc / 8 + values + 2 ≤ length pool
+  pub texts : length doc + 8 * values ≤ 8 * length pool + 9
+  -- what is used is there
+  pub used : c .top ≤ length pool
   pub room : 8 * c .top ≤ c .at + 8 * c .begun
 
 -- how far reading goes over a value that is so long in plain JSON
@@ -205,6 +207,8 @@ pub record Members-at (nodes pool : List ℕ) (first : ℕ) (c : Cursor) (ms : M
 -- where a name may begin behind some members
 pub record Name-ready (doc : Bytes) (nodes pool : List ℕ) (values first : ℕ) (c : Cursor) : Type 0 where
   pub ready : Ready doc nodes pool values c
+  -- the record itself is a value without a text
+  pub spare : 8 * c .top + 8 ≤ c .at + 8 * c .begun
   pub members : Members
   pub before : Members-at nodes pool first c members
   pub ordered : first ≤ c .begun

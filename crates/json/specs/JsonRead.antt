@@ -1,5 +1,5 @@
 -- What `read_document` answers: what the definitions come to, with the value in a node table. Assumes nothing.
-use Prim.Native.Nat.{ℕ, _+_, _*_, _/_, _≤_, _<_}
+use Prim.Native.Nat.{ℕ, _+_, _*_, _≤_, _<_}
 use mathlib.Core.Path.{_≡_}
 use mathlib.Core.List.{List}
 use lib.ListN.{length, take}
@@ -16,8 +16,9 @@ use Rattle.json.specs.declared.DocumentRead.the-variants.{Read, Refused}
 pub record Tables (doc : Bytes) (nodes pool : List ℕ) (values : ℕ) : Type 0 where
   -- three words a value
   pub rows : 3 * values ≤ length nodes
-  -- the texts: a word border may cost seven bytes a text, and quotes, colons and commas pay for the names
-  pub texts : length doc / 8 + values + 2 ≤ length pool
+  -- the texts: a word border may cost seven bytes a text, and quotes, colons and commas pay for the names. Of the 9, 8 are
+  -- paid by the value that begins, or by the record around a name, and 1 by the opening quote
+  pub texts : length doc + 8 * values ≤ 8 * length pool + 9
   pub short : length doc ≤ 65536
   pub few : values ≤ 32768
 

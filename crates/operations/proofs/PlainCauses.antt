@@ -30,17 +30,17 @@ refuses n k p out = record { answer = refusal n k p; output = out }
 
 module _ (doc out : Bytes) (nodes pool : List ℕ) where
   abbrev pub operation : Done
-  operation = plain-operation read-json (1536 ∷ 2562 ∷ []) (length nodes ∷ length pool ∷ []) standard doc out
+  operation = plain-operation read-json (1536 ∷ 2559 ∷ []) (length nodes ∷ length pool ∷ []) standard doc out
 
-  module _ (a : 1536 ≤ length nodes) (b : 2562 ≤ length pool) where
-    long-enough : slices-short (1536 ∷ 2562 ∷ []) (length nodes ∷ length pool ∷ []) ≡ false
+  module _ (a : 1536 ≤ length nodes) (b : 2559 ≤ length pool) where
+    long-enough : slices-short (1536 ∷ 2559 ∷ []) (length nodes ∷ length pool ∷ []) ≡ false
     unfolding slices-short
     long-enough = rw (le-ltb _ _ a, le-ltb _ _ b) refl
 
     -- what comes behind 1
     behind : operation ≡ finish out (judge-text 1 standard read-json doc >>= λ v. passed (record { bytes = plain v; steps = 0 }))
     unfolding plain-operation
-    behind = ap (λ m. finish out m) (bind-of _ (work-long (1536 ∷ 2562 ∷ []) (length nodes ∷ length pool ∷ []) long-enough))
+    behind = ap (λ m. finish out m) (bind-of _ (work-long (1536 ∷ 2559 ∷ []) (length nodes ∷ length pool ∷ []) long-enough))
 
     pub text-too-long : 16384 < length doc → operation ≡ refuses 2 1 0 out
     unfolding finish standard
@@ -60,15 +60,15 @@ module _ (doc out : Bytes) (nodes pool : List ℕ) where
       unfolding finish in-text
       document-read e = behind ∙ ap (λ m. finish out m) (bind-of _ (fits ∙ ap (λ o. in-text 1 o) e))
 
-  slice-short : slices-short (1536 ∷ 2562 ∷ []) (length nodes ∷ length pool ∷ []) ≡ true → operation ≡ refuses 1 0 0 out
+  slice-short : slices-short (1536 ∷ 2559 ∷ []) (length nodes ∷ length pool ∷ []) ≡ true → operation ≡ refuses 1 0 0 out
   unfolding plain-operation finish
-  slice-short e = ap (λ m. finish out m) (bind-stopped _ (work-short (1536 ∷ 2562 ∷ []) (length nodes ∷ length pool ∷ []) e))
+  slice-short e = ap (λ m. finish out m) (bind-stopped _ (work-short (1536 ∷ 2559 ∷ []) (length nodes ∷ length pool ∷ []) e))
 
   pub nodes-short : length nodes < 1536 → operation ≡ refuses 1 0 0 out
   unfolding slices-short
   nodes-short h = slice-short (rw (lt-ltb _ _ h) refl)
 
-  pub pool-short : 1536 ≤ length nodes → length pool < 2562 → operation ≡ refuses 1 0 0 out
+  pub pool-short : 1536 ≤ length nodes → length pool < 2559 → operation ≡ refuses 1 0 0 out
   unfolding slices-short
   pool-short a h = slice-short (rw (le-ltb _ _ a, lt-ltb _ _ h) refl)
 
@@ -80,7 +80,7 @@ ends e f = (e ∙ sym (ap (λ d. d .answer) f), sym (ap (λ d. d .output) f))
 
 -- the work slices have room for a document
 pub roomy
-    : {doc : Bytes} {nodes pool : List ℕ} {l : Limits} → l ≡ standard → 1536 ≤ length nodes → 2562 ≤ length pool → length doc ≤ 16384
+    : {doc : Bytes} {nodes pool : List ℕ} {l : Limits} → l ≡ standard → 1536 ≤ length nodes → 2559 ≤ length pool → length doc ≤ 16384
     → Tables doc nodes pool (l .values)
 unfolding standard
 roomy {doc} {nodes} {pool} e a b h =
@@ -110,7 +110,7 @@ module _ {l : Limits} (s : l ≡ standard) {doc : Bytes} {nodes pool nodes′ po
     read-held = record { value = read-value; holds = read-holds }
 
     pub delivered
-        : (out : Bytes) {out′ : Bytes} {a : Answer} → 1536 ≤ length nodes → 2562 ≤ length pool → length doc ≤ 16384
+        : (out : Bytes) {out′ : Bytes} {a : Answer} → 1536 ≤ length nodes → 2559 ≤ length pool → length doc ≤ 16384
         → ((v : Value) → Holds nodes′ pool′ 0 v → a ≡ deliver out (record { bytes = plain v; steps = 0 }) .answer)
         × ((v : Value) → Holds nodes′ pool′ 0 v → out′ ≡ deliver out (record { bytes = plain v; steps = 0 }) .output)
         → (a ≡ operation doc out nodes pool .answer) × (out′ ≡ operation doc out nodes pool .output)

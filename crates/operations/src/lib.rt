@@ -38,13 +38,13 @@ fn refusal(number: u64, text: u64, place: usize) -> Answer
 
 // Writes a document as plain JSON.
 pub fn plain(document: &[u8], output: &mut [u8], nodes: &mut [u64], pool: &mut [u64]) -> Answer
-    ensures answered { λ r. ⌜ r ≡ plain-operation read-json (1536 ∷ 2562 ∷ []) (length (now (nodes .entry)) ∷ length (now (pool .entry)) ∷ []) standard (now (document .entry)) (now (output .entry)) .answer ⌝ }
-    ensures written { λ _. ⌜ now (output .exit) ≡ plain-operation read-json (1536 ∷ 2562 ∷ []) (length (now (nodes .entry)) ∷ length (now (pool .entry)) ∷ []) standard (now (document .entry)) (now (output .entry)) .output ⌝ }
+    ensures answered { λ r. ⌜ r ≡ plain-operation read-json (1536 ∷ 2559 ∷ []) (length (now (nodes .entry)) ∷ length (now (pool .entry)) ∷ []) standard (now (document .entry)) (now (output .entry)) .answer ⌝ }
+    ensures written { λ _. ⌜ now (output .exit) ≡ plain-operation read-json (1536 ∷ 2559 ∷ []) (length (now (nodes .entry)) ∷ length (now (pool .entry)) ∷ []) standard (now (document .entry)) (now (output .entry)) .output ⌝ }
 {
     if nodes.len() < 1536 {
         return refusal(1, 0, 0);
     }
-    if pool.len() < 2562 {
+    if pool.len() < 2559 {
         return refusal(1, 0, 0);
     }
     if document.len() > 16384 {

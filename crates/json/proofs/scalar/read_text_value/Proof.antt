@@ -20,6 +20,7 @@ returns c =
 
 read-text-requires : tie.Need-read-text-requires
 read-text-requires c κs = text-room (c .before .before .before .before .before .before .before .args .c) (c .before .before .before .before .before .before .before .pre .0) (c .before .before .before .before .before .before .before .pre .1)
+    (c .before .before .before .is-full .ensures .within (c .before .before .if1 .left) .0)
 
 -- the text that was read
 abbrev closed
