@@ -9,58 +9,7 @@ use lib.ListN.{length, getD, take, drop, set, length-append, length-set, take-ap
 use lib.Seq.{length-take-le, take-at, drop-at, drop-drop, set-split, append-snoc, take-length, paste, paste-zero, paste-suc}
 use Rattle.definitions.specs.Bytes.{Bytes}
 use Rattle.text.specs.Writes.{Writes}
-
--- nothing
-pub writes-none : (o : Bytes) (at : ℕ) → Writes o o at [] at
-writes-none o at =
-    record {
-      bytes = sym (ap (λ (s : Bytes). s ++ drop at o) (append-nil (take at o)) ∙ take-append-drop at o);
-      end = sym (add-zero at);
-    }
-
--- one byte
-pub writes-byte : (o : Bytes) (at b : ℕ) → at < length o → Writes o (set o at b) at (b ∷ []) (at + 1)
-writes-byte o at b h =
-    record {
-      bytes = set-split o at b h
-          ∙ ap (λ (n : ℕ). take at o ++ b ∷ drop n o) (sym (add-one at))
-          ∙ sym (append-snoc (take at o) b (drop (at + 1) o));
-      end = refl;
-    }
-
--- and then more behind it
-pub writes-then
-    : {o o₁ o₂ : Bytes} {at j r : ℕ} {s t : Bytes} → at ≤ length o → Writes o o₁ at s j → Writes o₁ o₂ j t r
-    → Writes o o₂ at (s ++ t) r
-writes-then {o} {o₁} {o₂} {at} {j} {r} {s} {t} h w x =
-    record {
-      bytes = x .bytes
-          ∙ ap₂ (λ (a b : Bytes). a ++ t ++ b) before behind
-          ∙ ap (λ (a : Bytes). a ++ drop r o) (append-assoc (take at o) s t);
-      end = x .end ∙ ap (λ (n : ℕ). n + length t) (w .end) ∙ omega (arith, length-append s t);
-    }
-  where
-    size : length (take at o ++ s) ≡ j
-    size = length-append (take at o) s ∙ ap (λ (n : ℕ). n + length s) (length-take-le at o h) ∙ sym (w .end)
-
-    before : take j o₁ ≡ take at o ++ s
-    before = ap (take j) (w .bytes) ∙ take-at (take at o ++ s) (drop j o) j size
-
-    behind : drop r o₁ ≡ drop r o
-    behind =
-        ap (λ (n : ℕ). drop n o₁) (x .end)
-        ∙ sym (drop-drop (length t) j o₁)
-        ∙ ap (drop (length t)) (ap (drop j) (w .bytes) ∙ drop-at (take at o ++ s) (drop j o) j size)
-        ∙ drop-drop (length t) j o
-        ∙ ap (λ (n : ℕ). drop n o) (sym (x .end))
-
--- the same bytes under another name
-pub writes-as : {o o₁ : Bytes} {at r : ℕ} {s t : Bytes} → s ≡ t → Writes o o₁ at s r → Writes o o₁ at t r
-writes-as {o} {o₁} {at} {r} e w =
-    record {
-      bytes = w .bytes ∙ ap (λ (s : Bytes). take at o ++ s ++ drop r o) e;
-      end = w .end ∙ ap (λ (s : Bytes). at + length s) e;
-    }
+pub use Rattle.text.specs.WritesLaws.{writes-none, writes-byte, writes-then, writes-as}
 
 -- ---- a text copied byte by byte
 

@@ -11,67 +11,8 @@ use Rattle.definitions.specs.Plain.{escaped, escaped-all, plain-text}
 use Rattle.pool.specs.Pool.{pool-bytes, words, text-in}
 use Rattle.pool.specs.PoolLaws.{words-bytes, length-text-in, getD-text-in}
 use Rattle.text.specs.Writes.{Writes}
+pub use Rattle.text.specs.WritesLaws.{writes-none, writes-length, writes-then, writes-next, writes-same}
 use Rattle.text.proofs.Escaped.{escaped-append, escaped-none, escaped-snoc, length-plain}
-
--- ---- Writes
-
-pub writes-none : (out : Bytes) (at : ℕ) → at ≤ length out → Writes out out at [] at
-writes-none out at h = record { bytes = sym (take-append-drop at out) ∙ ap (λ (x : Bytes). x ++ drop at out) (sym (append-nil (take at out))); end = omega arith }
-
-pub writes-length : (out out′ : Bytes) (at : ℕ) (s : Bytes) (r : ℕ) → r ≤ length out → Writes out out′ at s r → length out′ ≡ length out
-writes-length out out′ at s r l h =
-    let e = h .end in
-    ap length (h .bytes)
-    ∙ length-append (take at out ++ s) (drop r out)
-    ∙ omega (arith, length-append (take at out) s, length-drop r out, length-take-le at out (omega arith))
-
--- one part behind another
-pub writes-then
-    : {out out′ out″ : Bytes} {at r q : ℕ} {s t : Bytes} → at ≤ length out → Writes out out′ at s r → Writes out′ out″ r t q
-    → Writes out out″ at (s ++ t) q
-writes-then {out} {out′} {out″} {at} {r} {q} {s} {t} l h k =
-    record {
-      bytes = k .bytes
-          ∙ ap₂ (λ (x y : Bytes). x ++ t ++ y) front back
-          ∙ ap (λ (x : Bytes). x ++ drop q out) (append-assoc (take at out) s t);
-      end = omega (arith, h .end, k .end, length-append s t);
-    }
-  where
-    size : length (take at out ++ s) ≡ r
-    size = length-append (take at out) s ∙ omega (arith, h .end, length-take-le at out l)
-
-    front : take r out′ ≡ take at out ++ s
-    front = ap (λ (x : Bytes). take r x) (h .bytes) ∙ take-at (take at out ++ s) (drop r out) r size
-
-    back : drop q out′ ≡ drop q out
-    back =
-        ap (λ (x : Bytes). drop q x) (h .bytes)
-        ∙ ap (λ (x : ℕ). drop x (take at out ++ s ++ drop r out)) (let e : q ≡ length (take at out ++ s) + length t = omega (arith, k .end, size) in e)
-        ∙ drop-append-add (take at out ++ s) (drop r out) (length t)
-        ∙ drop-drop (length t) r out
-        ∙ ap (λ (x : ℕ). drop x out) (sym (k .end))
-
-writes-one : (out : Bytes) (at b : ℕ) → at < length out → Writes out (set out at b) at (b ∷ []) (at + 1)
-writes-one out at b h =
-    record {
-      bytes = set-split out at b h
-          ∙ ap (λ (x : ℕ). take at out ++ (b ∷ drop x out)) (sym (add-one at))
-          ∙ sym (append-assoc (take at out) (b ∷ []) (drop (at + 1) out));
-      end = refl;
-    }
-
--- a byte behind what is written
-pub writes-next
-    : {out out′ : Bytes} {at r : ℕ} {s : Bytes} (k b : ℕ) → Writes out out′ at s r → k ≡ r → r < length out
-    → Writes out (set out′ k b) at (s ++ (b ∷ [])) (k + 1)
-writes-next {out} {out′} {at} {r} {s} k b h e l =
-    subst (λ (x : ℕ). Writes out (set out′ x b) at (s ++ (b ∷ [])) (x + 1)) (sym e)
-    (writes-then (omega (arith, h .end)) h
-    (writes-one out′ r b (omega (arith, writes-length out out′ at s r (omega arith) h))))
-
-pub writes-as
-    : {out out′ : Bytes} {at r : ℕ} {s : Bytes} (t : Bytes) (q : ℕ) → Writes out out′ at s r → s ≡ t → r ≡ q → Writes out out′ at t q
-writes-as {out} {out′} {at} t q h e f = subst₂ (λ x y. Writes out out′ at x y) e f h
 
 -- ---- the bytes of a text
 
@@ -117,7 +58,7 @@ module _ (p : List ℕ) (w n : ℕ) (room : w + words n ≤ length p) where
   -- ---- the loop: the first i bytes stand from place at up to place j
 
   pub written-start : (out : Bytes) (at : ℕ) → at ≤ length out → Writes out out at (escaped-all (take 0 (text-in p w n))) at
-  written-start out at l = writes-as (escaped-all []) at (writes-none out at l) (sym escaped-none) refl
+  written-start out at l = writes-same (escaped-all []) at (writes-none out at) (sym escaped-none) refl
 
   module _ (i : ℕ) {out out′ : Bytes} {at j : ℕ} (h : Writes out out′ at (escaped-all (take i (text-in p w n))) j)
       (l : at + length (plain-text (text-in p w n)) ≤ length out + 1) where
@@ -137,7 +78,7 @@ module _ (p : List ℕ) (w n : ℕ) (room : w + words n ≤ length p) where
         : (out″ : Bytes) (b q : ℕ) → i < n → b ≡ getD (pool-bytes p) (8 * w + i) 0 → Writes out′ out″ j (escaped b) q
         → Writes out out″ at (escaped-all (take (i + 1) (text-in p w n))) q
     written-next out″ b q m e k =
-        writes-as (escaped-all (take (i + 1) (text-in p w n))) q (writes-then (omega (arith, text-bound i)) h k) (sym (text-next i b m e)) refl
+        writes-same (escaped-all (take (i + 1) (text-in p w n))) q (writes-then (omega (arith, text-bound i)) h k) (sym (text-next i b m e)) refl
 
   -- all between the quotes
   pub written-done
@@ -147,8 +88,8 @@ module _ (p : List ℕ) (w n : ℕ) (room : w + words n ≤ length p) where
   unfolding plain-text bytes
   written-done out out′ at i j l m h =
       let s = length-plain (text-in p w n) in
-      let f = writes-next at 0x22 (writes-none out at (omega arith)) refl (omega arith) in
+      let f = writes-next at 0x22 (writes-none out at) refl (omega arith) in
       let g = writes-then {s = 0x22 ∷ []} (omega arith) f h in
-      writes-as (plain-text (text-in p w n)) (j + 1)
+      writes-same (plain-text (text-in p w n)) (j + 1)
       (writes-next j 0x22 g refl (omega (arith, h .end, ap length (text-all i m))))
       (ap (λ (x : Bytes). 0x22 ∷ (x ++ (0x22 ∷ []))) (text-all i m)) refl

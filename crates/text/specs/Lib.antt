@@ -3,3 +3,4 @@ pub mod TextLaws
 pub mod TextRead
 pub mod TextParts
 pub mod Writes
+pub mod WritesLaws

@@ -23,7 +23,7 @@ use lib.ListN.{take}
 use Rattle.definitions.specs.Plain.{escaped-all}
 use Rattle.pool.specs.Pool.{text-in}
 use Rattle.text.specs.Writes.{Writes}
-use Rattle.text.proofs.Writing.{writes-none, writes-next, writes-then, writes-length, writes-as, text-place, text-next, text-all, text-bound}
+use Rattle.text.proofs.Writing.{writes-none, writes-next, writes-then, writes-length, writes-same, text-place, text-next, text-all, text-bound}
 use Rattle.text.proofs.write_text.Statement.{statement}
 use Rattle.text.proofs.write_text.Tie as tie
 

@@ -4,7 +4,7 @@ use mathlib.Core.Path.{refl, sym, ap, _∙_}
 use lib.ListN.{length, length-set}
 use Rattle.definitions.specs.Plain.{escaped}
 use Rattle.text.proofs.Escaped.{escaped-short, escaped-hex, escaped-itself, length-hex-escape}
-use Rattle.text.proofs.Writing.{writes-none, writes-next, writes-as}
+use Rattle.text.proofs.Writing.{writes-none, writes-next, writes-same}
 use borrow.Author.Needs.{needs}
 use native.Mathlib.Omega.{arith}
 use Rattle.text.proofs.plain.write_byte.Statement.{statement}
@@ -34,8 +34,8 @@ returns c =
     let e = (escaped-short _ (c .before .short-form .result) (c .before .short-form .ensures) (c .if1 .taken)) in
     let s = ap length e in
     let l = c .before .before .before .pre in
-    writes-as (escaped (a .b)) (a .at + 2)
-    (writes-next (a .at + 1) (c .before .short-form .result) (writes-next (a .at) 0x5C (writes-none (a .out .now) (a .at) (omega arith)) refl (omega arith)) refl (omega arith))
+    writes-same (escaped (a .b)) (a .at + 2)
+    (writes-next (a .at + 1) (c .before .short-form .result) (writes-next (a .at) 0x5C (writes-none (a .out .now) (a .at)) refl (omega arith)) refl (omega arith))
     (sym e) (omega arith)
 
 write-hex-requires : tie.Need-write-hex-requires
@@ -49,7 +49,7 @@ same-length-2 c = search needs
 returns-2 : tie.Need-returns-2
 returns-2 c =
     let a = c .before .before .before .before .before .before .before .before .args in
-    writes-as (escaped (a .b)) (c .before .before .write-hex .result) (c .before .before .write-hex .ensures) (sym (escaped-hex _ (c .before .before .before .before .before .before .short-form .result) (c .before .before .before .before .before .before .short-form .ensures) (c .before .before .before .before .before .if1 .left) (c .before .before .before .before .if2 .taken))) refl
+    writes-same (escaped (a .b)) (c .before .before .write-hex .result) (c .before .before .write-hex .ensures) (sym (escaped-hex _ (c .before .before .before .before .before .before .short-form .result) (c .before .before .before .before .before .before .short-form .ensures) (c .before .before .before .before .before .if1 .left) (c .before .before .before .before .if2 .taken))) refl
 
 slice-write-out-3 : tie.Need-slice-write-out-3
 slice-write-out-3 c = omega (arith, ap length (escaped-itself _ (c .before .before .short-form .result) (c .before .before .short-form .ensures) (c .before .if1 .left) (c .if2 .left)), c .before .before .before .before .pre)
@@ -66,7 +66,7 @@ returns-3 c =
     let e = (escaped-itself _ (c .before .before .short-form .result) (c .before .before .short-form .ensures) (c .before .if1 .left) (c .if2 .left)) in
     let s = ap length e in
     let l = c .before .before .before .before .pre in
-    writes-as (escaped (a .b)) (a .at + 1) (writes-next (a .at) (a .b) (writes-none (a .out .now) (a .at) (omega arith)) refl (omega arith)) (sym e) refl
+    writes-same (escaped (a .b)) (a .at + 1) (writes-next (a .at) (a .b) (writes-none (a .out .now) (a .at)) refl (omega arith)) (sym e) refl
 
 pub write-byte-spec : {M : Type 1} → statement M
 write-byte-spec =

@@ -5,7 +5,7 @@ use mathlib.Core.List.{[], _∷_}
 use lib.ListN.{length-set}
 use Rattle.definitions.specs.Bytes.{bytes}
 use Rattle.text.specs.TextParts.{hex-escape}
-use Rattle.text.proofs.Writing.{writes-none, writes-next, writes-as}
+use Rattle.text.proofs.Writing.{writes-none, writes-next, writes-same}
 use borrow.Author.Needs.{needs}
 use native.Mathlib.Omega.{arith}
 use Rattle.text.proofs.plain.write_hex.Statement.{statement}
@@ -63,11 +63,11 @@ returns c =
     let l = c .before .before .before .pre in
     let x = c .before .hex-digit .result in
     let y = c .hex-digit2 .result in
-    let u = writes-next (a .at) 0x5C (writes-none (a .out .now) (a .at) (omega arith)) refl (omega arith) in
+    let u = writes-next (a .at) 0x5C (writes-none (a .out .now) (a .at)) refl (omega arith) in
     let v = writes-next (a .at + 1) 0x75 u refl (omega arith) in
     let w = writes-next (a .at + 2) 0x30 v (omega arith) (omega arith) in
     let z = writes-next (a .at + 3) 0x30 w (omega arith) (omega arith) in
-    writes-as (hex-escape (a .b)) (a .at + 6) (writes-next (a .at + 5) y (writes-next (a .at + 4) x z (omega arith) (omega arith)) (omega arith) (omega arith))
+    writes-same (hex-escape (a .b)) (a .at + 6) (writes-next (a .at + 5) y (writes-next (a .at + 4) x z (omega arith) (omega arith)) (omega arith) (omega arith))
     (ap₂ (λ d e. 0x5C ∷ 0x75 ∷ 0x30 ∷ 0x30 ∷ d ∷ e ∷ []) (c .before .hex-digit .ensures) (c .hex-digit2 .ensures)) (omega arith)
 
 pub write-hex-spec : {M : Type 1} → statement M

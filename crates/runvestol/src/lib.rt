@@ -1,0 +1,50 @@
+// The C calls: each holds its work slices, runs an operation and writes its answer as five little-endian words.
+ghost use mathlib.Core.Path.{_≡_};
+ghost use mathlib.Core.List.{_++_};
+ghost use Prim.Native.Nat.{_+_, _≤_};
+ghost use lib.ListN.{length, take, drop};
+ghost use Rattle.definitions.specs.Calls.{little-endian, answer-words, plain-call};
+use definitions::Answer;
+
+// Writes a word at a place, its lowest byte first.
+fn put_word(buffer: &mut [u8], at: usize, word: u64)
+    requires { ⌜ at + 8 ≤ length (now buffer) ⌝ }
+    ensures written { λ _. ⌜ now (buffer .exit) ≡ take at (now (buffer .entry)) ++ little-endian 8 word ++ drop (at + 8) (now (buffer .entry)) ⌝ }
+{
+    let mut rest = word;
+    let mut i: usize = 0;
+    while i < 8 {
+        buffer[at + i] = (rest % 256) as u8;
+        rest /= 256;
+        i += 1;
+    }
+}
+
+// Writes an answer's five words.
+fn put_answer(buffer: &mut [u8], answer: Answer)
+    requires { ⌜ 40 ≤ length (now buffer) ⌝ }
+    ensures written { λ _. ⌜ now (buffer .exit) ≡ answer-words answer ++ drop 40 (now (buffer .entry)) ⌝ }
+{
+    put_word(buffer, 0, answer.text);
+    put_word(buffer, 8, answer.place as u64);
+    put_word(buffer, 16, answer.length as u64);
+    put_word(buffer, 24, answer.steps as u64);
+    put_word(buffer, 32, answer.yes as u64);
+}
+
+// Writes a document as plain JSON. Returns the answer's number.
+#[no_mangle]
+pub extern "C" fn runvestol_plain(document: &[u8], output: &mut [u8], answer: &mut [u8]) -> u64
+    ensures number { λ r. ⌜ r ≡ plain-call (now (document .entry)) (now (output .entry)) (now (answer .entry)) .number ⌝ }
+    ensures answered { λ _. ⌜ now (answer .exit) ≡ plain-call (now (document .entry)) (now (output .entry)) (now (answer .entry)) .answer ⌝ }
+    ensures written { λ _. ⌜ now (output .exit) ≡ plain-call (now (document .entry)) (now (output .entry)) (now (answer .entry)) .output ⌝ }
+{
+    if answer.len() < 40 {
+        return 1;
+    }
+    let mut nodes = [0u64; 1536];
+    let mut pool = [0u64; 2559];
+    let done = operations::plain(document, output, &mut nodes, &mut pool);
+    put_answer(answer, done);
+    done.number
+}
