@@ -2,16 +2,16 @@
  * runvestol.h: console records in JSON, their shapes, and readers over them.
  *
  * What the library does so far: it checks a JSON document and rewrites it as plain JSON (runvestol_plain). JSON is that
- * of RFC 8259 in the UTF-8 of RFC 3629; docs/CONFORMANCE.md goes through both, section by section, with what is
- * stricter here:
+ * of RFC 8259 in the UTF-8 of RFC 3629; docs/CONFORMANCE.md goes through both, section by section, and docs/LIMITS.md
+ * has every limit. Stricter than the RFCs:
  *   - a document has at most 16,384 bytes and 512 values, nested at most 32 deep, the root being 1;
  *   - a number has a coefficient of at most 18 digits, at most 9 of them behind the point, and no exponent;
  *   - a name stands once in a record, compared after escapes are decoded;
  *   - there is no leading byte order mark and no lone surrogate escape.
  *
- * What it does not do: it allocates nothing, opens nothing, keeps nothing from one call to the next, and reads and
- * writes no memory but what is lent to the call and its own stack. It knows no floating point numbers and no streams: a
- * document is handed over whole.
+ * What it does not do: it allocates nothing, opens nothing, keeps nothing from one call to the next, and touches no
+ * memory of the host but what is lent to the call. It has no floating point numbers and no streams: a document is
+ * handed over whole.
  *
  * What the host must keep to:
  *   - a pointer and the length behind it describe one buffer of that many bytes, which nothing else writes while the
@@ -45,7 +45,7 @@ extern "C" {
  * The bytes of stack that a call needs below its caller's frame, its work slices included.
  * PROVISIONAL: to be measured on the library.
  */
-#define RUNVESTOL_STACK_BYTES 262144
+#define RUNVESTOL_STACK_BYTES 65536
 
 /*
  * What a call returns: 0, or why it refused. These numbers never change; new ones are added behind the last. Each call's

@@ -23,12 +23,20 @@ static void on_wall(int signal)
     _exit(1);
 }
 
-void catch_walls(void)
+/* The handler's own stack; a sanitizer may have set one already. */
+static void set_signal_stack(void)
 {
     static uint8_t stack[64 * 1024];
-    const stack_t other = {.ss_sp = stack, .ss_size = sizeof stack};
+    const stack_t ours = {.ss_sp = stack, .ss_size = sizeof stack};
+    stack_t set;
+    if (sigaltstack(NULL, &set) == 0 && (set.ss_flags & SS_DISABLE) != 0)
+        sigaltstack(&ours, NULL);
+}
+
+void catch_walls(void)
+{
     struct sigaction action = {.sa_handler = on_wall, .sa_flags = SA_ONSTACK};
-    sigaltstack(&other, NULL);
+    set_signal_stack();
     sigaction(SIGSEGV, &action, NULL);
     sigaction(SIGBUS, &action, NULL);
 }

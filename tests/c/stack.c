@@ -45,6 +45,7 @@ static const char *const patterns[] = {"[", "{", "[{", "{[", "[[{", "{{["};
 
 static const char *const innermost[] = {
     "null", "-123456789.123456789", "\"\\ud83d\\ude00\\u0000\xE2\x82\xAC\"", "[]", "{}", "1e5", "\"\\ud83d\\u0041\"", "[1]",
+    "{\"\\ud83d\\ude00\": 1}",
 };
 
 /* ---- a call on a thread whose stack ends at a wall */
