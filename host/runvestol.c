@@ -164,14 +164,10 @@ static enum status operate(const struct command *command, const struct text *tex
 static enum status run_command(const struct command *command, char **names)
 {
     struct text texts[MOST_TEXTS];
-    enum status status = DONE;
     int loaded = 0;
     while (loaded < command->texts && text_load(&texts[loaded], names[loaded]))
         loaded++;
-    if (loaded < command->texts)
-        status = fail(names[loaded]);
-    else
-        status = operate(command, texts);
+    enum status status = loaded < command->texts ? fail(names[loaded]) : operate(command, texts);
     while (loaded > 0)
         text_free(&texts[--loaded]);
     return status;
