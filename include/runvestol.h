@@ -42,10 +42,10 @@ extern "C" {
 #define RUNVESTOL_ANSWER_BYTES 40
 
 /*
- * The bytes of stack that a call needs below its caller's frame, its work slices included.
- * PROVISIONAL: to be measured on the library.
+ * The bytes of stack that a call needs below its caller's frame. Measured: 46,152 at the deepest, a document of 32
+ * levels, of which 32,760 are the work slices; published with some 3,000 to spare. tests/c measures it anew.
  */
-#define RUNVESTOL_STACK_BYTES 65536
+#define RUNVESTOL_STACK_BYTES 49152
 
 /*
  * What a call returns: 0, or why it refused. These numbers never change; new ones are added behind the last. Each call's
