@@ -1,0 +1,49 @@
+#include "text.h"
+
+#include <errno.h>
+#include <stdio.h>
+#include <stdlib.h>
+#include <string.h>
+
+static bool grow(struct text *text, size_t room)
+{
+    uint8_t *more = realloc(text->bytes, room);
+    if (more == NULL)
+        return false;
+    text->bytes = more;
+    return true;
+}
+
+static bool read_all(FILE *stream, struct text *text)
+{
+    for (size_t room = 32768; grow(text, room); room *= 2) {
+        text->length += fread(text->bytes + text->length, 1, room - text->length, stream);
+        if (text->length < room)
+            return !ferror(stream);
+    }
+    return false;
+}
+
+bool text_load(struct text *text, const char *name)
+{
+    bool standard = strcmp(name, "-") == 0;
+    FILE *stream = standard ? stdin : fopen(name, "rb");
+    *text = (struct text){name, NULL, 0};
+    if (stream == NULL)
+        return false;
+    bool read = read_all(stream, text);
+    int why = errno;
+    if (!standard)
+        fclose(stream);
+    if (!read)
+        text_free(text);
+    errno = why;
+    return read;
+}
+
+void text_free(struct text *text)
+{
+    free(text->bytes);
+    text->bytes = NULL;
+    text->length = 0;
+}

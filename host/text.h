@@ -1,0 +1,20 @@
+/* Texts in memory: a file read whole, whatever its size. */
+#ifndef HOST_TEXT_H
+#define HOST_TEXT_H
+
+#include <stdbool.h>
+#include <stddef.h>
+#include <stdint.h>
+
+struct text {
+    const char *name; /* as it was given on the command line */
+    uint8_t *bytes;
+    size_t length;
+};
+
+/* Reads the file of that name, or standard input for "-". Where it cannot be read: false, and errno says why. */
+bool text_load(struct text *text, const char *name);
+
+void text_free(struct text *text);
+
+#endif

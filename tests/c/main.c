@@ -1,0 +1,24 @@
+/* tests SEED FILE.tsv...: runs the suites and the vector files through the header. Last line `N passed, M failed`. */
+#include <stdio.h>
+#include <stdlib.h>
+
+#include "check.h"
+#include "suites.h"
+#include "vectors.h"
+
+int main(int count, char **words)
+{
+    if (count < 3) {
+        fputs("usage: tests SEED FILE.tsv...\n", stderr);
+        return 2;
+    }
+    catch_walls();
+    seed_with(strtoull(words[1], NULL, 10));
+    plain_suite();
+    buffers_suite();
+    sizes_suite();
+    stack_suite();
+    for (int i = 2; i < count; i++)
+        run_vectors(words[i]);
+    return tally();
+}

@@ -1,0 +1,10 @@
+/* The suites of cases, each in a file of its own. */
+#ifndef SUITES_H
+#define SUITES_H
+
+void plain_suite(void);
+void buffers_suite(void);
+void sizes_suite(void);
+void stack_suite(void);
+
+#endif
