@@ -15,7 +15,8 @@ use std::time::{Instant, SystemTime, UNIX_EPOCH};
 
 const USAGE: &str = "\
 oracle vectors FILE.tsv                          compares the rows of a vector file
-oracle suite FOLDER                              compares public JSON files
+oracle suite FOLDER                              compares the files of a folder with its expected.tsv
+oracle answers FOLDER                            prints what becomes of them
 oracle cases SEED COUNT OPERATION [LIMITS]       prints generated rows
 oracle tally SEED COUNT OPERATION [LIMITS]       counts the numbers of generated rows
 SEED is a number or `clock`, OPERATION one of the seven or `all`,
@@ -27,6 +28,7 @@ fn main() -> ExitCode {
     let done = match words[..] {
         ["vectors", file] => fs::read_to_string(file).map(|text| verdict(vectors::compare(&text))),
         ["suite", folder] => suite::compare(Path::new(folder)).map(verdict),
+        ["answers", folder] => suite::answers(Path::new(folder)).map(print_all),
         ["cases", ref rest @ ..] => plan(rest, cases),
         ["tally", ref rest @ ..] => plan(rest, tallies),
         _ => Err(io::Error::other(USAGE)),
@@ -40,6 +42,11 @@ fn main() -> ExitCode {
 fn verdict((passed, failed): (usize, usize)) -> ExitCode {
     println!("{passed} passed, {failed} failed");
     ExitCode::from(u8::from(failed > 0))
+}
+
+fn print_all(lines: Vec<String>) -> ExitCode {
+    lines.iter().for_each(|line| println!("{line}"));
+    ExitCode::SUCCESS
 }
 
 /// What to generate.
