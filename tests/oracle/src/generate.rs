@@ -2,14 +2,18 @@
 //! often. A seed and an index give the same call every time.
 
 mod borders;
+mod characters;
 mod damage;
 mod documents;
 mod forms;
+mod large;
+mod numbers;
 mod pieces;
 mod random;
 mod readers;
 mod shapes;
 mod spelling;
+mod sweeps;
 mod values;
 
 pub use random::Random;
@@ -31,23 +35,33 @@ pub struct Call {
 
 /// The call at an index of a seed's row of calls.
 pub fn call(seed: u64, index: u64, operation: Operation, limits: &Limits) -> Call {
-    let mut source = Source {
-        random: Random::at(seed, index),
-        limits: *limits,
-    };
+    let mut source = Source::at(seed, index, limits);
     let (first, second) = source.texts(operation);
-    let texts = Texts {
-        first: &first,
-        second: &second,
-        limits,
+    source.call(operation, first, second)
+}
+
+/// The calls at an index: one, or a row of calls that go over one text of it
+/// place by place.
+pub fn calls(seed: u64, index: u64, operation: Operation, limits: &Limits) -> Vec<Call> {
+    let mut source = Source::at(seed, index, limits);
+    let (first, second) = source.texts(operation);
+    let swept = match operation != Operation::Plain && source.random.once_in(2) {
+        true => pairs(vec![first], source.sweep(second)),
+        false => pairs(source.sweep(first), vec![second]),
     };
-    let (answer, _) = outcome(operation, texts, usize::MAX);
-    Call {
-        operation,
-        output: source.output(answer.length as usize),
-        first,
-        second,
-    }
+    let calls = swept.into_iter();
+    calls
+        .map(|(first, second)| source.call(operation, first, second))
+        .collect()
+}
+
+/// Each first text with each second one.
+fn pairs(firsts: Vec<Vec<u8>>, seconds: Vec<Vec<u8>>) -> Vec<(Vec<u8>, Vec<u8>)> {
+    let with_seconds = |first: &Vec<u8>| {
+        let pair = |second: &Vec<u8>| (first.clone(), second.clone());
+        seconds.iter().map(pair).collect::<Vec<_>>()
+    };
+    firsts.iter().flat_map(with_seconds).collect()
 }
 
 /// The random numbers of one call, and the limits to go near.
@@ -57,6 +71,29 @@ pub(crate) struct Source {
 }
 
 impl Source {
+    fn at(seed: u64, index: u64, limits: &Limits) -> Source {
+        Source {
+            random: Random::at(seed, index),
+            limits: *limits,
+        }
+    }
+
+    /// A call of some texts, with an output around the length needed.
+    fn call(&mut self, operation: Operation, first: Vec<u8>, second: Vec<u8>) -> Call {
+        let texts = Texts {
+            first: &first,
+            second: &second,
+            limits: &self.limits,
+        };
+        let (answer, _) = outcome(operation, texts, usize::MAX);
+        Call {
+            operation,
+            output: self.output(answer.length as usize),
+            first,
+            second,
+        }
+    }
+
     fn texts(&mut self, operation: Operation) -> (Vec<u8>, Vec<u8>) {
         match operation {
             Operation::Plain => (self.any_document(), Vec::new()),

@@ -3,7 +3,7 @@
 use super::Source;
 
 /// Bytes that mean something in some text, and ones that end or break others.
-const BYTES: &[u8] =
+pub const BYTES: &[u8] =
     b"\"\\{}[]():,-+.0159eEuxntf /\t\n\r\0\x0b\x1f\x7f\x80\xbf\xc0\xc2\xe0\xed\xef\xf4\xf5\xff";
 
 const PIECES: [&[u8]; 20] = [

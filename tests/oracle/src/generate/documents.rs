@@ -8,19 +8,21 @@ impl Source {
     /// A document of any theme.
     pub fn any_document(&mut self) -> Vec<u8> {
         let mut text = match self.random.below(100) {
-            0..=25 => return self.spell_value_document(),
-            26..=45 => {
+            0..=19 => return self.spell_value_document(),
+            20..=37 => {
                 let mut text = self.spell_value_document();
                 self.damage(&mut text);
                 return text;
             }
-            46..=55 => self.number_document(),
-            56..=68 => self.text_document(),
-            69..=78 => self.repeated_name(),
-            79..=84 => self.deep_document(),
-            85..=89 => self.many_values(),
-            90..=92 => self.long_document(),
-            93..=94 => (0..self.random.below(12))
+            38..=47 => self.number_document(),
+            48..=60 => self.text_document(),
+            61..=68 => self.repeated_name(),
+            69..=71 => self.near_names(),
+            72..=78 => self.deep_document(),
+            79..=84 => self.many_values(),
+            85..=87 => self.long_document(),
+            88..=91 => return self.large_document(),
+            92..=93 => (0..self.random.below(12))
                 .map(|_| self.random.draw() as u8)
                 .collect(),
             _ => self.token_row(),
@@ -53,8 +55,9 @@ impl Source {
     }
 
     fn number_document(&mut self) -> Vec<u8> {
-        let number = match self.random.below(3) {
+        let number = match self.random.below(5) {
             0 => self.digits().into_bytes(),
+            1..=2 => self.any_number(),
             _ => self.random.pick(&NUMBERS).as_bytes().to_vec(),
         };
         self.inside(&number)
@@ -94,7 +97,12 @@ impl Source {
     }
 
     fn text_document(&mut self) -> Vec<u8> {
-        let text = self.quoted_pieces();
+        let text = match self.random.below(8) {
+            0 => self.any_text(),
+            1..=2 => self.border_bytes(),
+            3 => self.border_units(),
+            _ => self.quoted_pieces(),
+        };
         match self.random.below(3) {
             0 => [b"{", &text[..], b":1}"].concat(),
             _ => self.inside(&text),
@@ -123,6 +131,29 @@ impl Source {
         ];
         out.extend(self.random.pick(&behind));
         self.inside(&out)
+    }
+
+    /// A record whose names differ at their ends, some by zeros alone, around
+    /// multiples of eight bytes; mostly one of them comes again.
+    fn near_names(&mut self) -> Vec<u8> {
+        let length = self.random.pick(&[0, 1, 7, 8, 9, 15, 16, 17, 24]);
+        let mut out = b"{".to_vec();
+        for index in 0..self.random.between(2, 4) {
+            let mut name = vec![b'n'; length];
+            match self.random.below(6) {
+                0 => {}
+                1 => name.push(0),
+                2 => name.extend([0, 0]),
+                3 => drop(name.pop()),
+                4 => name.push(b'n'),
+                _ => name.iter_mut().take(1).for_each(|first| *first = 0),
+            }
+            out.extend(&b","[..index.min(1)]);
+            out.extend(self.spell_text(&name));
+            out.extend(b":0");
+        }
+        out.push(b'}');
+        out
     }
 
     /// Lists and records inside each other, about as deep as may be.

@@ -79,15 +79,19 @@ impl Source {
     /// A character as one `\u` escape or two, in either case of digits.
     fn spell_units(&mut self, character: char, out: &mut Vec<u8>) {
         for unit in character.encode_utf16(&mut [0; 2]) {
-            out.extend(b"\\u");
-            for digit in format!("{unit:04x}").into_bytes() {
-                let upper = self.random.once_in(2);
-                out.push(if upper {
-                    digit.to_ascii_uppercase()
-                } else {
-                    digit
-                });
-            }
+            self.spell_unit(*unit, out);
+        }
+    }
+
+    pub fn spell_unit(&mut self, unit: u16, out: &mut Vec<u8>) {
+        out.extend(b"\\u");
+        for digit in format!("{unit:04x}").into_bytes() {
+            let upper = self.random.once_in(2);
+            out.push(if upper {
+                digit.to_ascii_uppercase()
+            } else {
+                digit
+            });
         }
     }
 

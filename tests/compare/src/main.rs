@@ -1,0 +1,164 @@
+//! Makes generated calls of the library and compares all that they leave with
+//! what the second implementation says: see the README.
+
+mod buffer;
+mod case;
+mod library;
+mod report;
+mod wrong;
+
+use case::Case;
+use oracle::generate::{self, Call, Random};
+use oracle::limits::Limits;
+use oracle::operations::Operation;
+use std::env;
+use std::process::ExitCode;
+use std::time::{Instant, SystemTime, UNIX_EPOCH};
+
+const USAGE: &str = "run [SEED [COUNT [FIRST]]]: SEED is a number or `clock`";
+/// How many cases that differ are printed.
+const PRINTED: u64 = 20;
+/// Each number that an operation gives has to come once in so many calls.
+const SELDOM: u64 = 100;
+
+/// Which calls to make.
+struct Plan {
+    seed: u64,
+    count: u64,
+    /// the index that the first call is generated from
+    first: u64,
+}
+
+#[derive(Default)]
+struct Verdict {
+    passed: u64,
+    failed: u64,
+}
+
+impl Verdict {
+    fn count(&mut self, fine: bool) {
+        self.passed += u64::from(fine);
+        self.failed += u64::from(!fine);
+    }
+}
+
+/// What came up for one operation.
+#[derive(Default)]
+struct Tally {
+    numbers: [u64; 16],
+    calls: u64,
+    bytes: usize,
+    longest: usize,
+}
+
+fn main() -> ExitCode {
+    let words: Vec<String> = env::args().skip(1).collect();
+    let Some(plan) = parse(&words) else {
+        eprintln!("{USAGE}");
+        return ExitCode::from(2);
+    };
+    println!("seed {}", plan.seed);
+    let mut verdict = Verdict::default();
+    find_wrong(&plan, &mut verdict);
+    for operation in library::OPERATIONS {
+        compare(&plan, operation, &mut verdict);
+    }
+    println!("{} passed, {} failed", verdict.passed, verdict.failed);
+    ExitCode::from(u8::from(verdict.failed > 0))
+}
+
+fn parse(words: &[String]) -> Option<Plan> {
+    let number = |index: usize, usual: u64| match words.get(index).map(String::as_str) {
+        None => Some(usual),
+        Some("clock") if index == 0 => Some(clock()),
+        Some(word) => word.parse().ok(),
+    };
+    let plan = Plan {
+        seed: number(0, 1)?,
+        count: number(1, 200_000)?,
+        first: number(2, 0)?,
+    };
+    Some(plan).filter(|_| words.len() <= 3)
+}
+
+fn clock() -> u64 {
+    let since = SystemTime::now().duration_since(UNIX_EPOCH);
+    since.map_or(0, |since| since.as_nanos() as u64)
+}
+
+/// The cases of one index. What is lent besides the texts has random numbers of
+/// its own, so that the texts are those of the second implementation's commands.
+fn cases(plan: &Plan, index: u64, operation: Operation) -> Vec<Case> {
+    let calls = generate::calls(plan.seed, index, operation, &Limits::PAPER);
+    let mut random = Random::at(!plan.seed, index);
+    let case = |call: &Call| Case::new(call, &mut random);
+    calls.iter().map(case).collect()
+}
+
+/// Holds the comparison to finding every callee that is wrong.
+fn find_wrong(plan: &Plan, verdict: &mut Verdict) {
+    for (what, callee) in wrong::WRONG {
+        let differs = |index| {
+            let cases = cases(plan, index, Operation::Plain);
+            let mut differing = cases
+                .iter()
+                .filter(|case| case.left_by(callee) != case.stated());
+            differing.next().is_some()
+        };
+        let found = (0..10_000).any(differs);
+        if !found {
+            println!("not found: {what}");
+        }
+        verdict.count(found);
+    }
+}
+
+fn compare(plan: &Plan, operation: Operation, verdict: &mut Verdict) {
+    let start = Instant::now();
+    let mut tally = Tally::default();
+    let mut index = plan.first;
+    while tally.calls < plan.count {
+        for case in cases(plan, index, operation) {
+            compare_one(&case, &mut tally, verdict, || {
+                format!("tests/compare/run {} 1 {index}", plan.seed)
+            });
+        }
+        index += 1;
+    }
+    println!(
+        "{}: {} calls, {:.1} MB of texts, the longest {} bytes, {:.1} s",
+        operation.name(),
+        tally.calls,
+        tally.bytes as f64 / 1e6,
+        tally.longest,
+        start.elapsed().as_secs_f64()
+    );
+    show_numbers(operation, &tally, verdict);
+}
+
+fn compare_one(case: &Case, tally: &mut Tally, verdict: &mut Verdict, again: impl Fn() -> String) {
+    let stated = case.stated();
+    let left = case.left_by(library::call);
+    let fine = stated == left;
+    verdict.count(fine);
+    if !fine && verdict.failed <= PRINTED {
+        report::print(case, &stated, &left, &again());
+    }
+    let length = case.buffers.first.inside().len() + case.buffers.second.inside().len();
+    tally.numbers[stated.number as usize] += 1;
+    tally.calls += 1;
+    tally.bytes += length;
+    tally.longest = tally.longest.max(length);
+}
+
+/// Prints how often each number came, and fails on one that came seldom: then
+/// the calls say little of it. A few calls say nothing of that.
+fn show_numbers(operation: Operation, tally: &Tally, verdict: &mut Verdict) {
+    for number in library::numbers(operation) {
+        let count = tally.numbers[*number];
+        println!("{:8}{number:2}: {count}", operation.name());
+        if tally.calls >= 100 * SELDOM {
+            verdict.count(count >= tally.calls / SELDOM);
+        }
+    }
+}
