@@ -17,7 +17,7 @@ const OUTPUT: usize = 16384;
 
 const NODES: usize = 1536;
 
-const POOL: usize = 2562;
+const POOL: usize = 2559;
 
 fn main() {
     let count = os::arg_count();

@@ -9,10 +9,11 @@ impl Source {
             0 => self.random.near(self.limits.text_bytes, 16),
             _ => self.random.below(self.limits.text_bytes),
         };
-        let mut out = match self.random.below(4) {
+        let mut out = match self.random.below(5) {
             0 => self.long_texts(length),
             1 => self.many_texts(length),
             2 => self.many_numbers(length),
+            3 => self.wasteful_texts(),
             _ => self.large_tree(length),
         };
         if self.random.once_in(3) {
@@ -65,6 +66,30 @@ impl Source {
             out.push(b'"');
         }
         out.push(b'}');
+        out
+    }
+
+    /// A record of as many texts as may be, each with one byte in its last word
+    /// of eight, as long as may be: nothing takes more words. It is closed, or a
+    /// last name is left open.
+    fn wasteful_texts(&mut self) -> Vec<u8> {
+        let length = self.limits.text_bytes;
+        // A name of nine bytes, a text of one, and what stands around them.
+        let members = (self.limits.values - 1).min(length / 16);
+        let mut texts = vec![1; members];
+        for _ in 0..length.saturating_sub(16 * members + 2) / 8 {
+            let longer = self.random.below(members);
+            texts.iter_mut().skip(longer).take(1).for_each(|n| *n += 8);
+        }
+        let mut out = b"{".to_vec();
+        for (index, text) in texts.into_iter().enumerate() {
+            out.extend(&b","[..index.min(1)]);
+            out.extend(format!("\"{index:0>9}\":\"{:x>text$}\"", "").into_bytes());
+        }
+        out.extend(self.random.pick(&[&b"}"[..], b",\""]));
+        let open = out.ends_with(b"\"");
+        let length = self.random.near(length, 1).max(out.len());
+        out.resize(length, if open { b'n' } else { b' ' });
         out
     }
 
