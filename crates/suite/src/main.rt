@@ -1,6 +1,5 @@
 // Rewrites each file that an argument names as plain JSON, and prints a line for it: its name, the number, and the place
 // of a refusal; or, of an accepted file, the length and the bytes written, in hexadecimal.
-ghost use Prim.Native.Nat.{_≤_};
 ghost use mathlib.Core.Path.{_≡_};
 ghost use Rattle.io.specs.Counts.{Counts};
 ghost use Rattle.suite.specs.Lines.{figure-of};
@@ -14,7 +13,7 @@ use libc::STDOUT_FILENO;
 const DOCUMENT: usize = 16385;
 // Plain JSON is never longer than its document.
 const OUTPUT: usize = 16384;
-
+// The work slices, as published.
 const NODES: usize = 1536;
 
 const POOL: usize = 2559;
@@ -89,7 +88,7 @@ fn figure(answer: Answer) -> usize
     }
 }
 
-// How many bytes of the output an accepted document's plain JSON takes.
+// How many bytes of the output plain JSON takes, and no more than there are.
 fn written(answer: Answer, output: &[u8]) -> usize
     ensures { λ r. ⌜ Counts r (now (output .entry)) ⌝ }
 {
