@@ -62,6 +62,10 @@ writes-as {o} {o₁} {at} {r} e w =
       end = w .end ∙ ap (λ (s : Bytes). at + length s) e;
     }
 
+-- the bytes come first, so that what they are called is held to them
+pub written-as : {o o₁ : Bytes} {at r : ℕ} {s t : Bytes} → Writes o o₁ at s r → s ≡ t → Writes o o₁ at t r
+written-as w e = writes-as e w
+
 -- ---- a text copied byte by byte
 
 -- the first i bytes of the text stand from place at up to place j
