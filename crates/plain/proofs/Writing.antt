@@ -11,6 +11,10 @@ use Rattle.definitions.specs.Bytes.{Bytes}
 use Rattle.text.specs.Writes.{Writes}
 pub use Rattle.text.specs.WritesLaws.{writes-none, writes-byte, writes-then, writes-as}
 
+-- the bytes come first, so that what they are called is held to them
+pub written-as : {o o₁ : Bytes} {at r : ℕ} {s t : Bytes} → Writes o o₁ at s r → s ≡ t → Writes o o₁ at t r
+written-as w e = writes-as e w
+
 -- ---- a text copied byte by byte
 
 -- the first i bytes of the text stand from place at up to place j

@@ -10,7 +10,7 @@ ghost use Rattle.text.specs.Writes.{Writes};
 mod unicode; // escapes by hexadecimal digits
 mod wide; // characters of several bytes
 mod pieces; // what is no plain ASCII byte, put into the pool
-mod plain; // a byte as plain JSON has it
+mod escape; // a byte as plain JSON has it
 
 use pieces::Piece;
 
@@ -45,7 +45,7 @@ pub fn read_text(doc: &[u8], at: usize, pool: &mut [u64], w: usize) -> TextRead
                 written,
             };
         }
-        if plain::stands(b) {
+        if escape::stands(b) {
             pool::put_byte(pool, 8 * w + n, b);
             i += 1;
             n += 1;
@@ -74,7 +74,7 @@ pub fn text_length(pool: &[u64], w: usize, n: usize) -> usize
     let mut i: usize = 0;
     let mut written: usize = 2;
     while i < n {
-        written += plain::cost(pool::byte_at(pool, 8 * w + i));
+        written += escape::cost(pool::byte_at(pool, 8 * w + i));
         i += 1;
     }
     written
@@ -89,7 +89,7 @@ pub fn write_text(out: &mut [u8], at: usize, pool: &[u64], w: usize, n: usize) -
     let mut j = at + 1;
     let mut i: usize = 0;
     while i < n {
-        j = plain::write_byte(out, j, pool::byte_at(pool, 8 * w + i));
+        j = escape::write_byte(out, j, pool::byte_at(pool, 8 * w + i));
         i += 1;
     }
     out[j] = b'"';

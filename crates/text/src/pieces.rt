@@ -8,7 +8,7 @@ ghost use Rattle.definitions.specs.Utf8.{encode};
 ghost use Rattle.definitions.specs.Plain.{escaped-all};
 ghost use Rattle.pool.specs.Pool.{words};
 ghost use Rattle.text.specs.TextParts.{stands, escape-value, Puts, Reads-piece, Room};
-use super::plain::cost;
+use super::escape::cost;
 use super::unicode::Code;
 use super::unicode::encoded;
 use super::unicode::encoded_length;

@@ -6,7 +6,7 @@ use lib.ListN.{length}
 use Rattle.definitions.specs.Bytes.{bytes}
 use Rattle.definitions.specs.Json.{true-name, false-name, null-name}
 use Rattle.nodes.specs.Nodes.{kind-code}
-use Rattle.plain.proofs.Writing.{writes-as}
+use Rattle.plain.proofs.Writing.{writes-as, written-as}
 use Rattle.plain.proofs.Rows.{stands-kind}
 use Rattle.plain.proofs.Singles.{kind-told, plain-null, plain-false, plain-true, single-number, number-writes, single-text}
 use Rattle.plain.proofs.write_single.Statement.{statement}
@@ -32,7 +32,7 @@ same-length c = search needs
 returns : tie.Need-returns
 unfolding null-name bytes
 returns c v h =
-    writes-as (plain-null v (kind-told h (c .before .before .before .before .before .before .row-kind .ensures) (c .before .before .before .before .before .if1 .taken))) (c .before .before .write-name .ensures)
+    written-as (c .before .before .write-name .ensures) (plain-null v (kind-told h (c .before .before .before .before .before .before .row-kind .ensures) (c .before .before .before .before .before .if1 .taken)))
 
 -- ---- bools
 
@@ -51,7 +51,7 @@ same-length-2 c = search needs
 returns-2 : tie.Need-returns-2
 unfolding false-name bytes
 returns-2 c v h =
-    writes-as (plain-false v (kind-told h (c .before .before .before .before .before .before .before .row-kind .ensures) (c .before .before .before .before .before .if2 .taken))) (c .before .before .write-name2 .ensures)
+    written-as (c .before .before .write-name2 .ensures) (plain-false v (kind-told h (c .before .before .before .before .before .before .before .row-kind .ensures) (c .before .before .before .before .before .if2 .taken)))
 
 slice-aggregate-write-name-3 : tie.Need-slice-aggregate-write-name-3
 slice-aggregate-write-name-3 c = search needs
@@ -68,7 +68,7 @@ same-length-3 c = search needs
 returns-3 : tie.Need-returns-3
 unfolding true-name bytes
 returns-3 c v h =
-    writes-as (plain-true v (kind-told h (c .before .before .before .before .before .before .before .before .row-kind .ensures) (c .before .before .before .before .before .if3 .taken))) (c .before .before .write-name3 .ensures)
+    written-as (c .before .before .write-name3 .ensures) (plain-true v (kind-told h (c .before .before .before .before .before .before .before .before .row-kind .ensures) (c .before .before .before .before .before .if3 .taken)))
 
 -- ---- numbers
 

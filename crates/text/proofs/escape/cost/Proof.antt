@@ -1,4 +1,4 @@
--- `text::plain::cost` meets its contract: how a byte is written goes by its short form (`Escaped`). Assumes nothing.
+-- `text::escape::cost` meets its contract: how a byte is written goes by its short form (`Escaped`). Assumes nothing.
 use mathlib.Core.Path.{sym, ap, _∙_}
 use lib.ListN.{length}
 use Rattle.text.proofs.Escaped.{length-hex-escape, escaped-short, escaped-hex, escaped-itself}
@@ -9,8 +9,8 @@ use Rattle.text.proofs.Escaped.{escaped-short, escaped-hex, escaped-its
 use mathlib.Core.Path.{sym, ap}
 use lib.ListN.{length}
 use Rattle.text.proofs.Escaped.{escaped-short, escaped-hex, escaped-itself}
-use Rattle.text.proofs.plain.cost.Statement.{statement}
-use Rattle.text.proofs.plain.cost.Tie as tie
+use Rattle.text.proofs.escape.cost.Statement.{statement}
+use Rattle.text.proofs.escape.cost.Tie as tie
 
 short-form-requires : tie.Need-short-form-requires
 short-form-requires c κs = search needs

@@ -1,4 +1,4 @@
--- `text::plain::write_hex` meets its contract: six bytes, one behind the other (`writes-next`). Assumes nothing.
+-- `text::escape::write_hex` meets its contract: six bytes, one behind the other (`writes-next`). Assumes nothing.
 use Prim.Native.Nat.{_+_}
 use mathlib.Core.Path.{refl, ap₂}
 use mathlib.Core.List.{[], _∷_}
@@ -8,8 +8,8 @@ use Rattle.text.specs.TextParts.{hex-escape}
 use Rattle.text.proofs.Writing.{writes-none, writes-next, writes-same}
 use borrow.Author.Needs.{needs}
 use native.Mathlib.Omega.{arith}
-use Rattle.text.proofs.plain.write_hex.Statement.{statement}
-use Rattle.text.proofs.plain.write_hex.Tie as tie
+use Rattle.text.proofs.escape.write_hex.Statement.{statement}
+use Rattle.text.proofs.escape.write_hex.Tie as tie
 
 slice-write-out : tie.Need-slice-write-out
 slice-write-out c = search needs

@@ -10,7 +10,7 @@ ghost use Rattle.text.specs.Writes.{Writes};
 pub fn stands(b: u8) -> bool
     ensures judged { λ r. ⌜ r ≡ stands b ⌝ }
 {
-    if b < 0x20 {
+    if b < b' ' {
         return false;
     }
     if 0x7F < b {

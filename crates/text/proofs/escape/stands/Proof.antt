@@ -1,4 +1,4 @@
--- `text::plain::stands` meets its contract: a part of the test for each answer. Assumes nothing.
+-- `text::escape::stands` meets its contract: a part of the test for each answer. Assumes nothing.
 use mathlib.Core.Path.{ap, sym, _∙_}
 use Rattle.text.specs.TextParts.{stands}
 use Rattle.text.proofs.Tables.{stands-low, stands-high, stands-quote, stands-last}
@@ -7,8 +7,8 @@ use mathlib.Core.Path.{ap, sym, _∙_}
 use Rattle.text.specs.TextParts.{stands}
 use Rattle.text.proofs.Tables.{stands-low, stands-high, stands-quote, stands-last}
 use native.Mathlib.Omega.{arith}
-use Rattle.text.proofs.plain.stands.Statement.{statement}
-use Rattle.text.proofs.plain.stands.Tie as tie
+use Rattle.text.proofs.escape.stands.Statement.{statement}
+use Rattle.text.proofs.escape.stands.Tie as tie
 
 returns : tie.Need-returns
 returns c = stands-low (c .before .args .b) (omega arith)

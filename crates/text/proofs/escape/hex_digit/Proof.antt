@@ -1,11 +1,11 @@
--- `text::plain::hex_digit` meets its contract: a branch of `hex-digit` for each answer. Assumes nothing.
+-- `text::escape::hex_digit` meets its contract: a branch of `hex-digit` for each answer. Assumes nothing.
 use borrow.Author.Tests.{lt-ltb, le-ltb}
 use Rattle.definitions.specs.Plain.{hex-digit}
 use borrow.Author.Needs.{needs}
 use borrow.Author.Tests.{lt-ltb, le-ltb}
 use Rattle.definitions.specs.Plain.{hex-digit}
-use Rattle.text.proofs.plain.hex_digit.Statement.{statement}
-use Rattle.text.proofs.plain.hex_digit.Tie as tie
+use Rattle.text.proofs.escape.hex_digit.Statement.{statement}
+use Rattle.text.proofs.escape.hex_digit.Tie as tie
 
 add-result : tie.Need-add-result
 add-result c = search needs

@@ -1,4 +1,4 @@
--- `text::plain::write_byte` meets its contract: how a byte is written goes by its short form (`Escaped`). Assumes nothing.
+-- `text::escape::write_byte` meets its contract: how a byte is written goes by its short form (`Escaped`). Assumes nothing.
 use Prim.Native.Nat.{_+_}
 use mathlib.Core.Path.{refl, sym, ap, _∙_}
 use lib.ListN.{length, length-set}
@@ -7,8 +7,8 @@ use Rattle.text.proofs.Escaped.{escaped-short, escaped-hex, escaped-its
 use Rattle.text.proofs.Writing.{writes-none, writes-next, writes-same}
 use borrow.Author.Needs.{needs}
 use native.Mathlib.Omega.{arith}
-use Rattle.text.proofs.plain.write_byte.Statement.{statement}
-use Rattle.text.proofs.plain.write_byte.Tie as tie
+use Rattle.text.proofs.escape.write_byte.Statement.{statement}
+use Rattle.text.proofs.escape.write_byte.Tie as tie
 
 short-form-requires : tie.Need-short-form-requires
 short-form-requires c κs = search needs

@@ -1,4 +1,4 @@
--- `text::plain::short_form` meets its contract: a row of `short-escapes` for each answer. Assumes nothing.
+-- `text::escape::short_form` meets its contract: a row of `short-escapes` for each answer. Assumes nothing.
 use mathlib.Core.Path.{refl}
 use Rattle.definitions.specs.Bytes.{bytes, look, between}
 use Rattle.definitions.specs.Plain.{short-escapes}
@@ -13,8 +13,8 @@ use Rattle.text.specs.TextParts.{short-form}
 use Rattle.text.proofs.Tables.{value-at}
 use Rattle.text.proofs.Escaped.{short-misses}
 use native.Mathlib.Omega.{arith}
-use Rattle.text.proofs.plain.short_form.Statement.{statement}
-use Rattle.text.proofs.plain.short_form.Tie as tie
+use Rattle.text.proofs.escape.short_form.Statement.{statement}
+use Rattle.text.proofs.escape.short_form.Tie as tie
 
 returns : tie.Need-returns
 unfolding short-form look between short-escapes bytes
