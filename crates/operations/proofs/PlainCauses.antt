@@ -112,10 +112,10 @@ module _ {l : Limits} (s : l ≡ standard) {doc : Bytes} {nodes pool nodes′ po
     pub delivered
         : (out : Bytes) {out′ : Bytes} {a : Answer} → 1536 ≤ length nodes → 2559 ≤ length pool → length doc ≤ 16384
         → ((v : Value) → Holds nodes′ pool′ 0 v → a ≡ deliver out (record { bytes = plain v; steps = 0 }) .answer)
-        × ((v : Value) → Holds nodes′ pool′ 0 v → out′ ≡ deliver out (record { bytes = plain v; steps = 0 }) .output)
+        → ((v : Value) → Holds nodes′ pool′ 0 v → out′ ≡ deliver out (record { bytes = plain v; steps = 0 }) .output)
         → (a ≡ operation doc out nodes pool .answer) × (out′ ≡ operation doc out nodes pool .output)
-    delivered out x y z w =
+    delivered out x y z w u =
         let e : operation doc out nodes pool ≡ deliver out (record { bytes = plain read-value; steps = 0 }) = document-read doc out nodes pool x y z read-ok in (
-          w .0 read-value read-holds ∙ sym (ap (λ (k : Done). k .answer) e),
-          w .1 read-value read-holds ∙ sym (ap (λ (k : Done). k .output) e),
+          w read-value read-holds ∙ sym (ap (λ (k : Done). k .answer) e),
+          u read-value read-holds ∙ sym (ap (λ (k : Done). k .output) e),
         )

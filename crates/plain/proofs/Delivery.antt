@@ -5,7 +5,6 @@ use mathlib.Core.Path.{_≡_, sym, ap, _∙_}
 use mathlib.Core.Bool.{false}
 use mathlib.Core.List.{List, _++_}
 use lib.ListN.{length, drop}
-use Rattle.definitions.specs.declared.Answer.{Answer}
 use Rattle.definitions.specs.Bytes.{Bytes}
 use Rattle.definitions.specs.Value.{Value}
 use Rattle.definitions.specs.Plain.{plain}
@@ -42,32 +41,29 @@ module _ (out : Bytes) (v : Value) (steps : ℕ) {n : ℕ} where
 abbrev Measured : List ℕ → ℕ → Type 0
 Measured nodes n = (p : List ℕ) (v : Value) → Stands nodes p 0 v → Bounded-numbers v → n ≡ length (plain v)
 
--- an answer r and an output out′
-abbrev Delivers : (nodes pool : List ℕ) → Bytes → ℕ → Answer → Bytes → Type 0
-Delivers nodes pool out steps r out′ =
-    ((v : Value) → Holds nodes pool 0 v → r ≡ deliver out (text v steps) .answer)
-    × ((v : Value) → Holds nodes pool 0 v → out′ ≡ deliver out (text v steps) .output)
+module _ {nodes pool : List ℕ} (out : Bytes) (steps : ℕ) {n : ℕ} (m : Measured nodes n) where
+  module _ (h : length out < n) (v : Value) (s : Holds nodes pool 0 v) where
+    short : deliver out (text v steps) ≡ record { answer = record { number = 15; text = 0; place = 0; length = n; steps = 0; yes = false }; output = out }
+    short = delivered-short out v steps (m (s .used) v (s .stands) (s .bounded)) h
 
-module _ {nodes pool : List ℕ} {out : Bytes} (steps : ℕ) {n : ℕ} (m : Measured nodes n) where
-  pub delivers-short
-      : length out < n
-      → Delivers nodes pool out steps (record { number = 15; text = 0; place = 0; length = n; steps = 0; yes = false }) out
-  delivers-short h = (
-    λ v s. sym (ap (λ (d : Done). d .answer) (delivered-short out v steps (m (s .used) v (s .stands) (s .bounded)) h)),
-    λ v s. sym (ap (λ (d : Done). d .output) (delivered-short out v steps (m (s .used) v (s .stands) (s .bounded)) h)),
-  )
+    pub short-answered
+        : record { number = 15; text = 0; place = 0; length = n; steps = 0; yes = false } ≡ deliver out (text v steps) .answer
+    short-answered = sym (ap (λ (d : Done). d .answer) short)
+
+    pub short-kept : out ≡ deliver out (text v steps) .output
+    short-kept = sym (ap (λ (d : Done). d .output) short)
 
   pub delivers-writable : n ≤ length out → Held nodes pool → Writable nodes pool 0 out 0
   delivers-writable h s =
       writable-front out (s .holds) (omega (arith, m (s .holds .used) (s .value) (s .holds .stands) (s .holds .bounded)))
 
-  pub delivers
-      : {out′ : Bytes} {r : ℕ} → n ≤ length out → Writes-front nodes pool out out′ r
-      → Delivers nodes pool out steps (record { number = 0; text = 0; place = 0; length = r; steps = steps; yes = false }) out′
-  delivers h w = (
-    λ v s. sym (ap (λ (d : Done). d .answer) (delivered out v steps (fits v s) (w v s))),
-    λ v s. sym (ap (λ (d : Done). d .output) (delivered out v steps (fits v s) (w v s))),
-  )
-    where
-      fits : (v : Value) → Holds nodes pool 0 v → length (plain v) ≤ length out
-      fits v s = omega (arith, m (s .used) v (s .stands) (s .bounded))
+  module _ {out′ : Bytes} {r : ℕ} (h : n ≤ length out) (w : Writes-front nodes pool out out′ r) (v : Value) (s : Holds nodes pool 0 v) where
+    room : deliver out (text v steps) ≡ record { answer = record { number = 0; text = 0; place = 0; length = r; steps = steps; yes = false }; output = out′ }
+    room = delivered out v steps (omega (arith, m (s .used) v (s .stands) (s .bounded))) (w v s)
+
+    pub room-answered
+        : record { number = 0; text = 0; place = 0; length = r; steps = steps; yes = false } ≡ deliver out (text v steps) .answer
+    room-answered = sym (ap (λ (d : Done). d .answer) room)
+
+    pub room-written : out′ ≡ deliver out (text v steps) .output
+    room-written = sym (ap (λ (d : Done). d .output) room)

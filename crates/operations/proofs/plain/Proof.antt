@@ -20,7 +20,7 @@ deliver-requires : tie.Need-deliver-requires
 deliver-requires c κs = read-held (c .before .before .before .before .before .before .before .before .before .before .standard .ensures) (c .before .before .before .before .before .before .before .before .before .read-document .ensures) (c .before .before .before .enum-told .given .1)
 
 returns-4 : tie.Need-returns-4
-returns-4 c = delivered (c .before .before .before .before .before .before .before .before .before .before .before .before .before .standard .ensures) (c .before .before .before .before .before .before .before .before .before .before .before .before .read-document .ensures) (c .before .before .before .before .before .before .enum-told .given .1) (c .before .before .before .before .before .before .before .before .before .before .before .before .before .before .before .before .before .before .before .before .before .before .before .args .output .now) (c .before .before .before .before .before .before .before .before .before .before .before .before .before .before .before .before .before .before .if1 .left) (c .before .before .before .before .before .before .before .before .before .before .before .before .before .before .before .before .before .if2 .left) (c .before .before .before .before .before .before .before .before .before .before .before .before .before .before .before .before .if3 .left) (c .before .before .deliver .ensures)
+returns-4 c = delivered (c .before .before .before .before .before .before .before .before .before .before .before .before .before .standard .ensures) (c .before .before .before .before .before .before .before .before .before .before .before .before .read-document .ensures) (c .before .before .before .before .before .before .enum-told .given .1) (c .before .before .before .before .before .before .before .before .before .before .before .before .before .before .before .before .before .before .before .before .before .before .before .args .output .now) (c .before .before .before .before .before .before .before .before .before .before .before .before .before .before .before .before .before .before .if1 .left) (c .before .before .before .before .before .before .before .before .before .before .before .before .before .before .before .before .before .if2 .left) (c .before .before .before .before .before .before .before .before .before .before .before .before .before .before .before .before .if3 .left) (λ v s. c .before .before .deliver .ensures .0 v s) (λ v s. c .before .before .deliver .ensures .1 v s)
 
 returns-5 : tie.Need-returns-5
 returns-5 c =

@@ -3,9 +3,6 @@ use borrow.Author.Needs.{needs}
 use Rattle.runvestol.proofs.Words.{five-words, flag}
 use Rattle.runvestol.proofs.put_answer.Statement.{statement}
 use Rattle.runvestol.proofs.put_answer.Tie as tie
-use Rattle.runvestol.proofs.put_answer.Reads as reads
-use Rattle.runvestol.proofs.put_answer.Lts as lts
-use Rattle.runvestol.proofs.put_word.Reads as put-word-reads
 
 -- src/lib.rt:28:5
 put-word-requires : tie.Need-put-word-requires
