@@ -18,8 +18,6 @@ use Rattle.number.specs.NumberRead.{number-in}
 use Rattle.json.specs.declared.reading.Cursor.{Cursor}
 use Rattle.json.specs.declared.reading.ValueRead.{ValueRead}
 use Rattle.json.specs.declared.reading.ValueRead.the-variants.{Done, Refused}
-use Rattle.json.specs.declared.space.Behind.{Behind}
-use Rattle.json.specs.declared.space.Behind.the-variants.{Next, End, Broken}
 use Rattle.json.specs.declared.name.NameRead.{NameRead}
 use Rattle.json.specs.declared.name.NameRead.the-variants as Name-is
 use Rattle.json.specs.declared.name.Colon.{Colon}
@@ -51,12 +49,6 @@ pub record Neither (doc : Bytes) (at b c place : ℕ) : Type 0 where
   pub skips : Skips doc at place
   pub first : getD doc place 256 ≡ b → ⊥
   pub second : getD doc place 256 ≡ c → ⊥
-
--- what stands behind a part that a comma or this byte must follow
-abbrev pub Behind-answer : Bytes → ℕ → ℕ → Behind → Type 0
-Behind-answer doc at closing (Next r) = Token doc at 0x2C r
-Behind-answer doc at closing (End r) = Token doc at closing r
-Behind-answer doc at closing (Broken place) = Neither doc at 0x2C closing place
 
 -- ---- the limits
 

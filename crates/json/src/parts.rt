@@ -7,8 +7,7 @@ ghost use Rattle.nodes.specs.Nodes.{head-of};
 ghost use Rattle.json.specs.JsonParts.{Placed, Bracket, code-of, closing-of, Turn-answer, Closes, Behind-ready, Goes-on};
 use crate::reading::Cursor;
 use crate::reading::ValueRead;
-use crate::space::Behind;
-use crate::space::behind_part;
+use crate::space::COMMA;
 use crate::space::peek;
 use crate::space::skip_white;
 
@@ -84,27 +83,30 @@ pub fn go_on(
     requires { ⌜ Behind-ready (now doc) (now nodes) c kind closing to written ⌝ }
     ensures gone { λ r. ⌜ Goes-on (now (doc .entry)) (now (nodes .entry)) (now (nodes .exit)) c kind closing name to written r ⌝ }
 {
-    match behind_part(doc, to.at, closing) {
-        Behind::Next { at } => {
-            let from = Cursor {
-                at,
-                begun: to.begun,
-                top: to.top,
-            };
-            Turn::More { from, written }
-        }
-        Behind::End { at } => {
-            let end = Cursor {
-                at,
-                begun: to.begun,
-                top: to.top,
-            };
-            Turn::Stop {
-                answer: close(nodes, c.begun, kind, name, end, written),
-            }
-        }
-        Behind::Broken { place } => Turn::Stop {
-            answer: ValueRead::Refused { number: 3, place },
+    let i = skip_white(doc, to.at);
+    let b = peek(doc, i);
+    if b == COMMA {
+        let from = Cursor {
+            at: i + 1,
+            begun: to.begun,
+            top: to.top,
+        };
+        return Turn::More { from, written };
+    }
+    if b == closing {
+        let end = Cursor {
+            at: i + 1,
+            begun: to.begun,
+            top: to.top,
+        };
+        return Turn::Stop {
+            answer: close(nodes, c.begun, kind, name, end, written),
+        };
+    }
+    Turn::Stop {
+        answer: ValueRead::Refused {
+            number: 3,
+            place: i,
         },
     }
 }

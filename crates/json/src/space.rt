@@ -3,7 +3,7 @@ ghost use mathlib.Core.Path.{_≡_};
 ghost use Prim.Native.Nat.{_≤_, _<_};
 ghost use lib.ListN.{length, getD};
 ghost use Rattle.definitions.specs.Bytes.{white};
-ghost use Rattle.json.specs.JsonParts.{Skips, Behind-answer};
+ghost use Rattle.json.specs.JsonParts.{Skips};
 
 pub const COMMA: usize = 0x2C;
 
@@ -39,29 +39,4 @@ pub fn skip_white(doc: &[u8], at: usize) -> usize
         i += 1;
     }
     i
-}
-
-// What stands behind a part of a list or a record.
-pub enum Behind {
-    // a comma right before a place
-    Next { at: usize },
-    // the closing bracket right before a place
-    End { at: usize },
-    Broken { place: usize },
-}
-
-// What stands behind a part that ends at `at`, where `closing` closes.
-pub fn behind_part(doc: &[u8], at: usize, closing: usize) -> Behind
-    requires { ⌜ (at ≤ length (now doc)) × (closing < 256) ⌝ }
-    ensures told { λ r. ⌜ Behind-answer (now (doc .entry)) at closing r ⌝ }
-{
-    let i = skip_white(doc, at);
-    let b = peek(doc, i);
-    if b == COMMA {
-        return Behind::Next { at: i + 1 };
-    }
-    if b == closing {
-        return Behind::End { at: i + 1 };
-    }
-    Behind::Broken { place: i }
 }

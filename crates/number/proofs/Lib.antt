@@ -2,5 +2,6 @@
 pub mod Rows
 pub mod Caps
 pub mod Reading
+pub mod DigitRuns
 pub mod Counting
 pub mod Writing

@@ -1,25 +1,25 @@
--- How the loop of `read_number` goes along the run that begins a number. Assumes nothing.
+-- How the loop of `read_on` goes along the run that begins a number. Assumes nothing.
 use Prim.Native.Nat.{ℕ, suc, _+_, _≤_, _<_}
-use native.Mathlib.Nat.{le-refl}
+use native.Mathlib.Nat.{le-refl, eq-or-lt-of-le}
+use mathlib.Core.Logic.{⊎-elim}
 use native.Mathlib.Numerals.{add-one}
 use native.Mathlib.Omega.{arith}
 use mathlib.Core.Path.{_≡_, refl, sym, ap, _∙_}
 use mathlib.Core.Bool.{Bool, true, false}
 use mathlib.Core.List.{List, [], _∷_}
-use mathlib.Core.Option.{some}
+use mathlib.Core.Option.{none, some}
 use lib.ListN.{length, getD, drop, drop-of-length-le}
 use lib.Seq.{drop-cons}
 use Rattle.definitions.specs.Bytes.{Bytes, Row, row, between, look}
-use Rattle.definitions.specs.Number.{Numeral, no-digits, Phase, begin, after-minus, after-zero, in-int, after-point, in-frac, after-e, after-sign, in-exp, next, int-rows, e-rows, extend}
+use Rattle.definitions.specs.Number.{Numeral, Phase, begin, after-minus, after-zero, in-int, after-point, in-frac, after-e, after-sign, in-exp, next, int-rows, e-rows, extend}
 use Rattle.number.specs.NumberRun.{longest}
-use Rattle.number.specs.NumberRead.{Reads-number, run-at}
+use Rattle.number.specs.NumberRead.{Reads-on}
 use Rattle.number.specs.NumberCode.{Answers, Stands-for, Takes, Digit, phase-of, step-of}
 use Rattle.number.specs.NumberLaws.{longest-on, longest-off}
 use Rattle.number.proofs.Rows.{row-bounds}
 use Rattle.number.specs.declared.NumberRead.{NumberRead}
 use Rattle.number.specs.declared.numeral.CappedNumeral.{CappedNumeral}
 use Rattle.number.specs.declared.phase.NumberPhase.{NumberPhase}
-use Rattle.number.specs.declared.phase.NumberPhase.the-variants.{Begin}
 use Rattle.number.specs.declared.phase.NumberStep.{NumberStep}
 use Rattle.number.specs.declared.phase.NumberStep.the-variants.{Stop, To}
 
@@ -69,23 +69,24 @@ takes p b {q = q} led e = fit-look (next p) (phase-of q) b (fit-next p) (sym (ap
 -- ---- the loop
 
 -- the run from a place is the run from here, with the digits in between
-pub record Reading (doc : Bytes) (at : ℕ) (phase : NumberPhase) (d : CappedNumeral) (i : ℕ) : Type 0 where
+pub record Reading (doc : Bytes) (p₀ : Phase) (n₀ : Numeral) (at : ℕ) (phase : NumberPhase) (d : CappedNumeral) (i : ℕ) : Type 0 where
   pub digits : Numeral
   pub behind : at ≤ i
   pub within : i ≤ length doc
   pub stands : Stands-for d digits
-  pub run : run-at doc at ≡ longest (phase-of phase) digits (drop i doc)
+  pub run : longest p₀ n₀ (drop at doc) ≡ longest (phase-of phase) digits (drop i doc)
 
 pub begins
-    : {doc : Bytes} {at : ℕ} {d : CappedNumeral} → at ≤ length doc → Stands-for d no-digits → Reading doc at Begin d at
-begins {at} h s = record { digits = no-digits; behind = le-refl at; within = h; stands = s; run = refl }
+    : {doc : Bytes} {at : ℕ} {p : NumberPhase} {d : CappedNumeral} {n : Numeral} → at ≤ length doc → Stands-for d n
+    → Reading doc (phase-of p) n at p d at
+begins {at} {n = n} h s = record { digits = n; behind = le-refl at; within = h; stands = s; run = refl }
 
-module _ {doc : Bytes} {at : ℕ} {p : NumberPhase} {d : CappedNumeral} {i : ℕ} (s : Reading doc at p d i) where
+module _ {doc : Bytes} {p₀ : Phase} {n₀ : Numeral} {at : ℕ} {p : NumberPhase} {d : CappedNumeral} {i : ℕ} (s : Reading doc p₀ n₀ at p d i) where
   pub goes-on
       : {t : NumberStep} {q : NumberPhase} {d′ : CappedNumeral} → i < length doc → t ≡ To q
       → step-of t ≡ look (next (phase-of p)) (getD doc i 0)
       → ((n : Numeral) → Stands-for d n → Stands-for d′ (extend (phase-of q) n (getD doc i 0)))
-      → Reading doc at q d′ (i + 1)
+      → Reading doc p₀ n₀ at q d′ (i + 1)
   goes-on {q = q} h led e f =
       record {
         digits = extend (phase-of q) (s .digits) (getD doc i 0);
@@ -102,9 +103,9 @@ module _ {doc : Bytes} {at : ℕ} {p : NumberPhase} {d : CappedNumeral} {i : ℕ
   ended
       : {r : NumberRead}
       → longest (phase-of p) (s .digits) (drop i doc) ≡ record { phase = phase-of p; digits = s .digits; rest = drop i doc }
-      → Answers (phase-of p) d i r → Reads-number doc at r
+      → Answers (phase-of p) d i r → Reads-on doc p₀ n₀ at r
   ended {r} e a =
-      let here : run-at doc at ≡ record { phase = phase-of p; digits = s .digits; rest = drop i doc } = s .run ∙ e in
+      let here : longest p₀ n₀ (drop at doc) ≡ record { phase = phase-of p; digits = s .digits; rest = drop i doc } = s .run ∙ e in
       record {
         behind = omega (arith, a .end, s .behind);
         within = omega (arith, a .end, s .within);
@@ -114,15 +115,26 @@ module _ {doc : Bytes} {at : ℕ} {p : NumberPhase} {d : CappedNumeral} {i : ℕ
         meaning = λ b. rw here (a .meaning (s .digits) (s .stands) (sym (a .over (s .digits) (s .stands)) ∙ b));
       }
 
+  -- where the byte here goes on with no number
+  pub stops-at
+      : {r : NumberRead} → i < length doc → look (next (phase-of p)) (getD doc i 0) ≡ none → Answers (phase-of p) d i r
+      → Reads-on doc p₀ n₀ at r
+  stops-at h e a =
+      ended (rw (drop-cons doc i 0 h) (longest-off (phase-of p) (s .digits) (getD doc i 0) (drop (suc i) doc) e)) a
+
   pub stops
       : {t : NumberStep} {r : NumberRead} → i < length doc → t ≡ Stop
-      → step-of t ≡ look (next (phase-of p)) (getD doc i 0) → Answers (phase-of p) d i r → Reads-number doc at r
-  stops h led e a =
-      ended
-      (rw (drop-cons doc i 0 h)
-      (longest-off (phase-of p) (s .digits) (getD doc i 0) (drop (suc i) doc) (sym e ∙ ap step-of led)))
-      a
+      → step-of t ≡ look (next (phase-of p)) (getD doc i 0) → Answers (phase-of p) d i r → Reads-on doc p₀ n₀ at r
+  stops h led e a = stops-at h (sym e ∙ ap step-of led) a
 
-  pub ends : {r : NumberRead} → length doc ≤ i → Answers (phase-of p) d i r → Reads-number doc at r
+  pub ends : {r : NumberRead} → length doc ≤ i → Answers (phase-of p) d i r → Reads-on doc p₀ n₀ at r
   unfolding longest
   ends h a = ended (rw (drop-of-length-le doc h)) a
+
+-- where a number may end and no byte goes on with it
+pub settles
+    : {doc : Bytes} {at : ℕ} (p : NumberPhase) {d : CappedNumeral} {n : Numeral} {r : NumberRead} → at ≤ length doc → Stands-for d n
+    → (at < length doc → look (next (phase-of p)) (getD doc at 0) ≡ none) → Answers (phase-of p) d at r
+    → Reads-on doc (phase-of p) n at r
+settles p h s e a =
+    ⊎-elim (λ q. ends {p = p} (begins h s) (omega (arith, q)) a) (λ l. stops-at {p = p} (begins h s) l (e l) a) (eq-or-lt-of-le h)

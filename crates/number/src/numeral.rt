@@ -2,9 +2,10 @@
 // once they are one more than a number may hold.
 ghost use mathlib.Core.Path.{_≡_};
 ghost use mathlib.Core.Bool.{_&&_, not};
-ghost use Prim.Native.Nat.{suc, _+_, _-_, _*_, min};
+ghost use Prim.Native.Nat.{ℕ, suc, _+_, _-_, _*_, min};
 ghost use lib.Dec.{eqb};
 ghost use Rattle.definitions.specs.Number.{Numeral, no-digits, extend, beyond};
+ghost use Rattle.number.specs.NumberRead.{numeral};
 ghost use Rattle.number.specs.NumberCode.{Stands-for, Takes, Digit, phase-of, past-coefficient, past-scale};
 use crate::phase::NumberPhase;
 
@@ -31,7 +32,7 @@ pub fn no_digits() -> CappedNumeral
 }
 
 // The coefficient with one more digit, or the cap.
-fn shifted_on(coefficient: u64, b: u8) -> u64
+pub fn shifted_on(coefficient: u64, b: u8) -> u64
     requires { ⌜ Digit b ⌝ }
     ensures { λ r. ⌜ r ≡ min (coefficient * 10 + (b - 48)) past-coefficient ⌝ }
 {
@@ -50,6 +51,22 @@ fn scaled_on(scale: u64) -> u64
         scale + 1
     } else {
         PAST_SCALE
+    }
+}
+
+// The numeral of so many digits behind the point, and with no exponent.
+pub fn fixed(negative: bool, coefficient: u64, digits: usize) -> CappedNumeral
+    ensures { λ r. ⌜ ((c : ℕ) → coefficient ≡ min c past-coefficient → Stands-for r (numeral negative c digits)) ⌝ }
+{
+    let mut scale = PAST_SCALE;
+    if digits < 10 {
+        scale = digits as u64;
+    }
+    CappedNumeral {
+        negative,
+        coefficient,
+        scale,
+        exponent: false,
     }
 }
 

@@ -1,9 +1,10 @@
 // The grammar of RFC 8259 section 6, number = [ minus ] int [ frac ] [ exp ], a byte at a time.
 ghost use mathlib.Core.Path.{_≡_};
+ghost use mathlib.Core.Bool.{false};
 ghost use mathlib.Core.List.{_∷_, []};
 ghost use Rattle.definitions.specs.Bytes.{look, between, span, one};
 ghost use Rattle.definitions.specs.Number.{next, e-rows, int-rows, complete, begin, in-int, after-point, in-frac, after-e};
-ghost use Rattle.number.specs.NumberCode.{phase-of, step-of};
+ghost use Rattle.number.specs.NumberCode.{Quiet, phase-of, step-of};
 
 // What has been read of a number.
 pub enum NumberPhase {
@@ -24,13 +25,29 @@ pub enum NumberStep {
     To(NumberPhase),
 }
 
-fn is_digit(b: u8) -> bool
+pub fn is_digit(b: u8) -> bool
     ensures { λ r. ⌜ r ≡ between 48 57 b ⌝ }
 {
     if b < b'0' {
         return false;
     }
     b <= b'9'
+}
+
+// Whether a byte may follow a number and belong to it.
+pub fn may_follow(b: u8) -> bool
+    ensures { λ r. ⌜ (r ≡ false → Quiet b) ⌝ }
+{
+    if b == b'.' {
+        return true;
+    }
+    if b == b'e' {
+        return true;
+    }
+    if b == b'E' {
+        return true;
+    }
+    is_digit(b)
 }
 
 // A byte where only a digit may stand.

@@ -1,13 +1,15 @@
 -- Byte order of two texts that are read from their first bytes on: where they agree before place i, their rests decide. Assumes nothing.
 use Prim.Native.Nat.{ℕ, zero, suc, _+_, _*_, _≤_, _<_, compare, Ordering, Ordering·lt, Ordering·eq, Ordering·gt, compare·zero-zero, compare·zero-suc, compare·suc-zero, compare·suc-suc}
-use mathlib.Core.Path.{_≡_, sym, ap, ap₂, _∙_}
-use mathlib.Core.List.{List}
+use mathlib.Core.Path.{_≡_, refl, sym, ap, ap₂, _∙_}
+use mathlib.Core.Bool.{Bool, true, false, false≢true}
+use mathlib.Core.List.{List, [], _∷_}
 use native.Mathlib.Nat.{not-suc-le-zero, le-of-suc-le-suc}
 use native.Mathlib.Numerals.{add-one}
 use native.Mathlib.Omega.{arith}
 use lib.ListN.{length, getD, drop, drop-of-length-le}
 use lib.Seq.{drop-cons}
-use Rattle.definitions.specs.Bytes.{Bytes, order}
+use lib.Dec.{isEq}
+use Rattle.definitions.specs.Bytes.{Bytes, order, same}
 use Rattle.pool.specs.Pool.{pool-bytes, text-in}
 use Rattle.pool.specs.PoolLaws.{length-text-in-min, getD-text-in}
 
@@ -86,3 +88,30 @@ module _
   pub texts-next
       : x ≡ y → order (drop i (text-in p w n)) (drop i (text-in p v m)) ≡ order (drop (i + 1) (text-in p w n)) (drop (i + 1) (text-in p v m))
   texts-next e = order-next (text-in p w n) (text-in p v m) i hs ht (left-byte ∙ e ∙ sym right-byte)
+
+-- ---- texts of one length
+
+head-first : (x : ℕ) (xs : Bytes) (y : ℕ) (ys : Bytes) {o : Ordering} → compare x y ≡ o → order (x ∷ xs) (y ∷ ys) ≡ by-first o (order xs ys)
+unfolding order
+head-first x xs y ys e = ap (λ (o : Ordering). by-first o (order xs ys)) e
+
+order-length : (s t : Bytes) → isEq (order s t) ≡ true → length s ≡ length t
+unfolding order
+order-length [] [] e = refl
+order-length [] (y ∷ ys) e = absurd (false≢true e)
+order-length (x ∷ xs) [] e = absurd (false≢true e)
+order-length (x ∷ xs) (y ∷ ys) e = go (compare x y) refl (order-length xs ys)
+  where
+    go : (o : Ordering) → compare x y ≡ o → (isEq (order xs ys) ≡ true → length xs ≡ length ys) → suc (length xs) ≡ suc (length ys)
+    go Ordering·lt h f = absurd (false≢true (sym (ap isEq (head-first x xs y ys h)) ∙ e))
+    go Ordering·eq h f = ap suc (f (sym (ap isEq (head-first x xs y ys h)) ∙ e))
+    go Ordering·gt h f = absurd (false≢true (sym (ap isEq (head-first x xs y ys h)) ∙ e))
+
+-- texts of different lengths differ
+pub lengths-differ : (s t : Bytes) → (length s ≡ length t → ⊥) → false ≡ same s t
+unfolding same
+lengths-differ s t h = go (isEq (order s t)) refl
+  where
+    go : (b : Bool) → isEq (order s t) ≡ b → false ≡ isEq (order s t)
+    go true e = absurd (h (order-length s t e))
+    go false e = sym e

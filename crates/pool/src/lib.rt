@@ -93,6 +93,10 @@ pub fn compare(pool: &[u64], w: usize, n: usize, v: usize, m: usize) -> Comparis
 pub fn same_text(pool: &[u64], w: usize, n: usize, v: usize, m: usize) -> bool
     ensures compared { λ r. ⌜ r ≡ same (text-in (now (pool .entry)) w n) (text-in (now (pool .entry)) v m) ⌝ }
 {
+    // most texts that differ differ in length
+    if held(pool, w, n) != held(pool, v, m) {
+        return false;
+    }
     match compare(pool, w, n, v, m) {
         Comparison::Equal => true,
         Comparison::Less => false,

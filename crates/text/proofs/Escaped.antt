@@ -13,7 +13,7 @@ use Rattle.definitions.specs.Utf8.{encode}
 use Rattle.definitions.specs.Plain.{short-escapes, escaped, escaped-all, plain-text}
 use Rattle.laws.specs.Ranges.{Hit, here, there, look-hit, le-leb, gt-leb, lt-or-le}
 use Rattle.laws.specs.StringUtf8.{encode-1, encode-2, encode-3, encode-4}
-use Rattle.laws.specs.StringWritten.{written, written-length, written-plain, escaped-high-2, escaped-high-3, escaped-high-4}
+use Rattle.laws.specs.StringWritten.{Written, as-short, as-hex, as-itself, written, written-length, written-plain, escaped-high-2, escaped-high-3, escaped-high-4}
 use Rattle.text.specs.TextParts.{short-form, hex-escape}
 use Rattle.text.proofs.Tables.{Misses, misses-look}
 
@@ -33,6 +33,15 @@ escaped-one b = append-nil (escaped b)
 
 pub escaped-snoc : (s : Bytes) (b : ℕ) → escaped-all (s ++ (b ∷ [])) ≡ escaped-all s ++ escaped b
 escaped-snoc s b = escaped-append s (b ∷ []) ∙ ap (λ (e : Bytes). escaped-all s ++ e) (escaped-one b)
+
+-- a byte that is written as it is
+pub itself : (b : ℕ) → 0x20 ≤ b → (b ≡ 0x22 → ⊥) → (b ≡ 0x5C → ⊥) → escaped b ≡ b ∷ []
+itself b l q n = go (written b)
+  where
+    go : {e : Bytes} → Written b e → e ≡ b ∷ []
+    go (as-short x f) = absurd (f l q n)
+    go (as-hex m) = absurd (let z : ⊥ = omega arith in z)
+    go (as-itself m p o) = refl
 
 -- a byte from 80 on, or of ASCII that stands for itself, is written as one
 pub one-plain : (b : ℕ) → 0x20 ≤ b → (b ≡ 0x22 → ⊥) → (b ≡ 0x5C → ⊥) → length (escaped b) ≡ 1

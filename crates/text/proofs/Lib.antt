@@ -7,3 +7,4 @@ pub mod Characters
 pub mod Puts
 pub mod Reading
 pub mod Writing
+pub mod Words

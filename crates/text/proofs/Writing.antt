@@ -16,7 +16,7 @@ use Rattle.text.proofs.Escaped.{escaped-append, escaped-none, escaped-s
 
 -- ---- the bytes of a text
 
-escaped-part : (k : ℕ) (t : Bytes) → length (escaped-all (take k t)) ≤ length (escaped-all t)
+pub escaped-part : (k : ℕ) (t : Bytes) → length (escaped-all (take k t)) ≤ length (escaped-all t)
 escaped-part k t =
     omega (
       arith,

@@ -1,5 +1,7 @@
 // A byte of a text as plain JSON has it: itself, or an escape.
 ghost use mathlib.Core.Path.{_≡_};
+ghost use mathlib.Core.Bool.{true};
+ghost use mathlib.Core.List.{[], _∷_};
 ghost use Prim.Native.Nat.{_+_, _≤_, _<_};
 ghost use lib.ListN.{length};
 ghost use Rattle.definitions.specs.Plain.{hex-digit, escaped};
@@ -70,8 +72,21 @@ fn write_hex(out: &mut [u8], at: usize, b: u8) -> usize
     at + 6
 }
 
-// Writes b as plain JSON has it, and answers the place behind it.
-pub fn write_byte(out: &mut [u8], at: usize, b: u8) -> usize
+// Whether b is written as it is.
+fn is_itself(b: u8) -> bool
+    ensures told { λ r. ⌜ (r ≡ true → escaped b ≡ b ∷ []) ⌝ }
+{
+    if b < 0x20 {
+        return false;
+    }
+    if b == 0x22 {
+        return false;
+    }
+    b != 0x5C
+}
+
+// Writes b by its escape, or as it is.
+fn write_escape(out: &mut [u8], at: usize, b: u8) -> usize
     requires { ⌜ at + length (escaped b) ≤ length (now out) ⌝ }
     ensures written { λ r. ⌜ Writes (now (out .entry)) (now (out .exit)) at (escaped b) r ⌝ }
 {
@@ -86,4 +101,16 @@ pub fn write_byte(out: &mut [u8], at: usize, b: u8) -> usize
     }
     out[at] = b;
     at + 1
+}
+
+// Writes b as plain JSON has it, and answers the place behind it.
+pub fn write_byte(out: &mut [u8], at: usize, b: u8) -> usize
+    requires { ⌜ at + length (escaped b) ≤ length (now out) ⌝ }
+    ensures written { λ r. ⌜ Writes (now (out .entry)) (now (out .exit)) at (escaped b) r ⌝ }
+{
+    if is_itself(b) {
+        out[at] = b;
+        return at + 1;
+    }
+    write_escape(out, at, b)
 }

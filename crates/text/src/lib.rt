@@ -1,9 +1,9 @@
 // JSON texts (RFC 8259 section 7): read from a document, decoded into the pool, and written from the pool as plain JSON.
 ghost use mathlib.Core.Path.{_≡_};
-ghost use Prim.Native.Nat.{_+_, _-_, _^_, _≤_, _<_};
-ghost use lib.ListN.{length};
-ghost use Rattle.definitions.specs.Plain.{plain-text};
-ghost use Rattle.pool.specs.Pool.{words, text-in};
+ghost use Prim.Native.Nat.{_+_, _-_, _^_, _≤_, _<_, min};
+ghost use lib.ListN.{length, take};
+ghost use Rattle.definitions.specs.Plain.{escaped-all, plain-text};
+ghost use Rattle.pool.specs.Pool.{unpacked, words, text-in};
 ghost use Rattle.text.specs.TextRead.{Reads-text};
 ghost use Rattle.text.specs.Writes.{Writes};
 
@@ -80,6 +80,29 @@ pub fn text_length(pool: &[u64], w: usize, n: usize) -> usize
     written
 }
 
+// At most eight.
+fn eight_of(n: usize) -> usize
+    ensures chosen { λ r. ⌜ r ≡ min 8 n ⌝ }
+{
+    if n < 8 { n } else { 8 }
+}
+
+// Writes the first n bytes of a word as plain JSON has them, and answers the place behind them.
+fn write_word(out: &mut [u8], at: usize, word: u64, n: usize) -> usize
+    requires { ⌜ (n ≤ 8) × (at + length (escaped-all (take n (unpacked word))) ≤ length (now out)) ⌝ }
+    ensures written { λ r. ⌜ Writes (now (out .entry)) (now (out .exit)) at (escaped-all (take n (unpacked word))) r ⌝ }
+{
+    let mut x = word;
+    let mut j = at;
+    let mut i: usize = 0;
+    while i < n {
+        j = escape::write_byte(out, j, (x >> 56) as u8);
+        x = x << 8;
+        i += 1;
+    }
+    j
+}
+
 // Writes a text of the pool as plain JSON, and answers the place behind it.
 pub fn write_text(out: &mut [u8], at: usize, pool: &[u64], w: usize, n: usize) -> usize
     requires { ⌜ (w + words n ≤ length (now pool)) × (at + length (plain-text (text-in (now pool) w n)) ≤ length (now out)) ⌝ }
@@ -87,10 +110,10 @@ pub fn write_text(out: &mut [u8], at: usize, pool: &[u64], w: usize, n: usize) -
 {
     out[at] = b'"';
     let mut j = at + 1;
-    let mut i: usize = 0;
-    while i < n {
-        j = escape::write_byte(out, j, pool::byte_at(pool, 8 * w + i));
-        i += 1;
+    let mut k: usize = 0;
+    while 8 * k < n {
+        j = write_word(out, j, pool[w + k], eight_of(n - 8 * k));
+        k += 1;
     }
     out[j] = b'"';
     j + 1

@@ -1,73 +1,61 @@
--- `number::read_number` meets its contract. The loop's invariant is `Reading`: the run from `at` is the run from here.
--- Assumes nothing.
-use Prim.Native.Nat.{_-_}
+-- `number::read_number` meets its contract: behind a minus or not, a zero, digits, or neither. Assumes nothing.
 use native.Mathlib.Omega.{arith}
 use borrow.Author.Needs.{needs}
-use lib.ListN.{length}
-use Rattle.definitions.specs.Number.{next}
-use Rattle.number.proofs.Reading.{Reading, begins, goes-on, stops, ends, takes}
+use Rattle.number.specs.NumberCode.{opening-of}
+use Rattle.number.proofs.DigitRuns.{opens, behind-place, reads-zero, reads-int, reads-signed, reads-number}
 use Rattle.number.proofs.read_number.Statement.{statement}
 use Rattle.number.proofs.read_number.Tie as tie
 
-abbrev Inv-loop : tie.InvT-loop
-Inv-loop doc at phase₀ d₀ i₀ phase d i = Reading doc at phase d i
+add-read-fraction : tie.Need-add-read-fraction
+add-read-fraction c = omega (arith, c .before .stands-at2 .ensures .inside (c .if1 .taken))
 
-abbrev μ-loop : tie.MeasureT-loop
-μ-loop doc at phase₀ d₀ i₀ phase d i = length doc - i
+read-fraction-requires : tie.Need-read-fraction-requires
+read-fraction-requires c κs = (omega (arith, c .before .stands-at2 .ensures .inside (c .if1 .taken)), tt)
 
-loop-holds : tie.Need-loop-holds Inv-loop μ-loop
-loop-holds c = begins (c .before .before .pre) (c .no-digits .ensures)
-
-shared-slice-read-b : tie.Need-shared-slice-read-b Inv-loop μ-loop
-shared-slice-read-b c = omega arith
-
-returns : tie.Need-returns Inv-loop μ-loop
+returns : tie.Need-returns
 returns c =
-    let at-step = c .before .before .before in
-    let in-loop = at-step .before .before in
-    stops (in-loop .before .loop .inv) (in-loop .loop-test .taken)
-    (c .before .enum-told .given .1)
-    (at-step .step .ensures)
-    (c .answer .ensures)
+    let zero = c .before in
+    let start = zero .before .before in
+    let sign = start .before .stands-at in
+    let first = zero .before .stands-at2 .ensures in
+    reads-signed (sign .ensures) (start .behind-minus .ensures)
+    (reads-zero (opening-of (sign .result)) (opens (sign .result)) (first .inside (zero .if1 .taken)) (first .here (zero .if1 .taken))
+    (c .read-fraction .ensures 0 (omega arith)))
 
-extended-requires : tie.Need-extended-requires Inv-loop μ-loop
-extended-requires c κs = takes _ _ (c .before .next .given .1) (c .before .before .before .step .ensures)
+read-digits-requires : tie.Need-read-digits-requires
+read-digits-requires c κs =
+    let start = c .before .before in
+    let sign = start .before .stands-at in
+    let entry = start .before .before .before in
+    omega (arith, behind-place (entry .args .doc .now) (entry .args .at) (sign .result) (entry .pre) (sign .ensures), start .behind-minus .ensures)
 
-add-i : tie.Need-add-i Inv-loop μ-loop
-add-i c = omega arith
+returns-2 : tie.Need-returns-2
+returns-2 c = reads-number (c .read-on .ensures _ (c .before .no-digits .ensures))
 
-loop-less : tie.Need-loop-less Inv-loop μ-loop
-loop-less c = omega arith
-
-loop-again : tie.Need-loop-again Inv-loop μ-loop
-loop-again c =
-    let at-step = c .before .before .before .before in
-    let in-loop = at-step .before .before in
-    goes-on (in-loop .before .loop .inv) (in-loop .loop-test .taken)
-    (c .before .before .next .given .1)
-    (at-step .step .ensures)
-    (c .extended .ensures)
-
-returns-2 : tie.Need-returns-2 Inv-loop μ-loop
-returns-2 c = ends (c .before .before .loop .inv) (c .before .loop-test .left) (c .answer2 .ensures)
+returns-3 : tie.Need-returns-3
+returns-3 c =
+    let other = c .before .before .before in
+    let start = other .before .before in
+    let sign = start .before .stands-at in
+    let run = c .before .before .read-digits .ensures in
+    reads-signed (sign .ensures) (start .behind-minus .ensures)
+    (reads-int (opening-of (sign .result)) (opens (sign .result)) (other .before .stands-at2 .ensures .other (other .if1 .left)) run
+    (c .before .if2 .left)
+    (c .read-fraction2 .ensures (run .full 0) (run .capped 0 (omega arith))))
 
 pub read-number-spec : {M : Type 1} → statement M
 read-number-spec =
     tie.close
     (tie.spec
-    Inv-loop
-    μ-loop
     (λ c κs. search needs)
-    loop-holds
-    shared-slice-read-b
     (λ c κs. search needs)
-    (λ c. search needs)
     (λ c κs. search needs)
+    add-read-fraction
+    read-fraction-requires
     returns
-    (λ c. search needs)
-    extended-requires
-    add-i
-    loop-less
-    loop-again
+    read-digits-requires
     (λ c κs. search needs)
-    returns-2)
+    (λ c κs. search needs)
+    returns-2
+    (λ c κs. search needs)
+    returns-3)
