@@ -1,21 +1,22 @@
 -- Laws of the shape table, in the order of its definitions. Assumes nothing.
-use Prim.Native.Nat.{ℕ, zero, suc, _+_, _-_, _*_, _/_, _%_, _^_, _≤_, _<_}
+use Prim.Native.Nat.{ℕ, _+_, _*_, _/_, _%_, _^_, _≤_, _<_}
 use mathlib.Core.Path.{_≡_, refl, sym, ap, ap₂, _∙_}
 use mathlib.Core.Bool.{Bool, true, false, not, _||_}
-use mathlib.Core.List.{List, [], _∷_, _++_, append-assoc}
+use mathlib.Core.List.{List, _++_, append-assoc}
 use native.Mathlib.Nat.{add-zero, mul-comm}
 use borrow.Author.Tests.{eq-eqb, ne-eqb}
 use native.Mathlib.Omega.{arith}
-use lib.Bits.{bitAnd, bitOr, and-block, and-mask, and-zero-r}
+use lib.Bits.{bitAnd, bitOr, and-block, or-block, and-mask, and-zero-r}
 use lib.Dec.{eqb}
 use lib.Pow.{pow-pos}
-use lib.ListN.{length, take, drop, getD, length-append, length-drop}
+use lib.ListN.{length, drop, getD, length-append, length-drop}
 use lib.Seq.{drop-at, drop-append-seam, drop-drop, getD-drop}
 use Rattle.definitions.specs.Bytes.{Bytes}
 use Rattle.definitions.specs.Shape.{Kind, Numeric, no-number, int-only, int-and-dec, Shape, shape, Element, no-list, list-of, Record, no-rec, rec-of, Fields, no-fields, field, has, has-int, has-dec, has-list, has-rec, forms, forms-element, forms-record, forms-fields}
+use Rattle.definitions.specs.Join.{join-numeric, join, join-element, join-record}
 use Rattle.nodes.specs.Nodes.{Refers}
 use Rattle.nodes.specs.NodesLaws.{refers-grow}
-use Rattle.shapes.specs.Shapes.{kind-bit, bit, numeric-bits, kind-bits, has-bit, head-of, head-word, Shape-rows, shape-rows, Element-rows, no-element-rows, element-rows, Record-rows, no-record-rows, record-rows, Field-rows, no-field-rows, field-rows, Stands, Fields-stand, size-at, members-at}
+use Rattle.shapes.specs.Shapes.{kind-bit, bit, numeric-bits, kind-bits, has-bit, head-word, Shape-rows, shape-rows, Element-rows, no-element-rows, element-rows, Record-rows, no-record-rows, record-rows, Field-rows, no-field-rows, field-rows, Stands, Fields-stand, size-at, members-at}
 
 -- ---- the kinds of a shape
 
@@ -164,6 +165,115 @@ pub kind-bits-lt : (s : Shape) → kind-bits s < 128
 unfolding kind-bits
 kind-bits-lt (shape n b m t e r) =
     omega (arith, bit-le n, bit-le b, numeric-bits-le m, bit-le t, bit-le (has-list e), bit-le (has-rec r))
+
+-- ---- kinds united
+
+-- bits from place k on united apart from those before
+or-split
+    : (k r s a b : ℕ) {c d : ℕ} → r < 2 ^ k → s < 2 ^ k → bitOr r s ≡ c → bitOr a b ≡ d
+    → bitOr (r + 2 ^ k * a) (s + 2 ^ k * b) ≡ c + 2 ^ k * d
+or-split k r s a b {d} h l e f =
+    ap₂
+    (λ (x y : ℕ). bitOr x y)
+    (let g : r + 2 ^ k * a ≡ a * 2 ^ k + r = omega (arith, mul-comm a (2 ^ k)) in g)
+    (let g : s + 2 ^ k * b ≡ b * 2 ^ k + s = omega (arith, mul-comm b (2 ^ k)) in g)
+    ∙ or-block k a b r s h l
+    ∙ ap₂ (λ (x y : ℕ). x * 2 ^ k + y) f e
+    ∙ omega (arith, mul-comm d (2 ^ k))
+
+or-bit : (a b : Bool) → bitOr (bit a) (bit b) ≡ bit (a || b)
+unfolding bit
+or-bit true true = refl
+or-bit true false = refl
+or-bit false true = refl
+or-bit false false = refl
+
+or-numeric : (m k : Numeric) → bitOr (numeric-bits m) (numeric-bits k) ≡ numeric-bits (join-numeric m k)
+unfolding numeric-bits join-numeric
+or-numeric no-number no-number = refl
+or-numeric no-number int-only = refl
+or-numeric no-number int-and-dec = refl
+or-numeric int-only no-number = refl
+or-numeric int-only int-only = refl
+or-numeric int-only int-and-dec = refl
+or-numeric int-and-dec no-number = refl
+or-numeric int-and-dec int-only = refl
+or-numeric int-and-dec int-and-dec = refl
+
+or-list : (e f : Element) → bitOr (bit (has-list e)) (bit (has-list f)) ≡ bit (has-list (join-element e f))
+unfolding bit has-list join
+or-list no-list no-list = refl
+or-list no-list (list-of b) = refl
+or-list (list-of a) no-list = refl
+or-list (list-of a) (list-of b) = refl
+
+or-rec : (r q : Record) → bitOr (bit (has-rec r)) (bit (has-rec q)) ≡ bit (has-rec (join-record r q))
+unfolding bit has-rec join
+or-rec no-rec no-rec = refl
+or-rec no-rec (rec-of gs) = refl
+or-rec (rec-of fs) no-rec = refl
+or-rec (rec-of fs) (rec-of gs) = refl
+
+pub union-bits : (s t : Shape) → bitOr (kind-bits s) (kind-bits t) ≡ kind-bits (join s t)
+unfolding kind-bits join
+union-bits (shape n b m t e r) (shape n′ b′ m′ t′ e′ r′) =
+    let h : bit n ≤ 1 = bit-le n in
+    let h′ : bit n′ ≤ 1 = bit-le n′ in
+    let i : bit b ≤ 1 = bit-le b in
+    let i′ : bit b′ ≤ 1 = bit-le b′ in
+    let j : numeric-bits m ≤ 3 = numeric-bits-le m in
+    let j′ : numeric-bits m′ ≤ 3 = numeric-bits-le m′ in
+    let l : bit t ≤ 1 = bit-le t in
+    let l′ : bit t′ ≤ 1 = bit-le t′ in
+    let k : bit (has-list e) ≤ 1 = bit-le (has-list e) in
+    let k′ : bit (has-list e′) ≤ 1 = bit-le (has-list e′) in
+    let two = or-split 1 (bit n) (bit n′) (bit b) (bit b′) (omega arith) (omega arith) (or-bit n n′) (or-bit b b′) in
+    let four =
+      or-split
+      2
+      (bit n + 2 * bit b)
+      (bit n′ + 2 * bit b′)
+      (numeric-bits m)
+      (numeric-bits m′)
+      (omega arith)
+      (omega arith)
+      two
+      (or-numeric m m′)
+    in
+    let five =
+      or-split
+      4
+      (bit n + 2 * bit b + 4 * numeric-bits m)
+      (bit n′ + 2 * bit b′ + 4 * numeric-bits m′)
+      (bit t)
+      (bit t′)
+      (omega arith)
+      (omega arith)
+      four
+      (or-bit t t′)
+    in
+    let six =
+      or-split
+      5
+      (bit n + 2 * bit b + 4 * numeric-bits m + 16 * bit t)
+      (bit n′ + 2 * bit b′ + 4 * numeric-bits m′ + 16 * bit t′)
+      (bit (has-list e))
+      (bit (has-list e′))
+      (omega arith)
+      (omega arith)
+      five
+      (or-list e e′)
+    in
+    or-split
+    6
+    (bit n + 2 * bit b + 4 * numeric-bits m + 16 * bit t + 32 * bit (has-list e))
+    (bit n′ + 2 * bit b′ + 4 * numeric-bits m′ + 16 * bit t′ + 32 * bit (has-list e′))
+    (bit (has-rec r))
+    (bit (has-rec r′))
+    (omega arith)
+    (omega arith)
+    six
+    (or-rec r r′)
 
 -- ---- the first word
 
