@@ -9,13 +9,15 @@ use native.Mathlib.Omega.{arith}
 use lib.Bits.{bitAnd, bitOr, and-block, or-block, and-mask, and-zero-r}
 use lib.Dec.{eqb}
 use lib.Pow.{pow-pos}
-use lib.ListN.{length, drop, getD, length-append, length-drop}
-use lib.Seq.{drop-at, drop-append-seam, drop-drop, getD-drop}
+use lib.ListN.{length, take, drop, getD, length-append, length-drop}
+use lib.Seq.{take-length, drop-at, drop-append-seam, drop-drop, getD-drop}
 use Rattle.definitions.specs.Bytes.{Bytes}
 use Rattle.definitions.specs.Shape.{Kind, Numeric, no-number, int-only, int-and-dec, Shape, shape, Element, no-list, list-of, Record, no-rec, rec-of, Fields, no-fields, field, has, has-int, has-dec, has-list, has-rec, forms, forms-element, forms-record, forms-fields}
 use Rattle.definitions.specs.Join.{join-numeric, join, join-element, join-record}
-use Rattle.nodes.specs.Nodes.{Refers}
-use Rattle.nodes.specs.NodesLaws.{refers-grow}
+use Rattle.pool.specs.Pool.{text-in}
+use Rattle.pool.specs.PoolLaws.{text-in-front}
+use Rattle.nodes.specs.Nodes.{Refers, refers}
+use Rattle.nodes.specs.NodesLaws.{reference-word, reference-bytes, refers-grow}
 use Rattle.shapes.specs.Shapes.{kind-bit, bit, numeric-bits, kind-bits, has-bit, head-word, Shape-rows, shape-rows, Element-rows, no-element-rows, element-rows, Record-rows, no-record-rows, record-rows, Field-rows, no-field-rows, field-rows, Stands, Fields-stand, size-at, members-at}
 
 -- ---- the kinds of a shape
@@ -229,40 +231,40 @@ union-bits (shape n b m t e r) (shape n′ b′ m′ t′ e′ r′) =
     let k′ : bit (has-list e′) ≤ 1 = bit-le (has-list e′) in
     let two = or-split 1 (bit n) (bit n′) (bit b) (bit b′) (omega arith) (omega arith) (or-bit n n′) (or-bit b b′) in
     let four =
-      or-split
-      2
-      (bit n + 2 * bit b)
-      (bit n′ + 2 * bit b′)
-      (numeric-bits m)
-      (numeric-bits m′)
-      (omega arith)
-      (omega arith)
-      two
-      (or-numeric m m′)
+    or-split
+    2
+    (bit n + 2 * bit b)
+    (bit n′ + 2 * bit b′)
+    (numeric-bits m)
+    (numeric-bits m′)
+    (omega arith)
+    (omega arith)
+    two
+    (or-numeric m m′)
     in
     let five =
-      or-split
-      4
-      (bit n + 2 * bit b + 4 * numeric-bits m)
-      (bit n′ + 2 * bit b′ + 4 * numeric-bits m′)
-      (bit t)
-      (bit t′)
-      (omega arith)
-      (omega arith)
-      four
-      (or-bit t t′)
+    or-split
+    4
+    (bit n + 2 * bit b + 4 * numeric-bits m)
+    (bit n′ + 2 * bit b′ + 4 * numeric-bits m′)
+    (bit t)
+    (bit t′)
+    (omega arith)
+    (omega arith)
+    four
+    (or-bit t t′)
     in
     let six =
-      or-split
-      5
-      (bit n + 2 * bit b + 4 * numeric-bits m + 16 * bit t)
-      (bit n′ + 2 * bit b′ + 4 * numeric-bits m′ + 16 * bit t′)
-      (bit (has-list e))
-      (bit (has-list e′))
-      (omega arith)
-      (omega arith)
-      five
-      (or-list e e′)
+    or-split
+    5
+    (bit n + 2 * bit b + 4 * numeric-bits m + 16 * bit t)
+    (bit n′ + 2 * bit b′ + 4 * numeric-bits m′ + 16 * bit t′)
+    (bit (has-list e))
+    (bit (has-list e′))
+    (omega arith)
+    (omega arith)
+    five
+    (or-list e e′)
     in
     or-split
     6
@@ -284,6 +286,18 @@ head-kinds s = omega (arith, kind-bits-lt s)
 pub head-size : (s : Shape) → head-word s / 128 ≡ 2 * forms s
 unfolding head-word
 head-size s = omega (arith, kind-bits-lt s)
+
+-- ---- a name in a pool
+
+-- where p is the used part of the pool, the name word k stands for the text t
+pub name-text
+    : (pool : List ℕ) {p : List ℕ} {t : Bytes} {k : ℕ} → take (length p) pool ≡ p → length p < 65536 → Refers p t k
+    → text-in pool (k % 65536) (k / 65536) ≡ t
+name-text pool {p} {t} front small (refers w room e) =
+    let h : w < 65536 = omega arith in
+    ap₂ (text-in pool) (reference-word w (length t) h) (reference-bytes w (length t) h)
+    ∙ text-in-front p pool (length p) w (length t) (front ∙ sym (take-length p)) room
+    ∙ e
 
 -- ---- a pool that grows
 
@@ -364,7 +378,7 @@ getD-row t row i e = sym (getD-drop row t i 0) ∙ ap (λ (l : List ℕ). getD l
 drop-row : (t : List ℕ) (row i : ℕ) {xs : List ℕ} → drop row t ≡ xs → drop (row + i) t ≡ drop i xs
 drop-row t row i e = sym (drop-drop i row t) ∙ ap (λ (l : List ℕ). drop i l) e
 
-forms-some : (s : Shape) → 0 < forms s
+pub forms-some : (s : Shape) → 0 < forms s
 unfolding forms
 forms-some (shape n b m t e r) = omega arith
 

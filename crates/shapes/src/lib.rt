@@ -1,9 +1,12 @@
 // The table of a shape: two words a form, in preorder. The functions that read it are total: past its end stands 0.
 ghost use mathlib.Core.Path.{_≡_};
-ghost use mathlib.Core.List.{_++_, _∷_};
-ghost use Prim.Native.Nat.{_+_, _%_, _^_, _≤_, _<_};
+ghost use mathlib.Core.List.{List, _++_, _∷_};
+ghost use Prim.Native.Nat.{ℕ, _+_, _%_, _^_, _≤_, _<_};
 ghost use lib.ListN.{length, getD, take, drop};
+ghost use Rattle.definitions.specs.Shape.{Fields};
+ghost use Rattle.pool.specs.Pool.{text-in};
 ghost use Rattle.shapes.specs.Shapes.{has-bit, head-of, size-at, members-at};
+ghost use Rattle.shapes.specs.Members.{Listed, Some-listed, Tells};
 
 // The kinds of a shape, a set that is the sum of the kinds' bits.
 pub struct Shape {
@@ -98,4 +101,33 @@ pub fn put_row(shapes: &mut [u64], row: usize, kinds: u64, size: usize, name: u6
 {
     shapes[row] = kinds + 128 * (size as u64);
     shapes[row + 1] = name;
+}
+
+// Whether there is a member, and at which row.
+pub enum Member {
+    Found { row: usize },
+    Missing,
+}
+
+// The member of the name of n bytes at word w, among those that stand from one row up to another.
+pub fn find_member(
+    shapes: &[u64],
+    from: usize,
+    end: usize,
+    pool: &[u64],
+    w: usize,
+    n: usize,
+) -> Member
+    requires { ⌜ Some-listed (now shapes) (now pool) from end ⌝ }
+    ensures told { λ r. ⌜ ((p : List ℕ) (fs : Fields) → Listed (now (shapes .entry)) (now (pool .entry)) from end p fs → Tells (now (shapes .entry)) p end (text-in (now (pool .entry)) w n) fs r) ⌝ }
+{
+    let mut row = from;
+    while row < end {
+        let k = name(shapes, row);
+        if pool::same_text(pool, w, n, nodes::text_word(k), nodes::text_bytes(k)) {
+            return Member::Found { row };
+        }
+        row += size(shapes, row);
+    }
+    Member::Missing
 }
