@@ -464,7 +464,7 @@ fields-left {row} {end} h l = begin-with (h .encoded) (h .reaches)
 -- where members begin and are left, the first one stands under its name and the others behind it
 record Parts (t p : List ℕ) (row end : ℕ) (n : Bytes) (s : Shape) (fs : Fields) : Type 0 where
   name : ℕ
-  refers : Refers p n name
+  named : Refers p n name
   first : Stands t p row name s
   others : Fields-stand t p (row + size-at t row) end fs
 
@@ -478,7 +478,7 @@ fields-placed t row end {p} rest (field-rows {k} {s} {fs} {rs} {qs} f is js) e l
     let h : Stands t p row k s = record { rows = rs; rest = qs ++ rest; encoded = is; placed = e ∙ append-assoc rs qs rest } in
     record {
       name = k;
-      refers = f;
+      named = f;
       first = h;
       others =
           record {
@@ -497,7 +497,7 @@ module _ {t p : List ℕ} {row end : ℕ} {n : Bytes} {s : Shape} {fs : Fields} 
   parts h = fields-placed t row end (h .rest) (h .encoded) (h .placed) (h .reaches)
 
   pub fields-first : Fields-stand t p row end (field n s fs) → (k : ℕ) × Refers p n k × Stands t p row k s
-  fields-first h = (parts h .name, parts h .refers, parts h .first)
+  fields-first h = (parts h .name, parts h .named, parts h .first)
 
   pub fields-rest : Fields-stand t p row end (field n s fs) → Fields-stand t p (row + size-at t row) end fs
   fields-rest h = parts h .others
