@@ -1,0 +1,142 @@
+-- The search for a member, row by row. Assumes nothing.
+use Prim.Native.Nat.{ℕ, _+_, _/_, _%_, _≤_, _<_}
+use mathlib.Core.Path.{_≡_, refl, sym, ap, ap₂, _∙_, subst}
+use mathlib.Core.Bool.{Bool, true, false}
+use mathlib.Core.List.{List}
+use mathlib.Core.Option.{none}
+use native.Mathlib.Omega.{arith}
+use lib.ListN.{getD}
+use Rattle.definitions.specs.Bytes.{Bytes, same}
+use Rattle.definitions.specs.Shape.{Shape, Fields, no-fields, field, find}
+use Rattle.laws.specs.Fields.{find-here, find-there, find-none}
+use Rattle.pool.specs.Pool.{text-in}
+use Rattle.shapes.specs.Shapes.{size-at}
+use Rattle.shapes.specs.ShapesLaws.{name-text, forms-some, stands-size, stands-name, Some-fields, some-fields, fields-left, fields-some, fields-first, fields-rest, fields-end}
+use Rattle.shapes.specs.Members.{Listed, Some-listed, Found-at}
+
+-- what is left to search at a row: the name of n bytes at word w is none of those before
+pub record Left (shapes pool : List ℕ) (end w n : ℕ) (p : List ℕ) (fs : Fields) (row : ℕ) : Type 0 where
+  pub others : Fields
+  pub listed : Listed shapes pool row end p others
+  pub alike : find (text-in pool w n) fs ≡ find (text-in pool w n) others
+
+pub record Searching (shapes pool : List ℕ) (from end w n row : ℕ) : Type 0 where
+  pub left : (p : List ℕ) (fs : Fields) → Listed shapes pool from end p fs → Left shapes pool end w n p fs row
+
+-- the answer to whether the shape at a row has the name t
+pub record Asked (shapes pool : List ℕ) (row : ℕ) (t : Bytes) (b : Bool) : Type 0 where
+  pub told : b ≡ same t (text-in pool (getD shapes (row + 1) 0 % 65536) (getD shapes (row + 1) 0 / 65536))
+
+pub asked
+    : {shapes pool : List ℕ} {row : ℕ} {t : Bytes} {x y z : ℕ} {b : Bool} → x ≡ getD shapes (row + 1) 0 → y ≡ x % 65536
+    → z ≡ x / 65536
+    → b ≡ same t (text-in pool y z)
+    → Asked shapes pool row t b
+asked {pool} {t} e f g h =
+    record {
+      told =
+          h
+          ∙ ap₂ (λ (i j : ℕ). same t (text-in pool i j)) f g
+          ∙ ap (λ (i : ℕ). same t (text-in pool (i % 65536) (i / 65536))) e;
+    }
+
+-- ---- one member
+
+module _ {shapes pool p : List ℕ} {row end : ℕ} where
+  asked-first
+      : {m : Bytes} {s : Shape} {fs : Fields} (t : Bytes) {b : Bool} → Listed shapes pool row end p (field m s fs)
+      → Asked shapes pool row t b
+      → same t m ≡ b
+  asked-first t l a =
+      let f = fields-first (l .stand) in
+      sym
+      (a .told
+      ∙ ap (λ (y : ℕ). same t (text-in pool (y % 65536) (y / 65536))) (stands-name (f .2))
+      ∙ ap (λ (u : Bytes). same t u) (name-text pool (l .front) (l .small) (f .1)))
+
+  step-by
+      : {fs : Fields} → Listed shapes pool row end p fs → Some-fields fs
+      → (2 ≤ size-at shapes row) × (row + size-at shapes row ≤ end)
+  step-by l (some-fields {s}) =
+      (omega (arith, forms-some s, stands-size (fields-first (l .stand) .2)), omega (arith, fields-end (fields-rest (l .stand))))
+
+  found-by
+      : {fs : Fields} (t : Bytes) → Listed shapes pool row end p fs → Some-fields fs → Asked shapes pool row t true
+      → Found-at shapes p end t fs row
+  found-by t l (some-fields {n = m} {s} {fs}) a =
+      let f = fields-first (l .stand) in
+      record {
+        name = f .0;
+        shape = s;
+        found = find-here t m s fs (asked-first t l a);
+        stands = f .2;
+        before = fields-some (l .stand);
+      }
+
+  next-by
+      : {fs : Fields} (w n : ℕ) → Listed shapes pool row end p fs → Some-fields fs → Asked shapes pool row (text-in pool w n) false
+      → Left shapes pool end w n p fs (row + size-at shapes row)
+  next-by w n l (some-fields {n = m} {s} {fs}) a =
+      record {
+        others = fs;
+        listed = record { stand = fields-rest (l .stand); front = l .front; small = l .small };
+        alike = find-there (text-in pool w n) m s fs (asked-first (text-in pool w n) l a);
+      }
+
+  none-by : {fs : Fields} (t : Bytes) → Listed shapes pool row end p fs → end ≤ row → find t fs ≡ none
+  none-by {fs = no-fields} t l h = find-none t
+  none-by {fs = field m s fs} t l h = absurd (let z : ⊥ = omega (arith, fields-some (l .stand)) in z)
+
+-- ---- the search
+
+module _ {shapes pool : List ℕ} {from end w n : ℕ} where
+  pub searching : Searching shapes pool from end w n from
+  searching = record { left = λ p fs l. record { others = fs; listed = l; alike = refl } }
+
+  module _ {row : ℕ} where
+    pub step-sizes
+        : Some-listed shapes pool from end → Searching shapes pool from end w n row → row < end
+        → (2 ≤ size-at shapes row) × (row + size-at shapes row ≤ end)
+    step-sizes k v h =
+        let l = v .left (k .used) (k .fields) (k .listed) .listed in step-by l (fields-left (l .stand) h)
+
+    pub found-here
+        : Searching shapes pool from end w n row → row < end → {b : Bool} → Asked shapes pool row (text-in pool w n) b → b ≡ true
+        → (p : List ℕ) (fs : Fields)
+        → Listed shapes pool from end p fs
+        → Found-at shapes p end (text-in pool w n) fs row
+    found-here v h a e p fs r =
+        let here = v .left p fs r in
+        let at =
+        found-by (text-in pool w n) (here .listed) (fields-left (here .listed .stand) h) (record { told = sym e ∙ a .told })
+        in
+        record {
+          name = at .name;
+          shape = at .shape;
+          found = here .alike ∙ at .found;
+          stands = at .stands;
+          before = at .before;
+        }
+
+    pub searched-on
+        : Searching shapes pool from end w n row → row < end → {b : Bool} → Asked shapes pool row (text-in pool w n) b → b ≡ false
+        → {size : ℕ}
+        → size ≡ size-at shapes row
+        → Searching shapes pool from end w n (row + size)
+    searched-on v h a e f =
+        subst
+        (λ (i : ℕ). Searching shapes pool from end w n (row + i))
+        (sym f)
+        (record {
+          left = λ p fs r.
+              let here = v .left p fs r in
+              let next =
+              next-by w n (here .listed) (fields-left (here .listed .stand) h) (record { told = sym e ∙ a .told })
+              in
+              record { others = next .others; listed = next .listed; alike = here .alike ∙ next .alike };
+        })
+
+    pub not-found
+        : Searching shapes pool from end w n row → end ≤ row → (p : List ℕ) (fs : Fields) → Listed shapes pool from end p fs
+        → find (text-in pool w n) fs ≡ none
+    not-found v h p fs r = let here = v .left p fs r in here .alike ∙ none-by (text-in pool w n) (here .listed) h

@@ -1,0 +1,64 @@
+-- `shapes::find_member` meets its contract. The loop's invariant is `Searching`: the name is none of those before. Assumes nothing.
+use borrow.Author.Needs.{needs}
+use Prim.Native.Nat.{_-_}
+use native.Mathlib.Omega.{arith}
+use Rattle.shapes.proofs.Searches.{Searching, asked, searching, step-sizes, found-here, searched-on, not-found}
+use Rattle.shapes.proofs.find_member.Statement.{statement}
+use Rattle.shapes.proofs.find_member.Tie as tie
+
+abbrev Inv-loop : tie.InvT-loop
+Inv-loop shapes from end pool w n row₀ row = Searching shapes pool from end w n row
+
+abbrev μ-loop : tie.MeasureT-loop
+μ-loop shapes from end pool w n row₀ row = end - row
+
+loop-holds : tie.Need-loop-holds Inv-loop μ-loop
+loop-holds c = searching
+
+returns : tie.Need-returns Inv-loop μ-loop
+returns c =
+    found-here
+    (c .before .before .before .before .before .before .loop .inv)
+    (c .before .before .before .before .before .loop-test .taken)
+    (asked (c .before .before .before .before .name .ensures) (c .before .before .before .text-word .ensures) (c .before .before .text-bytes .ensures) (c .before .same-text .ensures))
+    (c .if1 .taken)
+
+add-row : tie.Need-add-row Inv-loop μ-loop
+add-row c =
+    let s = step-sizes (c .before .before .before .before .before .before .before .before .before .before .pre) (c .before .before .before .before .before .before .before .loop .inv) (c .before .before .before .before .before .before .loop-test .taken) in
+    omega (arith, s .1, c .size .ensures)
+
+loop-less : tie.Need-loop-less Inv-loop μ-loop
+loop-less c =
+    let s = step-sizes (c .before .before .before .before .before .before .before .before .before .before .pre) (c .before .before .before .before .before .before .before .loop .inv) (c .before .before .before .before .before .before .loop-test .taken) in
+    omega (arith, s .0, s .1, c .size .ensures)
+
+loop-again : tie.Need-loop-again Inv-loop μ-loop
+loop-again c =
+    searched-on
+    (c .before .before .before .before .before .before .before .loop .inv)
+    (c .before .before .before .before .before .before .loop-test .taken)
+    (asked (c .before .before .before .before .before .name .ensures) (c .before .before .before .before .text-word .ensures) (c .before .before .before .text-bytes .ensures) (c .before .before .same-text .ensures))
+    (c .before .if1 .left)
+    (c .size .ensures)
+
+returns-2 : tie.Need-returns-2 Inv-loop μ-loop
+returns-2 c = not-found (c .before .loop .inv) (c .loop-test .left)
+
+pub find-member-spec : {M : Type 1} → statement M
+find-member-spec =
+    tie.close
+    (tie.spec
+    Inv-loop
+    μ-loop
+    loop-holds
+    (λ c κs. search needs)
+    (λ c κs. search needs)
+    (λ c κs. search needs)
+    (λ c κs. search needs)
+    returns
+    (λ c κs. search needs)
+    add-row
+    loop-less
+    loop-again
+    returns-2)

@@ -1,0 +1,37 @@
+-- Looking a member of a shape up by its name. Assumes nothing.
+use Prim.Native.Nat.{ℕ, _<_}
+use mathlib.Core.Path.{_≡_}
+use mathlib.Core.List.{List}
+use mathlib.Core.Option.{none, some}
+use lib.ListN.{length, take}
+use Rattle.definitions.specs.Bytes.{Bytes}
+use Rattle.definitions.specs.Shape.{Shape, Fields, find}
+use Rattle.shapes.specs.Shapes.{Stands, Fields-stand}
+use Rattle.shapes.specs.declared.Member.{Member}
+use Rattle.shapes.specs.declared.Member.the-variants.{Found, Missing}
+
+-- the members fs stand in the table from a row up to an end, their names in p, the used part of the pool: a reference has
+-- 16 bits for a name's first word
+pub record Listed (shapes pool : List ℕ) (row end : ℕ) (p : List ℕ) (fs : Fields) : Type 0 where
+  pub stand : Fields-stand shapes p row end fs
+  pub front : take (length p) pool ≡ p
+  pub small : length p < 65536
+
+-- some members do
+pub record Some-listed (shapes pool : List ℕ) (row end : ℕ) : Type 0 where
+  pub used : List ℕ
+  pub fields : Fields
+  pub listed : Listed shapes pool row end used fields
+
+-- the member of name t stands at a row, before the end of all
+pub record Found-at (shapes p : List ℕ) (end : ℕ) (t : Bytes) (fs : Fields) (row : ℕ) : Type 0 where
+  pub name : ℕ
+  pub shape : Shape
+  pub found : find t fs ≡ some shape
+  pub stands : Stands shapes p row name shape
+  pub before : row < end
+
+-- what the answer to a search for the name t tells of the members fs
+abbrev pub Tells : (shapes p : List ℕ) (end : ℕ) (t : Bytes) (fs : Fields) → Member → Type 0
+Tells shapes p end t fs (Found row) = Found-at shapes p end t fs row
+Tells shapes p end t fs Missing = find t fs ≡ none
