@@ -192,13 +192,40 @@ pub fn read_scalar(
         return read_text_value(doc, nodes, pool, values, left, c, name);
     }
     if b == 0x74 {
-        return read_literal(doc, nodes, values, left, c, name, b"true", nodes::TRUE);
+        return read_literal(
+            doc,
+            nodes,
+            values,
+            left,
+            c,
+            name,
+            &nodes::TRUE_NAME,
+            nodes::TRUE,
+        );
     }
     if b == 0x66 {
-        return read_literal(doc, nodes, values, left, c, name, b"false", nodes::FALSE);
+        return read_literal(
+            doc,
+            nodes,
+            values,
+            left,
+            c,
+            name,
+            &nodes::FALSE_NAME,
+            nodes::FALSE,
+        );
     }
     if b == 0x6E {
-        return read_literal(doc, nodes, values, left, c, name, b"null", nodes::NULL);
+        return read_literal(
+            doc,
+            nodes,
+            values,
+            left,
+            c,
+            name,
+            &nodes::NULL_NAME,
+            nodes::NULL,
+        );
     }
     read_number_value(doc, nodes, values, left, c, name)
 }

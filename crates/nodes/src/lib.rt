@@ -27,6 +27,13 @@ pub const LIST: u64 = 5;
 
 pub const RECORD: u64 = 6;
 
+// The literal names, as they are read and written.
+pub const NULL_NAME: [u8; 4] = *b"null";
+
+pub const FALSE_NAME: [u8; 5] = *b"false";
+
+pub const TRUE_NAME: [u8; 4] = *b"true";
+
 // ---- a row's words
 
 // The word at a place.

@@ -83,13 +83,13 @@ fn write_single(out: &mut [u8], at: usize, nodes: &[u64], row: usize, pool: &[u6
 {
     let kind = nodes::row_kind(nodes, row);
     if kind == nodes::NULL {
-        return write_name(out, at, b"null");
+        return write_name(out, at, &nodes::NULL_NAME);
     }
     if kind == nodes::FALSE {
-        return write_name(out, at, b"false");
+        return write_name(out, at, &nodes::FALSE_NAME);
     }
     if kind == nodes::TRUE {
-        return write_name(out, at, b"true");
+        return write_name(out, at, &nodes::TRUE_NAME);
     }
     let payload = nodes::row_payload(nodes, row);
     if kind == nodes::NUMBER {
