@@ -10,6 +10,9 @@ ghost use Rattle.number.specs.NumberWrite.{Bounded};
 use crate::reading::Cursor;
 use crate::reading::ValueRead;
 use crate::space::peek;
+use nodes::FALSE_NAME;
+use nodes::NULL_NAME;
+use nodes::TRUE_NAME;
 use number::NumberRead;
 use text::TextRead;
 
@@ -192,40 +195,13 @@ pub fn read_scalar(
         return read_text_value(doc, nodes, pool, values, left, c, name);
     }
     if b == 0x74 {
-        return read_literal(
-            doc,
-            nodes,
-            values,
-            left,
-            c,
-            name,
-            &nodes::TRUE_NAME,
-            nodes::TRUE,
-        );
+        return read_literal(doc, nodes, values, left, c, name, &TRUE_NAME, nodes::TRUE);
     }
     if b == 0x66 {
-        return read_literal(
-            doc,
-            nodes,
-            values,
-            left,
-            c,
-            name,
-            &nodes::FALSE_NAME,
-            nodes::FALSE,
-        );
+        return read_literal(doc, nodes, values, left, c, name, &FALSE_NAME, nodes::FALSE);
     }
     if b == 0x6E {
-        return read_literal(
-            doc,
-            nodes,
-            values,
-            left,
-            c,
-            name,
-            &nodes::NULL_NAME,
-            nodes::NULL,
-        );
+        return read_literal(doc, nodes, values, left, c, name, &NULL_NAME, nodes::NULL);
     }
     read_number_value(doc, nodes, values, left, c, name)
 }
