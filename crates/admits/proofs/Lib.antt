@@ -1,0 +1,5 @@
+pub mod KindBits
+pub mod Elements
+pub mod Named
+pub mod Lacking
+pub mod Wholes

@@ -1,0 +1,165 @@
+// Whether a shape of a shape table admits a value of a node table.
+ghost use mathlib.Core.Path.{_≡_};
+ghost use lib.ListN.{getD};
+ghost use Rattle.definitions.specs.Value.{Value};
+ghost use Rattle.definitions.specs.Admits.{kind-of};
+ghost use Rattle.nodes.specs.Nodes.{head-word};
+ghost use Rattle.plain.specs.Table.{Bounded-numbers};
+ghost use Rattle.shapes.specs.Shapes.{kind-bit};
+ghost use Rattle.shapes.specs.Members.{Some-listed};
+ghost use Rattle.nodes.specs.Standing.{Members-held};
+ghost use Rattle.admits.specs.Admission.{Value-asked, Value-told, Items-asked, Items-told, Members-asked, Members-told, Nulls-told, Lacks, Lists};
+use shapes::Member;
+use shapes::Shape;
+
+// The bit of the kind of the value at a row.
+fn kind_bit(nodes: &[u64], at: usize) -> u64
+    ensures told { λ r. ⌜ ((v : Value) → getD (now (nodes .entry)) at 0 ≡ head-word v → Bounded-numbers v → r ≡ kind-bit (kind-of v)) ⌝ }
+{
+    let kind = nodes::row_kind(nodes, at);
+    if kind == nodes::NULL {
+        return Shape::NULL;
+    }
+    if kind < nodes::NUMBER {
+        return Shape::BOOL;
+    }
+    if kind == nodes::NUMBER {
+        if nodes::row_is_int(nodes, at) {
+            return Shape::INT;
+        }
+        return Shape::DEC;
+    }
+    if kind == nodes::TEXT {
+        return Shape::TEXT;
+    }
+    if kind == nodes::LIST {
+        return Shape::LIST;
+    }
+    Shape::REC
+}
+
+// ---- members that a value lacks
+
+// Whether the members of a value have the name of the shape at a row, or it has null.
+fn may_lack(shapes: &[u64], row: usize, nodes: &[u64], at: usize, end: usize, pool: &[u64]) -> bool
+    requires { ⌜ Members-held (now nodes) (now pool) at end ⌝ }
+    ensures told { λ r. ⌜ Lacks (now (shapes .entry)) row (now (nodes .entry)) at end (now (pool .entry)) r ⌝ }
+{
+    if shapes::has(shapes::kinds(shapes, row), Shape::NULL) {
+        return true;
+    }
+    nodes::has_member(nodes, at, end, pool, shapes::name(shapes, row))
+}
+
+// Whether every member listed from one row up to another has null where the value lacks it.
+fn missing_have_null(
+    shapes: &[u64],
+    from: usize,
+    to: usize,
+    nodes: &[u64],
+    at: usize,
+    end: usize,
+    pool: &[u64],
+) -> bool
+    requires { ⌜ Members-asked (now shapes) from to (now nodes) at end (now pool) ⌝ }
+    ensures told { λ r. ⌜ Nulls-told (now (shapes .entry)) from to (now (nodes .entry)) at end (now (pool .entry)) r ⌝ }
+{
+    let mut i = from;
+    while i < to {
+        if !may_lack(shapes, i, nodes, at, end, pool) {
+            return false; // lacked, without null
+        }
+        i += shapes::size(shapes, i);
+    }
+    true
+}
+
+// ---- values
+
+// The member listed from one row up to another that has the name of the value at a row.
+fn listed(shapes: &[u64], from: usize, to: usize, nodes: &[u64], at: usize, pool: &[u64]) -> Member
+    requires { ⌜ Some-listed (now shapes) (now pool) from to ⌝ }
+    ensures told { λ r. ⌜ Lists (now (shapes .entry)) from to (now (nodes .entry)) at (now (pool .entry)) r ⌝ }
+{
+    let k = nodes::row_name(nodes, at);
+    shapes::find_member(
+        shapes,
+        from,
+        to,
+        pool,
+        nodes::text_word(k),
+        nodes::text_bytes(k),
+    )
+}
+
+// Whether the shape at a row admits the elements that stand from one row up to another.
+fn admits_items(
+    shapes: &[u64],
+    row: usize,
+    nodes: &[u64],
+    at: usize,
+    end: usize,
+    pool: &[u64],
+) -> bool
+    requires { ⌜ Items-asked (now shapes) row (now nodes) at end (now pool) ⌝ }
+    ensures told { λ r. ⌜ Items-told (now (shapes .entry)) row (now (nodes .entry)) at end (now (pool .entry)) r ⌝ }
+{
+    let mut i = at;
+    while i < end {
+        if !admits(shapes, row, nodes, i, pool) {
+            return false;
+        }
+        i += nodes::row_size(nodes, i);
+    }
+    true
+}
+
+// Whether each member of a value is one of those listed from one row up to another and admitted.
+fn admits_members(
+    shapes: &[u64],
+    from: usize,
+    to: usize,
+    nodes: &[u64],
+    at: usize,
+    end: usize,
+    pool: &[u64],
+) -> bool
+    requires { ⌜ Members-asked (now shapes) from to (now nodes) at end (now pool) ⌝ }
+    ensures told { λ r. ⌜ Members-told (now (shapes .entry)) from to (now (nodes .entry)) at end (now (pool .entry)) r ⌝ }
+{
+    let mut i = at;
+    while i < end {
+        let Member::Found { row } = listed(shapes, from, to, nodes, i, pool) else {
+            return false; // not listed
+        };
+        if !admits(shapes, row, nodes, i, pool) {
+            return false;
+        }
+        i += nodes::row_size(nodes, i);
+    }
+    true
+}
+
+// Whether the shape at a row of the shape table admits the value at a row of the node table.
+pub fn admits(shapes: &[u64], row: usize, nodes: &[u64], at: usize, pool: &[u64]) -> bool
+    requires { ⌜ Value-asked (now shapes) row (now nodes) at (now pool) ⌝ }
+    ensures told { λ r. ⌜ Value-told (now (shapes .entry)) row (now (nodes .entry)) at (now (pool .entry)) r ⌝ }
+{
+    let bit = kind_bit(nodes, at);
+    if !shapes::has(shapes::kinds(shapes, row), bit) {
+        return false;
+    }
+    if bit < Shape::LIST {
+        return true;
+    }
+    let end = at + nodes::row_size(nodes, at);
+    if bit == Shape::LIST {
+        return admits_items(shapes, row + 2, nodes, at + 3, end, pool);
+    }
+    let from = shapes::members(shapes, row);
+    let to = row + shapes::size(shapes, row);
+    if !admits_members(shapes, from, to, nodes, at + 3, end, pool) {
+        return false;
+    }
+    missing_have_null(shapes, from, to, nodes, at + 3, end, pool)
+}
