@@ -5,9 +5,10 @@ use native.Mathlib.Omega.{arith}
 use mathlib.Core.Path.{_≡_, _∙_}
 use borrow.Author.Needs.{needs}
 use lib.ListN.{length}
+use Rattle.shapes.specs.HeldLaws.{held-within, some-listed}
 use Rattle.admits.proofs.Elements as elements
 use Rattle.admits.proofs.Named as named
-use Rattle.admits.proofs.Wholes.{Seen, seen, without-kind, single, value-ends, shape-ends, list-asks, list-told, rec-asks, rec-fails, rec-told, members-within}
+use Rattle.admits.proofs.Wholes.{Seen, seen, without-kind, single, value-ends, list-asks, list-told, rec-asks, rec-fails, rec-told, members-within}
 use borrow.Fn.Kinds.{In}
 use Prim.Native.Nat.{ℕ, _<_}
 use borrow.Fn.PlainCycle.{Measures, is, falls, and}
@@ -125,7 +126,7 @@ admits-add-end : (t : ℕ) → admits-lts.Need-add-end (admits-claims t) (admits
 admits-add-end t c = omega (arith, value-ends (c .before .before .before .before .before .before .before .before .before .pre .1 .holds) .1, c .row-size .ensures, c .before .before .before .before .before .before .before .before .before .good .1 .1 .0 .0)
 
 admits-add-admits-items : (t : ℕ) → admits-lts.Need-add-admits-items (admits-claims t) (admits-at t) admits.Post
-admits-add-admits-items t c = omega (arith, shape-ends (c .before .before .before .before .before .before .before .before .before .before .pre .1 .held) .0, shape-ends (c .before .before .before .before .before .before .before .before .before .before .pre .1 .held) .1, c .before .before .before .before .before .before .before .before .before .before .good .0 .0)
+admits-add-admits-items t c = omega (arith, held-within (c .before .before .before .before .before .before .before .before .before .before .pre .1 .held) .0, held-within (c .before .before .before .before .before .before .before .before .before .before .pre .1 .held) .1, c .before .before .before .before .before .before .before .before .before .before .good .0 .0)
 
 admits-add-admits-items-2 : (t : ℕ) → admits-lts.Need-add-admits-items-2 (admits-claims t) (admits-at t) admits.Post
 admits-add-admits-items-2 t c = omega (arith, value-ends (c .before .before .before .before .before .before .before .before .before .before .pre .1 .holds) .0, value-ends (c .before .before .before .before .before .before .before .before .before .before .pre .1 .holds) .1, c .before .before .before .before .before .before .before .before .before .before .good .1 .1 .0 .0)
@@ -144,12 +145,12 @@ admits-returns-3 t c =
 
 admits-members-requires : (t : ℕ) → admits-lts.Need-members-requires (admits-claims t) (admits-at t) admits.Post
 admits-members-requires t c κs = (
-  omega (arith, shape-ends (c .before .before .before .before .before .before .before .before .before .before .pre .1 .held) .0, shape-ends (c .before .before .before .before .before .before .before .before .before .before .pre .1 .held) .1),
+  omega (arith, held-within (c .before .before .before .before .before .before .before .before .before .before .pre .1 .held) .0, held-within (c .before .before .before .before .before .before .before .before .before .before .pre .1 .held) .1),
   omega (
     arith,
     members-within (c .before .before .before .before .before .before .before .before .before .before .args .shapes .now) (c .before .before .before .before .before .before .before .before .before .before .args .row) (c .before .before .before .before .before .before .before .before .before .before .args .nodes .now) (c .before .before .before .before .before .before .before .before .before .before .args .at) (c .before .before .before .before .before .before .before .before .before .before .args .pool .now)
         (seen (c .before .before .before .before .before .before .before .before .before .before .args .shapes .now) (c .before .before .before .before .before .before .before .before .before .before .args .row) (c .before .before .before .before .before .before .before .before .before .before .args .nodes .now) (c .before .before .before .before .before .before .before .before .before .before .args .at) (c .before .before .before .before .before .before .before .before .before .before .args .pool .now) (c .before .before .before .before .before .before .kind-bit .ensures) (c .before .before .before .before .before .kinds .ensures) (c .before .before .before .before .has .ensures)) (c .before .before .before .if1 .left) (c .before .row-size .ensures) (c .before .before .if2 .left) (c .if3 .left) (c .before .before .before .before .before .before .before .before .before .before .pre .1),
-    shape-ends (c .before .before .before .before .before .before .before .before .before .before .pre .1 .held) .1,
+    held-within (c .before .before .before .before .before .before .before .before .before .before .pre .1 .held) .1,
     c .before .before .before .before .before .before .before .before .before .before .good .0 .0,
   ),
 )
@@ -158,7 +159,7 @@ admits-size-requires : (t : ℕ) → admits-lts.Need-size-requires (admits-claim
 admits-size-requires t c κs = search needs
 
 admits-add-to : (t : ℕ) → admits-lts.Need-add-to (admits-claims t) (admits-at t) admits.Post
-admits-add-to t c = omega (arith, shape-ends (c .before .before .before .before .before .before .before .before .before .before .before .before .pre .1 .held) .1, c .size .ensures, c .before .before .before .before .before .before .before .before .before .before .before .before .good .0 .0)
+admits-add-to t c = omega (arith, held-within (c .before .before .before .before .before .before .before .before .before .before .before .before .pre .1 .held) .1, c .size .ensures, c .before .before .before .before .before .before .before .before .before .before .before .before .good .0 .0)
 
 admits-add-admits-members : (t : ℕ) → admits-lts.Need-add-admits-members (admits-claims t) (admits-at t) admits.Post
 admits-add-admits-members t c = omega (arith, value-ends (c .before .before .before .before .before .before .before .before .before .before .before .before .pre .1 .holds) .0, value-ends (c .before .before .before .before .before .before .before .before .before .before .before .before .pre .1 .holds) .1, c .before .before .before .before .before .before .before .before .before .before .before .before .good .1 .1 .0 .0)
@@ -267,7 +268,7 @@ admits-members-loop-holds : (t : ℕ) → admits-members-lts.Need-loop-holds (ad
 admits-members-loop-holds t c = named.walk-begins (c .before .before .before .args .shapes .now) (c .before .before .before .args .from) (c .before .before .before .args .to) (c .before .before .before .args .nodes .now) (c .before .before .before .args .at) (c .before .before .before .args .end) (c .before .before .before .args .pool .now)
 
 admits-members-listed-requires : (t : ℕ) → admits-members-lts.Need-listed-requires (admits-members-claims t) (admits-members-at t) admits-members.Post admits-members-Inv-loop admits-members-μ-loop
-admits-members-listed-requires t c κs = named.some-listed (c .before .before .before .before .before .pre .1 .held)
+admits-members-listed-requires t c κs = some-listed (c .before .before .before .before .before .pre .1 .held)
 
 admits-members-enum-known-row : (t : ℕ) → admits-members-lts.Need-enum-known-row (admits-members-claims t) (admits-members-at t) admits-members.Post admits-members-Inv-loop admits-members-μ-loop
 admits-members-enum-known-row t c = search needs
