@@ -12,10 +12,9 @@ use Rattle.definitions.specs.Admits.{missing-have-null}
 use Rattle.laws.specs.Bools.{or-right, not-true}
 use Rattle.pool.specs.Pool.{text-in}
 use Rattle.nodes.specs.Standing.{Members-stand, Members-held}
-use Rattle.shapes.specs.Shapes.{kind-bit, kind-bits, has-bit, size-at, Stands, Fields-stand}
-use Rattle.shapes.specs.ShapesLaws.{has-kind, name-text, forms-some, stands-kinds, stands-size, stands-name, Some-fields, some-fields, fields-left, fields-first, fields-rest, fields-end, fields-some}
-use Rattle.shapes.specs.Members.{Listed}
+use Rattle.shapes.specs.Shapes.{kind-bit, has-bit, size-at}
 use Rattle.shapes.specs.Held.{Holds-fields}
+use Rattle.shapes.specs.HeldLaws.{held-has, held-within, first-field, no-field-left}
 use Rattle.admits.specs.Admission.{Holds-members, Members-asked, Lacks}
 use Rattle.admits.proofs.Elements.{not-fails}
 
@@ -52,43 +51,6 @@ member-told shapes row {pool} e f g n t ms h =
     ∙ or-second (has-name (text-in pool (getD shapes (row + 1) 0 % 65536) (getD shapes (row + 1) 0 / 65536)) ms)
     (ap (λ (x : ℕ). has-bit x 1) (sym e) ∙ sym f ∙ g)
 
--- ---- the first of the members left
-
-pub record First (shapes pool : List ℕ) (i to : ℕ) (fs : Fields) : Type 0 where
-  pub name : Bytes
-  pub shape : Shape
-  pub others : Fields
-  pub same : fs ≡ field name shape others
-  pub text : text-in pool (getD shapes (i + 1) 0 % 65536) (getD shapes (i + 1) 0 / 65536) ≡ name
-  pub null : has-bit (getD shapes i 0 % 128) 1 ≡ has Kind.null shape
-  pub wide : 2 ≤ size-at shapes i
-  pub inside : i + size-at shapes i ≤ to
-  pub more : Holds-fields shapes pool (i + size-at shapes i) to others
-
-pub first : {shapes pool : List ℕ} {i to : ℕ} {fs : Fields} → Holds-fields shapes pool i to fs → i < to → First shapes pool i to fs
-unfolding kind-bit
-first {shapes} {pool} {i} {to} h more = go (h .listed) (fields-left (h .listed .stand) more)
-  where
-    go : {gs : Fields} → Listed shapes pool i to (h .used) gs → Some-fields gs → First shapes pool i to gs
-    go l (some-fields {n} {s} {fs = os}) =
-        let f = fields-first (l .stand) in
-        record {
-          name = n;
-          shape = s;
-          others = os;
-          same = refl;
-          text =
-              ap (λ (y : ℕ). text-in pool (y % 65536) (y / 65536)) (stands-name (f .2)) ∙ name-text pool (l .front) (l .small) (f .1);
-          null = ap (λ (y : ℕ). has-bit y 1) (stands-kinds (f .2)) ∙ has-kind Kind.null s;
-          wide = omega (arith, forms-some s, stands-size (f .2));
-          inside = omega (arith, fields-end (fields-rest (l .stand)));
-          more = record { used = h .used; listed = record { stand = fields-rest (l .stand); front = l .front; small = l .small } };
-        }
-
-pub none-left : {shapes pool : List ℕ} {i to : ℕ} {fs : Fields} → Holds-fields shapes pool i to fs → to ≤ i → fs ≡ no-fields
-none-left {fs = no-fields} h past = refl
-none-left {fs = field m s fs} h past = absurd (let z : ⊥ = omega (arith, fields-some (h .listed .stand)) in z)
-
 -- ---- the walk
 
 module _ (shapes : List ℕ) (from to : ℕ) (nodes : List ℕ) (at end : ℕ) (pool : List ℕ) where
@@ -108,22 +70,23 @@ module _ (shapes : List ℕ) (from to : ℕ) (nodes : List ℕ) (at end : ℕ) (
     pub walk-step
         : Members-asked shapes from to nodes at end pool → i < to → (2 ≤ size-at shapes i) × (i + size-at shapes i ≤ to)
     walk-step a more =
-        let f = first (w .left (a .fields) (a .held) (a .members) (a .holds) .holds) more in (f .wide, f .inside)
+        let f = first-field (w .left (a .fields) (a .held) (a .members) (a .holds) .holds) more in (held-within (f .held) .0, f .inside)
 
     module _ {r : Bool} (l : Lacks shapes i nodes at end pool r) (more : i < to) where
       -- what the test says of the first member
       first-told : {gs : Fields} (h : Holds-fields shapes pool i to gs) (ms : Members) → Holds-members nodes pool at end ms
-          → (has-name (first h more .name) ms || has Kind.null (first h more .shape)) ≡ r
+          → (has-name (first-field h more .name) ms || has Kind.null (first-field h more .shape)) ≡ r
+      unfolding kind-bit
       first-told h ms k =
-          let f = first h more in
-          sym (l ms k ∙ ap₂ (λ (n : Bytes) (b : Bool). has-name n ms || b) (f .text) (f .null))
+          let f = first-field h more in
+          sym (l ms k ∙ ap₂ (λ (n : Bytes) (b : Bool). has-name n ms || b) (f .text) (held-has Kind.null (f .held)))
 
       step-told
           : (fs : Fields) → Holds-fields shapes pool from to fs → (ms : Members) → Holds-members nodes pool at end ms
-          → (m : Left i fs ms) → missing-have-null ms fs ≡ (r && missing-have-null ms (first (m .holds) more .others))
+          → (m : Left i fs ms) → missing-have-null ms fs ≡ (r && missing-have-null ms (first-field (m .holds) more .others))
       unfolding missing-have-null
       step-told fs h ms k m =
-          let f = first (m .holds) more in
+          let f = first-field (m .holds) more in
           m .alike
           ∙ ap (missing-have-null ms) (f .same)
           ∙ ap (λ (b : Bool). b && missing-have-null ms (f .others)) (first-told (m .holds) ms k)
@@ -133,7 +96,7 @@ module _ (shapes : List ℕ) (from to : ℕ) (nodes : List ℕ) (at end : ℕ) (
           → false ≡ missing-have-null ms fs
       walk-fails e fs h ms k =
           let m = w .left fs h ms k in
-          sym (step-told fs h ms k m ∙ ap (λ (b : Bool). b && missing-have-null ms (first (m .holds) more .others)) (not-true r e))
+          sym (step-told fs h ms k m ∙ ap (λ (b : Bool). b && missing-have-null ms (first-field (m .holds) more .others)) (not-true r e))
 
       pub walk-on : {n : ℕ} → not r ≡ false → n ≡ size-at shapes i → Walking (i + n)
       walk-on e s =
@@ -142,11 +105,11 @@ module _ (shapes : List ℕ) (from to : ℕ) (nodes : List ℕ) (at end : ℕ) (
             left = λ fs h ms k.
                 let m = w .left fs h ms k in
                 record {
-                  others = first (m .holds) more .others;
-                  holds = first (m .holds) more .more;
+                  others = first-field (m .holds) more .others;
+                  holds = first-field (m .holds) more .more;
                   alike =
                       step-told fs h ms k m
-                      ∙ ap (λ (b : Bool). b && missing-have-null ms (first (m .holds) more .others)) (not-fails r e);
+                      ∙ ap (λ (b : Bool). b && missing-have-null ms (first-field (m .holds) more .others)) (not-fails r e);
                 };
           })
 
@@ -155,4 +118,4 @@ module _ (shapes : List ℕ) (from to : ℕ) (nodes : List ℕ) (at end : ℕ) (
         → true ≡ missing-have-null ms fs
     unfolding missing-have-null
     walk-ends past fs h ms k =
-        let m = w .left fs h ms k in sym (m .alike ∙ ap (missing-have-null ms) (none-left (m .holds) past))
+        let m = w .left fs h ms k in sym (m .alike ∙ ap (missing-have-null ms) (no-field-left (m .holds) past))

@@ -18,8 +18,9 @@ use Rattle.nodes.specs.StandingLaws.{size-some, value-name, value-size, value-w
 use Rattle.plain.specs.Table.{Bounded-numbers, Bounded-members, Holds}
 use Rattle.shapes.specs.declared.Member.{Member}
 use Rattle.shapes.specs.declared.Member.the-variants.{Found, Missing}
-use Rattle.shapes.specs.Members.{Some-listed, Tells, Found-at}
-use Rattle.shapes.specs.Held.{Holds-shape, Holds-fields}
+use Rattle.shapes.specs.Members.{Tells, Found-at}
+use Rattle.shapes.specs.Held.{Holds-fields}
+use Rattle.shapes.specs.HeldLaws.{found-held}
 use Rattle.admits.specs.Admission.{Holds-members, Value-asked, Value-told, Members-asked, Members-told, Lists}
 use Rattle.admits.proofs.Elements.{not-fails, held-value}
 
@@ -57,17 +58,6 @@ first {pool} h more =
       inside = omega (arith, f .more .reaches);
       more = record { used = h .used; stand = f .more; pooled = h .pooled; bounded = b .1 };
     }
-
--- what is listed of a record's member
-pub some-listed : {shapes pool : List ℕ} {from to : ℕ} {fs : Fields} → Holds-fields shapes pool from to fs → Some-listed shapes pool from to
-some-listed {fs} h = record { used = h .used; fields = fs; listed = h .listed }
-
--- the shape that a member was found at
-found-shape
-    : {shapes pool : List ℕ} {from to : ℕ} {t : Bytes} {fs : Fields} {row : ℕ} (h : Holds-fields shapes pool from to fs)
-    (f : Found-at shapes (h .used) to t fs row) → Holds-shape shapes pool row (f .shape)
-found-shape h f =
-    record { used = h .used; name = f .name; stands = f .stands; front = h .listed .front; small = h .listed .small }
 
 -- ---- the walk
 
@@ -136,7 +126,7 @@ module _ (shapes : List ℕ) (from to : ℕ) (nodes : List ℕ) (at end : ℕ) (
             let l = w .left (a .fields) (a .held) (a .members) (a .holds) in
             record {
               shape = found (a .held) (l .holds) .shape;
-              held = found-shape (a .held) (found (a .held) (l .holds));
+              held = found-held (a .held) (found (a .held) (l .holds));
               value = next a .value;
               holds = next a .holds;
             }
@@ -151,7 +141,7 @@ module _ (shapes : List ℕ) (from to : ℕ) (nodes : List ℕ) (at end : ℕ) (
               let g = found h (l .holds) in
               step l
               ∙ ap (λ (o : Option Shape). admitted-by-listed (f .value) o && admitted-members (f .others) fs) (g .found)
-              ∙ ap (λ (b : Bool). b && admitted-members (f .others) fs) (sym (told (g .shape) (found-shape h g) (f .value) (f .holds)))
+              ∙ ap (λ (b : Bool). b && admitted-members (f .others) fs) (sym (told (g .shape) (found-held h g) (f .value) (f .holds)))
 
           pub walk-fails : not r ≡ true → Members-told shapes from to nodes at end pool false
           walk-fails x fs h ms k =

@@ -16,8 +16,9 @@ use Rattle.nodes.specs.Standing.{Value-stands}
 use Rattle.nodes.specs.StandingLaws.{value-head, value-size, value-within, list-stands, rec-stands, size-some}
 use Rattle.plain.specs.Table.{Bounded-numbers, Holds}
 use Rattle.shapes.specs.Shapes.{kind-bit, has-bit, size-at, members-at}
-use Rattle.shapes.specs.ShapesLaws.{has-kind, forms-some, stands-kinds, stands-size, stands-within, stands-element, stands-members, fields-end}
+use Rattle.shapes.specs.ShapesLaws.{has-kind}
 use Rattle.shapes.specs.Held.{Holds-shape, Holds-fields}
+use Rattle.shapes.specs.HeldLaws.{held-kinds, held-element, held-members, members-within as held-members-within}
 use Rattle.admits.specs.Admission.{Holds-items, Holds-members, Value-asked, Value-told, Items-asked, Items-told, Members-asked, Members-told, Nulls-told}
 use Rattle.admits.proofs.KindBits.{lacks-kind, kind-enough, int-bit}
 use Rattle.admits.proofs.Elements.{not-fails}
@@ -33,12 +34,6 @@ pub value-ends
     : {nodes pool : List ℕ} {at : ℕ} {v : Value} → Holds nodes pool at v → (3 ≤ row-size nodes at) × (at + row-size nodes at ≤ length nodes)
 value-ends {v} h =
     (omega (arith, value-size (standing h), size-some v), omega (arith, value-size (standing h), value-within (standing h)))
-
-pub shape-ends
-    : {shapes pool : List ℕ} {row : ℕ} {s : Shape} → Holds-shape shapes pool row s
-    → (2 ≤ size-at shapes row) × (row + size-at shapes row ≤ length shapes)
-shape-ends {s} h =
-    (omega (arith, stands-size (h .stands), forms-some s), omega (arith, stands-size (h .stands), stands-within (h .stands)))
 
 -- ---- what the kind tells
 
@@ -56,7 +51,7 @@ module _ (shapes : List ℕ) (row : ℕ) (nodes : List ℕ) (at : ℕ) (pool : L
         coded = λ v h. e v (value-head (standing h)) (h .bounded);
         there = λ s k v h.
             g
-            ∙ ap₂ (λ (x y : ℕ). has-bit x y) (f ∙ stands-kinds (k .stands)) (e v (value-head (standing h)) (h .bounded))
+            ∙ ap₂ (λ (x y : ℕ). has-bit x y) (f ∙ held-kinds k) (e v (value-head (standing h)) (h .bounded))
             ∙ has-kind (kind-of v) s;
       }
 
@@ -97,7 +92,7 @@ module _ (shapes : List ℕ) (row : ℕ) (nodes : List ℕ) (at : ℕ) (pool : L
       record {
         element = a;
         items = vs;
-        held = record { used = h .used; name = 0; stands = stands-element (h .stands); front = h .front; small = h .small };
+        held = held-element h;
         holds = record { used = g .used; stand = list-stands (standing g); pooled = g .pooled; bounded = g .bounded };
         told = refl;
       }
@@ -124,7 +119,7 @@ module _ (shapes : List ℕ) (row : ℕ) (nodes : List ℕ) (at : ℕ) (pool : L
       record {
         fields = fs;
         members = ms;
-        held = record { used = h .used; listed = record { stand = stands-members (h .stands); front = h .front; small = h .small } };
+        held = held-members h;
         holds = record { used = g .used; stand = rec-stands (standing g); pooled = g .pooled; bounded = g .bounded };
         told = refl;
       }
@@ -195,4 +190,4 @@ module _
     members-within l other a =
         let p = rec-parts shapes row nodes at pool (a .shape) (a .held) (a .value) (a .holds) (omega (arith, k .coded (a .value) (a .holds)))
         (sym (k .there (a .shape) (a .held) (a .value) (a .holds)) ∙ not-fails r e) in
-        omega (arith, fields-end (p .held .listed .stand))
+        held-members-within (p .held)

@@ -2,3 +2,4 @@ pub mod Members
 pub mod Shapes
 pub mod ShapesLaws
 pub mod Held
+pub mod HeldLaws

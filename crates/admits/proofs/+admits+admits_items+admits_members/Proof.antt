@@ -2,14 +2,13 @@
 -- parts, at the same one: the measures are what is left of that table from the row on, and one more for the loops. Assumes nothing.
 use Prim.Native.Nat.{ℕ, _+_, _-_, _<_}
 use native.Mathlib.Omega.{arith}
-use mathlib.Core.Path.{_≡_, _∙_}
 use borrow.Author.Needs.{needs}
 use lib.ListN.{length}
+use Rattle.shapes.specs.HeldLaws.{held-within, some-listed}
 use Rattle.admits.proofs.Elements as elements
 use Rattle.admits.proofs.Named as named
-use Rattle.admits.proofs.Wholes.{Seen, seen, without-kind, single, value-ends, shape-ends, list-asks, list-told, rec-asks, rec-fails, rec-told, members-within}
+use Rattle.admits.proofs.Wholes.{Seen, seen, without-kind, single, value-ends, list-asks, list-told, rec-asks, rec-fails, rec-told, members-within}
 use borrow.Fn.Kinds.{In}
-use Prim.Native.Nat.{ℕ, _<_}
 use borrow.Fn.PlainCycle.{Measures, is, falls, and}
 use Rattle.admits.proofs.admits.Reads as admits
 use Rattle.admits.proofs.admits.Kinds as admits-kinds
@@ -99,6 +98,12 @@ admits-claims t = (
 
 -- ---- admits
 
+-- what is known behind the first test
+seen-here
+    : (t : ℕ) (c : admits-lts.After-has (admits-claims t) (admits-at t) admits.Post)
+    → Seen (c .before .before .before .before .before .before .args .shapes .now) (c .before .before .before .before .before .before .args .row) (c .before .before .before .before .before .before .args .nodes .now) (c .before .before .before .before .before .before .args .at) (c .before .before .before .before .before .before .args .pool .now) (c .before .before .kind-bit .result) (c .has .result)
+seen-here t c = seen (c .before .before .before .before .before .before .args .shapes .now) (c .before .before .before .before .before .before .args .row) (c .before .before .before .before .before .before .args .nodes .now) (c .before .before .before .before .before .before .args .at) (c .before .before .before .before .before .before .args .pool .now) (c .before .before .kind-bit .ensures) (c .before .kinds .ensures) (c .has .ensures)
+
 admits-kind-bit-requires : (t : ℕ) → admits-lts.Need-kind-bit-requires (admits-claims t) (admits-at t) admits.Post
 admits-kind-bit-requires t c κs = search needs
 
@@ -111,12 +116,12 @@ admits-has-requires t c κs = search needs
 admits-returns : (t : ℕ) → admits-lts.Need-returns (admits-claims t) (admits-at t) admits.Post
 admits-returns t c =
     without-kind (c .before .before .before .before .before .before .before .args .shapes .now) (c .before .before .before .before .before .before .before .args .row) (c .before .before .before .before .before .before .before .args .nodes .now) (c .before .before .before .before .before .before .before .args .at) (c .before .before .before .before .before .before .before .args .pool .now)
-    (seen (c .before .before .before .before .before .before .before .args .shapes .now) (c .before .before .before .before .before .before .before .args .row) (c .before .before .before .before .before .before .before .args .nodes .now) (c .before .before .before .before .before .before .before .args .at) (c .before .before .before .before .before .before .before .args .pool .now) (c .before .before .before .kind-bit .ensures) (c .before .before .kinds .ensures) (c .before .has .ensures)) (c .if1 .taken)
+    (seen-here t (c .before)) (c .if1 .taken)
 
 admits-returns-2 : (t : ℕ) → admits-lts.Need-returns-2 (admits-claims t) (admits-at t) admits.Post
 admits-returns-2 t c =
     single (c .before .before .before .before .before .before .before .before .args .shapes .now) (c .before .before .before .before .before .before .before .before .args .row) (c .before .before .before .before .before .before .before .before .args .nodes .now) (c .before .before .before .before .before .before .before .before .args .at) (c .before .before .before .before .before .before .before .before .args .pool .now)
-    (seen (c .before .before .before .before .before .before .before .before .args .shapes .now) (c .before .before .before .before .before .before .before .before .args .row) (c .before .before .before .before .before .before .before .before .args .nodes .now) (c .before .before .before .before .before .before .before .before .args .at) (c .before .before .before .before .before .before .before .before .args .pool .now) (c .before .before .before .before .kind-bit .ensures) (c .before .before .before .kinds .ensures) (c .before .before .has .ensures)) (c .before .if1 .left) (c .if2 .taken)
+    (seen-here t (c .before .before)) (c .before .if1 .left) (c .if2 .taken)
 
 admits-row-size-requires : (t : ℕ) → admits-lts.Need-row-size-requires (admits-claims t) (admits-at t) admits.Post
 admits-row-size-requires t c κs = search needs
@@ -125,7 +130,7 @@ admits-add-end : (t : ℕ) → admits-lts.Need-add-end (admits-claims t) (admits
 admits-add-end t c = omega (arith, value-ends (c .before .before .before .before .before .before .before .before .before .pre .1 .holds) .1, c .row-size .ensures, c .before .before .before .before .before .before .before .before .before .good .1 .1 .0 .0)
 
 admits-add-admits-items : (t : ℕ) → admits-lts.Need-add-admits-items (admits-claims t) (admits-at t) admits.Post
-admits-add-admits-items t c = omega (arith, shape-ends (c .before .before .before .before .before .before .before .before .before .before .pre .1 .held) .0, shape-ends (c .before .before .before .before .before .before .before .before .before .before .pre .1 .held) .1, c .before .before .before .before .before .before .before .before .before .before .good .0 .0)
+admits-add-admits-items t c = omega (arith, held-within (c .before .before .before .before .before .before .before .before .before .before .pre .1 .held) .0, held-within (c .before .before .before .before .before .before .before .before .before .before .pre .1 .held) .1, c .before .before .before .before .before .before .before .before .before .before .good .0 .0)
 
 admits-add-admits-items-2 : (t : ℕ) → admits-lts.Need-add-admits-items-2 (admits-claims t) (admits-at t) admits.Post
 admits-add-admits-items-2 t c = omega (arith, value-ends (c .before .before .before .before .before .before .before .before .before .before .pre .1 .holds) .0, value-ends (c .before .before .before .before .before .before .before .before .before .before .pre .1 .holds) .1, c .before .before .before .before .before .before .before .before .before .before .good .1 .1 .0 .0)
@@ -134,22 +139,22 @@ admits-admits-items-requires : (t : ℕ) → admits-lts.Need-admits-items-requir
 admits-admits-items-requires t c κs = (
   omega (arith, c .before .before .before .before .before .before .before .before .before .before .pre .0, value-ends (c .before .before .before .before .before .before .before .before .before .before .pre .1 .holds) .0, value-ends (c .before .before .before .before .before .before .before .before .before .before .pre .1 .holds) .1),
   list-asks (c .before .before .before .before .before .before .before .before .before .before .args .shapes .now) (c .before .before .before .before .before .before .before .before .before .before .args .row) (c .before .before .before .before .before .before .before .before .before .before .args .nodes .now) (c .before .before .before .before .before .before .before .before .before .before .args .at) (c .before .before .before .before .before .before .before .before .before .before .args .pool .now)
-      (seen (c .before .before .before .before .before .before .before .before .before .before .args .shapes .now) (c .before .before .before .before .before .before .before .before .before .before .args .row) (c .before .before .before .before .before .before .before .before .before .before .args .nodes .now) (c .before .before .before .before .before .before .before .before .before .before .args .at) (c .before .before .before .before .before .before .before .before .before .before .args .pool .now) (c .before .before .before .before .before .before .kind-bit .ensures) (c .before .before .before .before .before .kinds .ensures) (c .before .before .before .before .has .ensures)) (c .before .before .before .if1 .left) (c .before .row-size .ensures) (c .if3 .taken) (c .before .before .before .before .before .before .before .before .before .before .pre .1),
+      (seen-here t (c .before .before .before .before)) (c .before .before .before .if1 .left) (c .before .row-size .ensures) (c .if3 .taken) (c .before .before .before .before .before .before .before .before .before .before .pre .1),
 )
 
 admits-returns-3 : (t : ℕ) → admits-lts.Need-returns-3 (admits-claims t) (admits-at t) admits.Post
 admits-returns-3 t c =
     list-told (c .before .before .before .before .before .before .before .before .before .before .before .args .shapes .now) (c .before .before .before .before .before .before .before .before .before .before .before .args .row) (c .before .before .before .before .before .before .before .before .before .before .before .args .nodes .now) (c .before .before .before .before .before .before .before .before .before .before .before .args .at) (c .before .before .before .before .before .before .before .before .before .before .before .args .pool .now)
-    (seen (c .before .before .before .before .before .before .before .before .before .before .before .args .shapes .now) (c .before .before .before .before .before .before .before .before .before .before .before .args .row) (c .before .before .before .before .before .before .before .before .before .before .before .args .nodes .now) (c .before .before .before .before .before .before .before .before .before .before .before .args .at) (c .before .before .before .before .before .before .before .before .before .before .before .args .pool .now) (c .before .before .before .before .before .before .before .kind-bit .ensures) (c .before .before .before .before .before .before .kinds .ensures) (c .before .before .before .before .before .has .ensures)) (c .before .before .before .before .if1 .left) (c .before .before .row-size .ensures) (c .before .if3 .taken) (c .admits-items .ensures)
+    (seen-here t (c .before .before .before .before .before)) (c .before .before .before .before .if1 .left) (c .before .before .row-size .ensures) (c .before .if3 .taken) (c .admits-items .ensures)
 
 admits-members-requires : (t : ℕ) → admits-lts.Need-members-requires (admits-claims t) (admits-at t) admits.Post
 admits-members-requires t c κs = (
-  omega (arith, shape-ends (c .before .before .before .before .before .before .before .before .before .before .pre .1 .held) .0, shape-ends (c .before .before .before .before .before .before .before .before .before .before .pre .1 .held) .1),
+  omega (arith, held-within (c .before .before .before .before .before .before .before .before .before .before .pre .1 .held) .0, held-within (c .before .before .before .before .before .before .before .before .before .before .pre .1 .held) .1),
   omega (
     arith,
     members-within (c .before .before .before .before .before .before .before .before .before .before .args .shapes .now) (c .before .before .before .before .before .before .before .before .before .before .args .row) (c .before .before .before .before .before .before .before .before .before .before .args .nodes .now) (c .before .before .before .before .before .before .before .before .before .before .args .at) (c .before .before .before .before .before .before .before .before .before .before .args .pool .now)
-        (seen (c .before .before .before .before .before .before .before .before .before .before .args .shapes .now) (c .before .before .before .before .before .before .before .before .before .before .args .row) (c .before .before .before .before .before .before .before .before .before .before .args .nodes .now) (c .before .before .before .before .before .before .before .before .before .before .args .at) (c .before .before .before .before .before .before .before .before .before .before .args .pool .now) (c .before .before .before .before .before .before .kind-bit .ensures) (c .before .before .before .before .before .kinds .ensures) (c .before .before .before .before .has .ensures)) (c .before .before .before .if1 .left) (c .before .row-size .ensures) (c .before .before .if2 .left) (c .if3 .left) (c .before .before .before .before .before .before .before .before .before .before .pre .1),
-    shape-ends (c .before .before .before .before .before .before .before .before .before .before .pre .1 .held) .1,
+        (seen-here t (c .before .before .before .before)) (c .before .before .before .if1 .left) (c .before .row-size .ensures) (c .before .before .if2 .left) (c .if3 .left) (c .before .before .before .before .before .before .before .before .before .before .pre .1),
+    held-within (c .before .before .before .before .before .before .before .before .before .before .pre .1 .held) .1,
     c .before .before .before .before .before .before .before .before .before .before .good .0 .0,
   ),
 )
@@ -158,7 +163,7 @@ admits-size-requires : (t : ℕ) → admits-lts.Need-size-requires (admits-claim
 admits-size-requires t c κs = search needs
 
 admits-add-to : (t : ℕ) → admits-lts.Need-add-to (admits-claims t) (admits-at t) admits.Post
-admits-add-to t c = omega (arith, shape-ends (c .before .before .before .before .before .before .before .before .before .before .before .before .pre .1 .held) .1, c .size .ensures, c .before .before .before .before .before .before .before .before .before .before .before .before .good .0 .0)
+admits-add-to t c = omega (arith, held-within (c .before .before .before .before .before .before .before .before .before .before .before .before .pre .1 .held) .1, c .size .ensures, c .before .before .before .before .before .before .before .before .before .before .before .before .good .0 .0)
 
 admits-add-admits-members : (t : ℕ) → admits-lts.Need-add-admits-members (admits-claims t) (admits-at t) admits.Post
 admits-add-admits-members t c = omega (arith, value-ends (c .before .before .before .before .before .before .before .before .before .before .before .before .pre .1 .holds) .0, value-ends (c .before .before .before .before .before .before .before .before .before .before .before .before .pre .1 .holds) .1, c .before .before .before .before .before .before .before .before .before .before .before .before .good .1 .1 .0 .0)
@@ -167,13 +172,13 @@ admits-admits-members-requires : (t : ℕ) → admits-lts.Need-admits-members-re
 admits-admits-members-requires t c κs = (
   omega (arith, c .before .before .before .before .before .before .before .before .before .before .before .before .pre .0, value-ends (c .before .before .before .before .before .before .before .before .before .before .before .before .pre .1 .holds) .0, value-ends (c .before .before .before .before .before .before .before .before .before .before .before .before .pre .1 .holds) .1),
   rec-asks (c .before .before .before .before .before .before .before .before .before .before .before .before .args .shapes .now) (c .before .before .before .before .before .before .before .before .before .before .before .before .args .row) (c .before .before .before .before .before .before .before .before .before .before .before .before .args .nodes .now) (c .before .before .before .before .before .before .before .before .before .before .before .before .args .at) (c .before .before .before .before .before .before .before .before .before .before .before .before .args .pool .now)
-      (seen (c .before .before .before .before .before .before .before .before .before .before .before .before .args .shapes .now) (c .before .before .before .before .before .before .before .before .before .before .before .before .args .row) (c .before .before .before .before .before .before .before .before .before .before .before .before .args .nodes .now) (c .before .before .before .before .before .before .before .before .before .before .before .before .args .at) (c .before .before .before .before .before .before .before .before .before .before .before .before .args .pool .now) (c .before .before .before .before .before .before .before .before .kind-bit .ensures) (c .before .before .before .before .before .before .before .kinds .ensures) (c .before .before .before .before .before .before .has .ensures)) (c .before .before .before .before .before .if1 .left) (c .before .before .before .row-size .ensures) (c .before .before .before .before .if2 .left) (c .before .before .if3 .left) (c .before .members .ensures) (c .size .ensures) (c .before .before .before .before .before .before .before .before .before .before .before .before .pre .1),
+      (seen-here t (c .before .before .before .before .before .before)) (c .before .before .before .before .before .if1 .left) (c .before .before .before .row-size .ensures) (c .before .before .before .before .if2 .left) (c .before .before .if3 .left) (c .before .members .ensures) (c .size .ensures) (c .before .before .before .before .before .before .before .before .before .before .before .before .pre .1),
 )
 
 admits-returns-4 : (t : ℕ) → admits-lts.Need-returns-4 (admits-claims t) (admits-at t) admits.Post
 admits-returns-4 t c =
     rec-fails (c .before .before .before .before .before .before .before .before .before .before .before .before .before .before .args .shapes .now) (c .before .before .before .before .before .before .before .before .before .before .before .before .before .before .args .row) (c .before .before .before .before .before .before .before .before .before .before .before .before .before .before .args .nodes .now) (c .before .before .before .before .before .before .before .before .before .before .before .before .before .before .args .at) (c .before .before .before .before .before .before .before .before .before .before .before .before .before .before .args .pool .now)
-    (seen (c .before .before .before .before .before .before .before .before .before .before .before .before .before .before .args .shapes .now) (c .before .before .before .before .before .before .before .before .before .before .before .before .before .before .args .row) (c .before .before .before .before .before .before .before .before .before .before .before .before .before .before .args .nodes .now) (c .before .before .before .before .before .before .before .before .before .before .before .before .before .before .args .at) (c .before .before .before .before .before .before .before .before .before .before .before .before .before .before .args .pool .now) (c .before .before .before .before .before .before .before .before .before .before .kind-bit .ensures) (c .before .before .before .before .before .before .before .before .before .kinds .ensures) (c .before .before .before .before .before .before .before .before .has .ensures)) (c .before .before .before .before .before .before .before .if1 .left) (c .before .before .before .before .before .row-size .ensures) (c .before .before .before .before .before .before .if2 .left) (c .before .before .before .before .if3 .left) (c .before .before .before .members .ensures) (c .before .before .size .ensures)
+    (seen-here t (c .before .before .before .before .before .before .before .before)) (c .before .before .before .before .before .before .before .if1 .left) (c .before .before .before .before .before .row-size .ensures) (c .before .before .before .before .before .before .if2 .left) (c .before .before .before .before .if3 .left) (c .before .before .before .members .ensures) (c .before .before .size .ensures)
     (c .before .admits-members .ensures) (c .if4 .taken)
 
 admits-add-missing-have-null : (t : ℕ) → admits-lts.Need-add-missing-have-null (admits-claims t) (admits-at t) admits.Post
@@ -182,12 +187,12 @@ admits-add-missing-have-null t c = omega (arith, value-ends (c .before .before .
 admits-missing-have-null-requires : (t : ℕ) → admits-lts.Need-missing-have-null-requires (admits-claims t) (admits-at t) admits.Post
 admits-missing-have-null-requires t c κs =
     rec-asks (c .before .before .before .before .before .before .before .before .before .before .before .before .before .before .args .shapes .now) (c .before .before .before .before .before .before .before .before .before .before .before .before .before .before .args .row) (c .before .before .before .before .before .before .before .before .before .before .before .before .before .before .args .nodes .now) (c .before .before .before .before .before .before .before .before .before .before .before .before .before .before .args .at) (c .before .before .before .before .before .before .before .before .before .before .before .before .before .before .args .pool .now)
-    (seen (c .before .before .before .before .before .before .before .before .before .before .before .before .before .before .args .shapes .now) (c .before .before .before .before .before .before .before .before .before .before .before .before .before .before .args .row) (c .before .before .before .before .before .before .before .before .before .before .before .before .before .before .args .nodes .now) (c .before .before .before .before .before .before .before .before .before .before .before .before .before .before .args .at) (c .before .before .before .before .before .before .before .before .before .before .before .before .before .before .args .pool .now) (c .before .before .before .before .before .before .before .before .before .before .kind-bit .ensures) (c .before .before .before .before .before .before .before .before .before .kinds .ensures) (c .before .before .before .before .before .before .before .before .has .ensures)) (c .before .before .before .before .before .before .before .if1 .left) (c .before .before .before .before .before .row-size .ensures) (c .before .before .before .before .before .before .if2 .left) (c .before .before .before .before .if3 .left) (c .before .before .before .members .ensures) (c .before .before .size .ensures) (c .before .before .before .before .before .before .before .before .before .before .before .before .before .before .pre .1)
+    (seen-here t (c .before .before .before .before .before .before .before .before)) (c .before .before .before .before .before .before .before .if1 .left) (c .before .before .before .before .before .row-size .ensures) (c .before .before .before .before .before .before .if2 .left) (c .before .before .before .before .if3 .left) (c .before .before .before .members .ensures) (c .before .before .size .ensures) (c .before .before .before .before .before .before .before .before .before .before .before .before .before .before .pre .1)
 
 admits-returns-5 : (t : ℕ) → admits-lts.Need-returns-5 (admits-claims t) (admits-at t) admits.Post
 admits-returns-5 t c =
     rec-told (c .before .before .before .before .before .before .before .before .before .before .before .before .before .before .before .args .shapes .now) (c .before .before .before .before .before .before .before .before .before .before .before .before .before .before .before .args .row) (c .before .before .before .before .before .before .before .before .before .before .before .before .before .before .before .args .nodes .now) (c .before .before .before .before .before .before .before .before .before .before .before .before .before .before .before .args .at) (c .before .before .before .before .before .before .before .before .before .before .before .before .before .before .before .args .pool .now)
-    (seen (c .before .before .before .before .before .before .before .before .before .before .before .before .before .before .before .args .shapes .now) (c .before .before .before .before .before .before .before .before .before .before .before .before .before .before .before .args .row) (c .before .before .before .before .before .before .before .before .before .before .before .before .before .before .before .args .nodes .now) (c .before .before .before .before .before .before .before .before .before .before .before .before .before .before .before .args .at) (c .before .before .before .before .before .before .before .before .before .before .before .before .before .before .before .args .pool .now) (c .before .before .before .before .before .before .before .before .before .before .before .kind-bit .ensures) (c .before .before .before .before .before .before .before .before .before .before .kinds .ensures) (c .before .before .before .before .before .before .before .before .before .has .ensures)) (c .before .before .before .before .before .before .before .before .if1 .left) (c .before .before .before .before .before .before .row-size .ensures) (c .before .before .before .before .before .before .before .if2 .left) (c .before .before .before .before .before .if3 .left) (c .before .before .before .before .members .ensures) (c .before .before .before .size .ensures)
+    (seen-here t (c .before .before .before .before .before .before .before .before .before)) (c .before .before .before .before .before .before .before .before .if1 .left) (c .before .before .before .before .before .before .row-size .ensures) (c .before .before .before .before .before .before .before .if2 .left) (c .before .before .before .before .before .if3 .left) (c .before .before .before .before .members .ensures) (c .before .before .before .size .ensures)
     (c .before .before .admits-members .ensures) (c .before .if4 .left) (c .missing-have-null .ensures)
 
 abbrev admits-items-Inv-loop : admits-items-lts.InvT-loop
@@ -267,7 +272,7 @@ admits-members-loop-holds : (t : ℕ) → admits-members-lts.Need-loop-holds (ad
 admits-members-loop-holds t c = named.walk-begins (c .before .before .before .args .shapes .now) (c .before .before .before .args .from) (c .before .before .before .args .to) (c .before .before .before .args .nodes .now) (c .before .before .before .args .at) (c .before .before .before .args .end) (c .before .before .before .args .pool .now)
 
 admits-members-listed-requires : (t : ℕ) → admits-members-lts.Need-listed-requires (admits-members-claims t) (admits-members-at t) admits-members.Post admits-members-Inv-loop admits-members-μ-loop
-admits-members-listed-requires t c κs = named.some-listed (c .before .before .before .before .before .pre .1 .held)
+admits-members-listed-requires t c κs = some-listed (c .before .before .before .before .before .pre .1 .held)
 
 admits-members-enum-known-row : (t : ℕ) → admits-members-lts.Need-enum-known-row (admits-members-claims t) (admits-members-at t) admits-members.Post admits-members-Inv-loop admits-members-μ-loop
 admits-members-enum-known-row t c = search needs

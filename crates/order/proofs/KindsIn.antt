@@ -1,0 +1,121 @@
+-- Whether a shape's kinds are all in another, told from the kinds' bits: they add none to the other's. Assumes nothing.
+use Prim.Native.Nat.{ℕ, _+_, _*_}
+use mathlib.Core.Path.{_≡_, refl, sym, ap, _∙_}
+use mathlib.Core.Logic.{_⊎_, inl, inr}
+use mathlib.Core.Bool.{Bool, true, false, not, _&&_, _||_, false≢true}
+use mathlib.Core.List.{List, [], _∷_}
+use lib.Bits.{bitOr}
+use Rattle.definitions.specs.Shape.{Kind, all-kinds, every, Numeric, no-number, int-only, int-and-dec, Shape, shape, has, has-int, has-dec, has-list, has-rec}
+use Rattle.definitions.specs.Order.{kinds-in}
+use Rattle.definitions.specs.Join.{join}
+use Rattle.laws.specs.Bools.{and-left, and-right, and-intro, tell}
+use Rattle.laws.specs.JoinParts.{has-join}
+use Rattle.shapes.specs.Shapes.{bit, numeric-bits, kind-bit, kind-bits, has-bit}
+use Rattle.shapes.specs.ShapesLaws.{has-kind, union-bits}
+
+-- ---- bits from kinds
+
+-- the sum of the bits of the kinds that pass
+abbrev sum-of : (Kind → Bool) → ℕ
+sum-of f =
+    bit (f Kind.null)
+    + 2 * bit (f Kind.bool)
+    + 4 * (bit (f Kind.int) + 2 * bit (f Kind.dec))
+    + 16 * bit (f Kind.text)
+    + 32 * bit (f Kind.list)
+    + 64 * bit (f Kind.rec)
+
+numeric-sum : (m : Numeric) → numeric-bits m ≡ bit (has-int m) + 2 * bit (has-dec m)
+unfolding numeric-bits has-int has-dec bit
+numeric-sum no-number = refl
+numeric-sum int-only = refl
+numeric-sum int-and-dec = refl
+
+bits-sum : (s : Shape) → kind-bits s ≡ sum-of (λ k. has k s)
+unfolding kind-bits has
+bits-sum (shape n b m x e r) =
+    ap (λ (y : ℕ). bit n + 2 * bit b + 4 * y + 16 * bit x + 32 * bit (has-list e) + 64 * bit (has-rec r)) (numeric-sum m)
+
+same-bits : (s t : Shape) → ((k : Kind) → has k s ≡ has k t) → kind-bits s ≡ kind-bits t
+same-bits s t h =
+    bits-sum s
+    ∙ (λ i.
+    bit (h Kind.null i)
+    + 2 * bit (h Kind.bool i)
+    + 4 * (bit (h Kind.int i) + 2 * bit (h Kind.dec i))
+    + 16 * bit (h Kind.text i)
+    + 32 * bit (h Kind.list i)
+    + 64 * bit (h Kind.rec i))
+    ∙ sym (bits-sum t)
+
+-- ---- all kinds
+
+data Among (k : Kind) : List Kind → Type 0 where
+  here : {ks : List Kind} → Among k (k ∷ ks)
+  there : {j : Kind} {ks : List Kind} → Among k ks → Among k (j ∷ ks)
+
+among-all : (k : Kind) → Among k all-kinds
+unfolding all-kinds
+among-all Kind.null = here
+among-all Kind.bool = there here
+among-all Kind.int = there (there here)
+among-all Kind.dec = there (there (there here))
+among-all Kind.text = there (there (there (there here)))
+among-all Kind.list = there (there (there (there (there here))))
+among-all Kind.rec = there (there (there (there (there (there here)))))
+
+every-at : (p : Kind → Bool) (k : Kind) (ks : List Kind) → Among k ks → every p ks ≡ true → p k ≡ true
+unfolding every
+every-at p k _ (here {ks}) h = and-left (p k) (every p ks) h
+every-at p k _ (there {j} {ks} i) h = every-at p k ks i (and-right (p j) (every p ks) h)
+
+every-all : (p : Kind → Bool) (ks : List Kind) → ((k : Kind) → p k ≡ true) → every p ks ≡ true
+unfolding every
+every-all p [] h = refl
+every-all p (k ∷ ks) h = and-intro (h k) (every-all p ks h)
+
+-- nothing is added
+adds-none : (p q : Bool) → (not p || q) ≡ true → (p || q) ≡ q
+adds-none true true e = refl
+adds-none true false e = absurd (false≢true e)
+adds-none false q e = refl
+
+none-added : (p q : Bool) → (p || q) ≡ q → (not p || q) ≡ true
+none-added true q e = sym e
+none-added false q e = refl
+
+-- a kind of the first shape is one of the second's
+pub kind-in : (k : Kind) (s t : Shape) → kinds-in s t ≡ true → has k s ≡ true → has k t ≡ true
+unfolding kinds-in
+kind-in k s t h e =
+    sym (adds-none (has k s) (has k t) (every-at (λ j. not (has j s) || has j t) k all-kinds (among-all k) h))
+    ∙ ap (λ (b : Bool). b || has k t) e
+
+-- ---- what the bits tell
+
+pub kinds-all : (s t : Shape) → bitOr (kind-bits s) (kind-bits t) ≡ kind-bits t → kinds-in s t ≡ true
+unfolding kinds-in
+kinds-all s t h =
+    every-all (λ j. not (has j s) || has j t) all-kinds
+    (λ k.
+    none-added (has k s) (has k t)
+    (sym (has-join k s t)
+    ∙ sym (has-kind k (join s t))
+    ∙ ap (λ (x : ℕ). has-bit x (kind-bit k)) (sym (union-bits s t) ∙ h)
+    ∙ has-kind k t))
+
+bits-all : (s t : Shape) → kinds-in s t ≡ true → bitOr (kind-bits s) (kind-bits t) ≡ kind-bits t
+unfolding kinds-in
+bits-all s t h =
+    union-bits s t
+    ∙ same-bits (join s t) t
+    (λ k.
+    has-join k s t
+    ∙ adds-none (has k s) (has k t) (every-at (λ j. not (has j s) || has j t) k all-kinds (among-all k) h))
+
+pub kinds-beyond : (s t : Shape) → (bitOr (kind-bits s) (kind-bits t) ≡ kind-bits t → ⊥) → kinds-in s t ≡ false
+kinds-beyond s t h = go (tell (kinds-in s t))
+  where
+    go : (kinds-in s t ≡ true) ⊎ (kinds-in s t ≡ false) → kinds-in s t ≡ false
+    go (inl e) = absurd (h (bits-all s t e))
+    go (inr e) = e

@@ -1,0 +1,4 @@
+pub mod KindsIn
+pub mod Lacking
+pub mod Named
+pub mod Wholes
