@@ -33,7 +33,7 @@ is-deeper-μ-loop shapes row left end i₀ i = end - i
 
 is-deeper-returns : (t : ℕ) → is-deeper-lts.Need-returns (claims t) (is-deeper-at t) is-deeper.Post is-deeper-Inv-loop is-deeper-μ-loop
 is-deeper-returns t c =
-    deeper-than-none _ _ (c .if1 .taken)
+    deeper-than-none _ _ (omega (arith, c .if1 .taken))
 
 is-deeper-size-requires : (t : ℕ) → is-deeper-lts.Need-size-requires (claims t) (is-deeper-at t) is-deeper.Post is-deeper-Inv-loop is-deeper-μ-loop
 is-deeper-size-requires t c κs =

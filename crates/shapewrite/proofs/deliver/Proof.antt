@@ -27,7 +27,7 @@ answer-requires-2 c κs = search needs
 
 returns-2 : tie.Need-returns-2
 returns-2 c =
-    delivers-short (now (c .before .before .before .before .before .before .before .before .before .args .shapes)) (now (c .before .before .before .before .before .before .before .before .before .args .pool)) (c .before .before .before .before .before .before .before .before .before .args .limits) (now (c .before .before .before .before .before .before .before .before .before .args .output)) (c .before .before .before .before .before .measure .ensures) (c .before .before .before .length .given .1) (c .before .if1 .taken) (c .answer2 .ensures)
+    delivers-short (now (c .before .before .before .before .before .before .before .before .before .args .shapes)) (now (c .before .before .before .before .before .before .before .before .before .args .pool)) (c .before .before .before .before .before .before .before .before .before .args .limits) (now (c .before .before .before .before .before .before .before .before .before .args .output)) (c .before .before .before .before .before .measure .ensures) (c .before .before .before .length .given .1) (omega (arith, c .before .if1 .taken)) (c .answer2 .ensures)
 
 write-form-requires : tie.Need-write-form-requires
 write-form-requires c κs = printable (c .before .before .before .before .before .before .before .before .before .pre)
@@ -54,7 +54,7 @@ returns-3 c =
     (now (c .before .before .before .before .before .before .before .before .before .before .before .before .before .before .before .before .before .before .args .output))
     (c .before .before .before .before .before .before .before .before .before .before .before .before .before .before .measure .ensures)
     (c .before .before .before .before .before .before .before .before .before .before .before .before .length .given .1)
-    (c .before .before .before .before .before .before .before .before .before .before .if1 .left)
+    (omega (arith, c .before .before .before .before .before .before .before .before .before .before .if1 .left))
     (c .before .before .before .before .before .before .before .before .write-form .ensures)
     (c .before .before .before .print .ensures)
     (c .answer3 .ensures)

@@ -10,7 +10,7 @@ size-requires : tie.Need-size-requires
 size-requires c κs = search needs
 
 returns : tie.Need-returns
-returns c = over-forms (c .before .before .before .before .before .args .limits) (c .before .before .size .ensures) (c .if1 .taken)
+returns c = over-forms (c .before .before .before .before .before .args .limits) (c .before .before .size .ensures) (omega (arith, c .if1 .taken))
 
 is-deeper-requires : tie.Need-is-deeper-requires
 is-deeper-requires c κs =
@@ -31,11 +31,18 @@ add-length : tie.Need-add-length
 add-length c = omega (arith, c .form-length .ensures (c .before .before .before .before .before .before .before .before .pre .shape) (c .before .before .before .before .before .before .before .before .pre .holds), text-bound (c .before .before .before .before .before .before .before .before .pre))
 
 returns-3 : tie.Need-returns-3
-returns-3 c = over-bytes (c .before .before .before .before .before .before .before .before .before .before .args .limits) (c .before .before .form-length .ensures) (c .if3 .taken)
+returns-3 c = over-bytes (c .before .before .before .before .before .before .before .before .before .before .args .limits) (c .before .before .form-length .ensures) (omega (arith, c .if3 .taken))
 
 returns-4 : tie.Need-returns-4
 returns-4 c =
-    fits (c .before .before .before .before .before .before .before .before .before .before .args .limits) (c .before .before .before .before .before .before .before .size .ensures) (c .before .before .before .before .before .if1 .left) (c .before .before .before .before .is-deeper .ensures) (c .before .before .before .if2 .left) (c .before .before .form-length .ensures) (c .if3 .left)
+    fits
+    (c .before .before .before .before .before .before .before .before .before .before .args .limits)
+    (c .before .before .before .before .before .before .before .size .ensures)
+    (omega (arith, c .before .before .before .before .before .if1 .left))
+    (c .before .before .before .before .is-deeper .ensures)
+    (c .before .before .before .if2 .left)
+    (c .before .before .form-length .ensures)
+    (omega (arith, c .if3 .left))
 
 pub measure-spec : {M : Type 1} → statement M
 measure-spec =
