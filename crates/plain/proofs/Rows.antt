@@ -4,17 +4,15 @@ use native.Mathlib.Nat.{add-zero}
 use native.Mathlib.Omega.{arith}
 use mathlib.Core.Path.{_≡_, refl, sym, ap, _∙_}
 use mathlib.Core.List.{List, _∷_, _++_}
-use lib.ListN.{length, getD, drop, length-append, length-take, length-drop}
-use lib.Seq.{getD-drop, drop-drop, take-length}
+use lib.ListN.{length, getD, drop, length-append, length-drop}
+use lib.Seq.{getD-drop, drop-drop}
 use Rattle.definitions.specs.Bytes.{Bytes}
 use Rattle.definitions.specs.Number.{Number}
 use Rattle.definitions.specs.Value.{Value, Items, Members, size}
 use Rattle.definitions.specs.Plain.{plain}
-use Rattle.pool.specs.Pool.{words, text-in}
-use Rattle.pool.specs.PoolLaws.{text-in-front}
-use Rattle.nodes.specs.Nodes.{kind-code, head-word, Refers, refers, Rows, number-row, text-row, list-rows, rec-rows, Item-rows, Member-rows, row-size}
-use Rattle.nodes.specs.NodesLaws.{reference-word, reference-bytes, length-rows, Begins, rows-begin, row-size-is, row-name-is}
-use Rattle.plain.specs.Table.{Stands, Used, Bounded-numbers}
+use Rattle.nodes.specs.Nodes.{kind-code, head-word, Refers, Rows, number-row, text-row, list-rows, rec-rows, Item-rows, Member-rows, row-size}
+use Rattle.nodes.specs.NodesLaws.{length-rows, Begins, rows-begin, row-size-is, row-name-is}
+use Rattle.plain.specs.Table.{Stands, Bounded-numbers}
 use Rattle.plain.specs.HeadLaws.{bits-small, head-kind, head-length}
 
 pub size-some : (v : Value) → 1 ≤ size v
@@ -113,23 +111,4 @@ opens {nodes} {row = row} s o =
     record {
       inner = sym (drop-drop 3 row nodes) ∙ ap (drop 3) (s .placed ∙ ap (λ (l : List ℕ). l ++ s .rest) (o .same));
       ends = omega (arith, length-rows (s .encoded), ap length (o .same));
-    }
-
--- ---- a text of the pool
-
--- where a text stands, from its reference
-pub record Found (pool : List ℕ) (t : Bytes) (k : ℕ) : Type 0 where
-  pub within : k % 65536 + words (k / 65536) ≤ length pool
-  pub text : text-in pool (k % 65536) (k / 65536) ≡ t
-
-used-length : {pool p : List ℕ} → Used pool p → length p ≤ length pool
-used-length {pool} {p} u = omega (arith, length-take (length p) pool, ap length (u .front))
-
-pub found : {pool p : List ℕ} {t : Bytes} {k : ℕ} → Used pool p → Refers p t k → Found pool t k
-found {pool} {p} {t} u (refers w h e) =
-    let g : w < 65536 = omega (arith, u .small) in
-    record {
-      within = rw (reference-word w (length t) g, reference-bytes w (length t) g) (omega (arith, used-length u));
-      text = rw (reference-word w (length t) g, reference-bytes w (length t) g)
-          (text-in-front p pool (length p) w (length t) (u .front ∙ sym (take-length p)) h ∙ e);
     }

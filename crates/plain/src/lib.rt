@@ -19,7 +19,7 @@ pub fn written_length(nodes: &[u64], at: usize) -> usize
 }
 
 // Writes a literal name.
-fn write_name(out: &mut [u8], at: usize, name: &[u8]) -> usize
+pub fn write_name(out: &mut [u8], at: usize, name: &[u8]) -> usize
     requires { ⌜ at + length (now name) ≤ length (now out) ⌝ }
     ensures written { λ r. ⌜ Writes (now (out .entry)) (now (out .exit)) at (now (name .entry)) r ⌝ }
 {

@@ -6,7 +6,7 @@ use denote.Ref.{now}
 use Rattle.definitions.specs.Plain.{plain-text}
 use Rattle.pool.specs.Pool.{text-in}
 use Rattle.plain.proofs.Writing.{writes-as}
-use Rattle.plain.proofs.Rows.{found}
+use Rattle.plain.specs.TableLaws.{found}
 use Rattle.plain.proofs.write_reference.Statement.{statement}
 use Rattle.plain.proofs.write_reference.Tie as tie
 

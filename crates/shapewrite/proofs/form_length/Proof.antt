@@ -1,0 +1,18 @@
+-- `shapewrite::form_length` meets its contract: the place behind a form printed from place 0 on is its length. Assumes nothing.
+use native.Mathlib.Nat.{zero-add}
+use mathlib.Core.Path.{_∙_}
+use borrow.Author.Needs.{needs}
+use Rattle.shapewrite.proofs.form_length.Statement.{statement}
+use Rattle.shapewrite.proofs.form_length.Tie as tie
+
+slice-aggregate-write-form : tie.Need-slice-aggregate-write-form
+slice-aggregate-write-form c = search needs
+
+write-form-requires : tie.Need-write-form-requires
+write-form-requires c κs = search needs
+
+returns : tie.Need-returns
+returns c s h = c .before .write-form .ensures s h .end ∙ zero-add _
+
+pub form-length-spec : {M : Type 1} → statement M
+form-length-spec = tie.close (tie.spec slice-aggregate-write-form write-form-requires returns)
