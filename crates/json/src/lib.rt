@@ -35,7 +35,7 @@ pub fn read_document(
     let start = Cursor {
         at: 0,
         begun: 0,
-        top,
+        top, // behind the other text's
     };
     match value::read_value(doc, nodes, pool, limits.values, limits.nesting, start, 0) {
         ValueRead::Done { to, written: _ } => {

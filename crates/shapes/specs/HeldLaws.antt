@@ -1,17 +1,38 @@
 -- Laws of what a shape table and a pool hold: the parts of a shape, and its members one by one. Assumes nothing.
 use Prim.Native.Nat.{ℕ, _+_, _*_, _/_, _%_, _≤_, _<_}
-use mathlib.Core.Path.{_≡_, refl, ap, _∙_}
+use mathlib.Core.Path.{_≡_, refl, sym, ap, _∙_}
 use mathlib.Core.Bool.{Bool}
 use mathlib.Core.List.{List}
 use native.Mathlib.Omega.{arith}
-use lib.ListN.{length, getD}
+use lib.ListN.{length, take, drop, getD, take-append-drop}
+use lib.Seq.{length-take-le}
 use Rattle.definitions.specs.Bytes.{Bytes}
 use Rattle.definitions.specs.Shape.{Kind, Numeric, Shape, shape, Element, list-of, Record, rec-of, Fields, no-fields, field, has, forms}
 use Rattle.pool.specs.Pool.{text-in}
-use Rattle.shapes.specs.Shapes.{kind-bit, kind-bits, has-bit, size-at, members-at}
+use Rattle.shapes.specs.Shapes.{kind-bit, kind-bits, has-bit, Shape-rows, size-at, members-at}
 use Rattle.shapes.specs.ShapesLaws.{has-kind, name-text, forms-some, stands-kinds, stands-size, stands-name, stands-within, stands-element, stands-members, Some-fields, some-fields, fields-left, fields-first, fields-rest, fields-end, fields-some}
 use Rattle.shapes.specs.Members.{Listed, Some-listed, Found-at}
 use Rattle.shapes.specs.Held.{Holds-shape, Holds-fields}
+
+-- ---- a table that was read
+
+-- a shape in the first n words of the table, its names in the first words of the pool, which may have changed behind them
+pub held-behind
+    : (shapes pool pool′ : List ℕ) (n top : ℕ) {m : ℕ} {s : Shape} → Shape-rows (take top pool) m s (take n shapes) → top ≤ length pool
+    → top < 65536 → take top pool′ ≡ take top pool → Holds-shape shapes pool′ 0 s
+held-behind shapes pool pool′ n top {m} r h l e =
+    record {
+      used = take top pool;
+      name = m;
+      stands = record { rows = take n shapes; rest = drop n shapes; encoded = r; placed = sym (take-append-drop n shapes) };
+      front = ap (λ (k : ℕ). take k pool′) (length-take-le top pool h) ∙ e;
+      small = omega (arith, length-take-le top pool h);
+    }
+
+pub held-front
+    : (shapes pool : List ℕ) (n top : ℕ) {m : ℕ} {s : Shape} → Shape-rows (take top pool) m s (take n shapes) → top ≤ length pool
+    → top < 65536 → Holds-shape shapes pool 0 s
+held-front shapes pool n top r h l = held-behind shapes pool pool n top r h l refl
 
 -- ---- a shape
 
