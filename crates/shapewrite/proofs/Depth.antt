@@ -12,7 +12,7 @@ use Rattle.definitions.specs.Bytes.{Bytes}
 use Rattle.definitions.specs.Shape.{Shape, shape, Element, no-list, list-of, Record, no-rec, rec-of, Fields, no-fields, field, forms, levels, levels-fields}
 use Rattle.shapes.specs.Shapes.{Shape-rows, shape-rows, Element-rows, no-element-rows, element-rows, Record-rows, no-record-rows, record-rows, Field-rows, no-field-rows, field-rows, Stands, size-at}
 use Rattle.shapes.specs.ShapesLaws.{forms-some, length-shape-rows, stands-size, stands-within}
-use Rattle.shapewrite.specs.Held.{Standing, Tells-deeper}
+use Rattle.shapewrite.specs.Writing.{Standing, Tells-deeper}
 
 -- ---- the shapes that a shape holds
 

@@ -1,4 +1,4 @@
 pub mod Prints
 pub mod PrintsLaws
 pub mod Layout
-pub mod Held
+pub mod Writing
