@@ -1,5 +1,5 @@
 -- A form as what the writer prints: its head, its element, its members and a bracket. Assumes nothing.
-use Prim.Native.Nat.{ℕ, suc, _+_, _*_, _%_, _≤_, _<_}
+use Prim.Native.Nat.{ℕ, suc, _+_, _*_, _%_, _≤_}
 use native.Mathlib.Numerals.{add-one}
 use native.Mathlib.Omega.{arith}
 use mathlib.Core.Path.{_≡_, refl, sym, ap, subst, _∙_}
@@ -7,9 +7,9 @@ use mathlib.Core.Bool.{Bool, true, false, true≢false}
 use mathlib.Core.List.{List, [], _∷_, _++_, append-assoc}
 use lib.ListN.{length, getD, drop, length-append}
 use Rattle.definitions.specs.Bytes.{Bytes, bytes}
-use Rattle.definitions.specs.Shape.{Kind, all-kinds, Numeric, Shape, shape, Element, no-list, list-of, Record, no-rec, rec-of, Fields, no-fields, field, has, has-list, forms, forms-element, forms-record}
+use Rattle.definitions.specs.Shape.{Kind, all-kinds, Numeric, Shape, shape, Element, no-list, list-of, Record, no-rec, rec-of, Fields, no-fields, has, has-list, forms, forms-element}
 use Rattle.definitions.specs.ShapeText.{write, write-element, write-record, write-fields, write-kinds, new-line}
-use Rattle.shapes.specs.Shapes.{kind-bit, kind-bits, has-bit, Stands, Fields-stand, no-field-rows, size-at, members-at}
+use Rattle.shapes.specs.Shapes.{kind-bit, kind-bits, has-bit, Stands, Fields-stand, no-field-rows, size-at}
 use Rattle.shapes.specs.ShapesLaws.{stands-size, stands-within, stands-element, stands-members, members-at-is}
 use Rattle.shapewrite.specs.Layout.{head-text}
 use Rattle.shapes.specs.Held.{Holds-shape, Holds-fields}

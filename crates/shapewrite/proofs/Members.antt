@@ -10,7 +10,7 @@ use Rattle.definitions.specs.Shape.{Shape, Fields, no-fields, field, forms}
 use Rattle.definitions.specs.ShapeText.{write, write-fields}
 use Rattle.nodes.specs.Nodes.{Refers}
 use Rattle.plain.specs.Parts.{Holds-text}
-use Rattle.shapes.specs.Shapes.{Stands, Fields-stand, size-at}
+use Rattle.shapes.specs.Shapes.{Fields-stand, size-at}
 use Rattle.shapes.specs.ShapesLaws.{forms-some, stands-name, fields-left, Some-fields, some-fields, fields-first, fields-rest, fields-some}
 use Rattle.shapewrite.specs.Prints.{Prints}
 use Rattle.shapewrite.specs.PrintsLaws.{prints-none, prints-then, prints-as}

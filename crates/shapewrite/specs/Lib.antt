@@ -2,3 +2,5 @@ pub mod Prints
 pub mod PrintsLaws
 pub mod Layout
 pub mod Writing
+pub mod WritingLaws
+pub mod WritingSample

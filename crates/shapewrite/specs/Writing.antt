@@ -1,5 +1,5 @@
 -- What a writer of shapes asks and answers. Assumes nothing.
-use Prim.Native.Nat.{ℕ, suc, _+_, _^_, _≤_, _<_}
+use Prim.Native.Nat.{ℕ, _+_, _^_, _≤_, _<_}
 use mathlib.Core.Path.{_≡_}
 use mathlib.Core.Bool.{Bool}
 use mathlib.Core.List.{List, _++_}
@@ -11,7 +11,7 @@ use Rattle.definitions.specs.Bytes.{Bytes, bytes}
 use Rattle.definitions.specs.Shape.{Shape, Fields, levels}
 use Rattle.definitions.specs.Plain.{plain-text}
 use Rattle.definitions.specs.ShapeText.{write, write-fields, write-shape}
-use Rattle.definitions.specs.Operations.{Judged, passed, stopped, Text-out, refusal, shape-out, finish}
+use Rattle.definitions.specs.Operations.{passed, stopped, refusal, shape-out, finish}
 use Rattle.plain.specs.Parts.{Holds-text}
 use Rattle.shapes.specs.Shapes.{Stands}
 use Rattle.shapes.specs.Held.{Holds-shape, Holds-fields}

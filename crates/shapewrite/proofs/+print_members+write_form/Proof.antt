@@ -9,14 +9,13 @@ use borrow.Fn.Kinds.{In}
 use borrow.Fn.PlainCycle.{Measures, is, falls, and}
 use denote.Ref.{now}
 use lib.ListN.{length}
-use Rattle.definitions.specs.Bytes.{bytes}
 use Rattle.shapes.specs.Shapes.{has-bit}
 use Rattle.shapes.specs.ShapesLaws.{forms-some}
 use Rattle.shapes.specs.HeldLaws.{held-kinds}
 use Rattle.shapewrite.specs.Layout.{head-text}
 use Rattle.shapewrite.specs.PrintsLaws.{prints-then, prints-as}
 use Rattle.shapewrite.proofs.Lines.{length-new-line}
-use Rattle.shapewrite.proofs.Forms.{Listed, Unlisted, holds-size, holds-within, listed, unlisted, length-listed, length-unlisted, head-short}
+use Rattle.shapewrite.proofs.Forms.{holds-size, holds-within, listed, unlisted, length-listed, length-unlisted, head-short}
 use Rattle.shapewrite.proofs.Members.{Loop, loop-begins, close-room, printed-all, inner-room, label-printable, form-printable, bracket-room, loop-on, turn-some, turn-within}
 use Rattle.shapewrite.proofs.print_members.Reads as print-members
 use Rattle.shapewrite.proofs.print_members.Kinds as print-members-kinds
@@ -105,24 +104,23 @@ print-members-name-requires t c κs =
 
 print-members-print-label-requires : (t : ℕ) → print-members-lts.Need-print-label-requires (members-claims t) (print-members-at t) print-members.Post print-members-Inv-loop print-members-μ-loop
 print-members-print-label-requires t c κs =
-    label-printable (c .before .before .before .before .before .before .before .pre .1) (c .before .before .before .loop .inv) (c .before .before .loop-test .taken) (c .name .ensures)
+    label-printable (c .before .before .before .before .before .before .before .pre .1) (c .before .before .before .loop .inv) (c .before .before .loop-test .taken) (omega (arith, c .name .ensures))
 
 print-members-add-write-form : (t : ℕ) → print-members-lts.Need-add-write-form (members-claims t) (print-members-at t) print-members.Post print-members-Inv-loop print-members-μ-loop
 print-members-add-write-form t c =
     omega (arith, inner-room (c .before .before .before .before .before .before .before .before .before .before .before .pre .1) (c .before .before .before .before .before .before .before .loop .inv) (c .before .before .before .before .before .before .loop-test .taken))
 
 print-members-write-form-requires : (t : ℕ) → print-members-lts.Need-write-form-requires (members-claims t) (print-members-at t) print-members.Post print-members-Inv-loop print-members-μ-loop
-print-members-write-form-requires t c κs =
-    (
-      omega (
-        arith,
-        c .before .before .before .before .before .before .before .before .before .before .before .pre .0,
-        c .before .before .before .before .before .before .before .loop .inv .ahead,
-        turn-within (c .before .before .before .before .before .before .before .before .before .before .before .pre .1) (c .before .before .before .before .before .before .before .loop .inv) (c .before .before .before .before .before .before .loop-test .taken),
-        turn-some (c .before .before .before .before .before .before .before .before .before .before .before .pre .1) (c .before .before .before .before .before .before .before .loop .inv) (c .before .before .before .before .before .before .loop-test .taken),
-      ),
-      form-printable (c .before .before .before .before .before .before .before .before .before .before .before .pre .1) (c .before .before .before .before .before .before .before .loop .inv) (c .before .before .before .before .before .before .loop-test .taken) (c .before .before .before .before .name .ensures) (c .before .before .before .print-label .ensures),
-    )
+print-members-write-form-requires t c κs = (
+  omega (
+    arith,
+    c .before .before .before .before .before .before .before .before .before .before .before .pre .0,
+    c .before .before .before .before .before .before .before .loop .inv .ahead,
+    turn-within (c .before .before .before .before .before .before .before .before .before .before .before .pre .1) (c .before .before .before .before .before .before .before .loop .inv) (c .before .before .before .before .before .before .loop-test .taken),
+    turn-some (c .before .before .before .before .before .before .before .before .before .before .before .pre .1) (c .before .before .before .before .before .before .before .loop .inv) (c .before .before .before .before .before .before .loop-test .taken),
+  ),
+  form-printable (c .before .before .before .before .before .before .before .before .before .before .before .pre .1) (c .before .before .before .before .before .before .before .loop .inv) (c .before .before .before .before .before .before .loop-test .taken) (c .before .before .before .before .name .ensures) (c .before .before .before .print-label .ensures),
+)
 
 print-members-slice-aggregate-print : (t : ℕ) → print-members-lts.Need-slice-aggregate-print (members-claims t) (print-members-at t) print-members.Post print-members-Inv-loop print-members-μ-loop
 print-members-slice-aggregate-print t c =
