@@ -1,7 +1,7 @@
 -- The text of a shape in a table of at most 65,536 words is shorter than 2 ^ 64 bytes. Assumes nothing.
 use Prim.Native.Nat.{ℕ, suc, _+_, _*_, _^_, _≤_, _<_}
 use native.Mathlib.Omega.{arith}
-use mathlib.Core.Path.{_≡_, refl, ap, _∙_}
+use mathlib.Core.Path.{_≡_, refl, ap}
 use mathlib.Core.Bool.{Bool, true, false}
 use mathlib.Core.List.{List, [], _∷_, _++_}
 use lib.ListN.{length, length-append}
@@ -14,7 +14,7 @@ use Rattle.pool.specs.Pool.{words}
 use Rattle.nodes.specs.Nodes.{Refers, refers}
 use Rattle.shapes.specs.Shapes.{kind-bits, has-bit, Shape-rows, shape-rows, Element-rows, no-element-rows, element-rows, Record-rows, no-record-rows, record-rows, Field-rows, no-field-rows, field-rows}
 use Rattle.shapewrite.specs.Layout.{word-of, head-text, label-text}
-use Rattle.shapewrite.specs.Held.{Deliverable, Printable}
+use Rattle.shapewrite.specs.Writing.{Deliverable, Printable}
 use Rattle.shapewrite.proofs.Lines.{length-new-line}
 use Rattle.shapewrite.proofs.Names.{length-label}
 use Rattle.shapewrite.proofs.Heads.{length-head, head-of-kinds}
@@ -149,7 +149,7 @@ text-bound {shapes} d =
     omega (
       arith,
       d .small,
-      form-bound (d .shape) (d .holds .stands .encoded) (d .holds .pooled .small) 0 (omega (arith, d .small, w)),
+      form-bound (d .shape) (d .holds .stands .encoded) (d .holds .small) 0 (omega (arith, d .small, w)),
       w,
     )
 

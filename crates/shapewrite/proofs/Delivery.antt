@@ -1,6 +1,5 @@
 -- Judging refusal 11, and the end of an operation that writes a shape. Assumes nothing.
-use Prim.Native.Nat.{ℕ, suc, _+_, _*_, _/_, _≤_, _<_}
-use native.Mathlib.Nat.{zero-add}
+use Prim.Native.Nat.{ℕ, _+_, _/_, _≤_, _<_}
 use native.Mathlib.Omega.{arith}
 use mathlib.Core.Path.{_≡_, refl, sym, ap, subst, _∙_}
 use mathlib.Core.Bool.{Bool, true, false, _||_}
@@ -19,7 +18,8 @@ use Rattle.shapewrite.specs.declared.Measured.{Measured}
 use Rattle.shapewrite.specs.declared.Measured.the-variants.{Over, Fits}
 use Rattle.shapewrite.specs.Prints.{Prints}
 use Rattle.shapewrite.specs.PrintsLaws.{prints-then}
-use Rattle.shapewrite.specs.Held.{Holds, Length-of-form, Prints-form, Tells-deeper, Measures, Delivers-answer, Delivers-output}
+use Rattle.shapes.specs.Held.{Holds-shape}
+use Rattle.shapewrite.specs.Writing.{Length-of-form, Prints-form, Tells-deeper, Measures, Delivers-answer, Delivers-output}
 use Rattle.shapewrite.proofs.Forms.{holds-size}
 
 -- ---- refusal 11
@@ -57,7 +57,7 @@ unfolding write-shape bytes
 shape-bytes s = refl
 
 module _ {shapes pool : List ℕ} (l : Limits) where
-  forms-told : {n : ℕ} → n ≡ size-at shapes 0 → (s : Shape) → Holds shapes pool 0 s → n / 2 ≡ forms s
+  forms-told : {n : ℕ} → n ≡ size-at shapes 0 → (s : Shape) → Holds-shape shapes pool 0 s → n / 2 ≡ forms s
   forms-told e s h = omega (arith, e, holds-size h)
 
   pub over-forms : {n : ℕ} → n ≡ size-at shapes 0 → l .values < n / 2 → Measures shapes pool l Over
@@ -95,7 +95,7 @@ module _ {shapes pool : List ℕ} (l : Limits) where
 
 ends
     : (shapes pool : List ℕ) (l : Limits) (out : Bytes) {r : Answer} {out′ : Bytes}
-    → ((s : Shape) → Holds shapes pool 0 s → finish out (shape-out l s) ≡ record { answer = r; output = out′ })
+    → ((s : Shape) → Holds-shape shapes pool 0 s → finish out (shape-out l s) ≡ record { answer = r; output = out′ })
     → Delivers-answer shapes pool l out r × Delivers-output shapes pool l out out′
 ends shapes pool l out f = (
   λ s h. sym (ap (λ (d : Done). d .answer) (f s h)),
@@ -113,7 +113,7 @@ module _ (shapes pool : List ℕ) (l : Limits) (out : Bytes) {m : Measured} (j :
       ap (finish out) (subst (Measures shapes pool l) e j s h)
       ∙ ap (λ (a : Answer). record { answer = a; output = out }) (sym f))
 
-  fitted : {n : ℕ} → m ≡ Fits n → (s : Shape) → Holds shapes pool 0 s → (shape-out l s ≡ passed (record { bytes = write-shape s; steps = 0 })) × (n ≡ length (write-shape s))
+  fitted : {n : ℕ} → m ≡ Fits n → (s : Shape) → Holds-shape shapes pool 0 s → (shape-out l s ≡ passed (record { bytes = write-shape s; steps = 0 })) × (n ≡ length (write-shape s))
   fitted e s h = subst (Measures shapes pool l) e j s h
 
   pub delivers-short
@@ -145,13 +145,13 @@ module _ (shapes pool : List ℕ) (l : Limits) (out : Bytes) {m : Measured} (j :
       ∙ ap (λ (o : Bytes). record { answer = written n 0; output = o }) (sym (front s h))
       ∙ ap (λ (a : Answer). record { answer = a; output = o₂ }) (sym f)))
     where
-      both : (s : Shape) → Holds shapes pool 0 s → Prints out o₂ 0 (write s 0 ++ (0x0A ∷ [])) i
+      both : (s : Shape) → Holds-shape shapes pool 0 s → Prints out o₂ 0 (write s 0 ++ (0x0A ∷ [])) i
       both s h = prints-then (p s h) q
 
-      end : (s : Shape) → Holds shapes pool 0 s → i ≡ n
+      end : (s : Shape) → Holds-shape shapes pool 0 s → i ≡ n
       end s h = omega (arith, both s h .end, length-append (write s 0) (0x0A ∷ []), length-shape s, fitted e s h .1)
 
-      front : (s : Shape) → Holds shapes pool 0 s → o₂ ≡ write-shape s ++ drop n out
+      front : (s : Shape) → Holds-shape shapes pool 0 s → o₂ ≡ write-shape s ++ drop n out
       front s h =
           both s h .written (omega (arith, end s h, t)) .bytes
           ∙ ap (λ (a : ℕ). write s 0 ++ (0x0A ∷ []) ++ drop a out) (end s h)

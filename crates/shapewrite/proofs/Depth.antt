@@ -1,18 +1,16 @@
 -- How deep a shape is nested, by the shapes that it holds: its element and those of its members. Assumes nothing.
-use Prim.Native.Nat.{ℕ, suc, _+_, _-_, _*_, _≤_, _<_, max}
+use Prim.Native.Nat.{ℕ, suc, _+_, _-_, _≤_, _<_, max}
 use native.Mathlib.Omega.{arith}
 use mathlib.Core.Path.{_≡_, refl, sym, ap, subst, _∙_}
 use mathlib.Core.Bool.{Bool, true, false}
 use mathlib.Core.List.{List, [], _∷_, _++_, append-assoc}
 use borrow.Author.Tests.{ltb-true, ltb-false, lt-ltb, le-ltb}
-use lib.Dec.{ltb}
 use lib.ListN.{length, drop, length-append}
 use lib.Seq.{drop-drop, drop-at}
-use Rattle.definitions.specs.Bytes.{Bytes}
-use Rattle.definitions.specs.Shape.{Shape, shape, Element, no-list, list-of, Record, no-rec, rec-of, Fields, no-fields, field, forms, levels, levels-fields}
-use Rattle.shapes.specs.Shapes.{Shape-rows, shape-rows, Element-rows, no-element-rows, element-rows, Record-rows, no-record-rows, record-rows, Field-rows, no-field-rows, field-rows, Stands, size-at}
+use Rattle.definitions.specs.Shape.{Shape, shape, no-list, list-of, Record, no-rec, rec-of, Fields, no-fields, field, levels, levels-fields}
+use Rattle.shapes.specs.Shapes.{Shape-rows, shape-rows, no-element-rows, element-rows, Record-rows, no-record-rows, record-rows, Field-rows, no-field-rows, field-rows, Stands, size-at}
 use Rattle.shapes.specs.ShapesLaws.{forms-some, length-shape-rows, stands-size, stands-within}
-use Rattle.shapewrite.specs.Held.{Standing, Tells-deeper}
+use Rattle.shapewrite.specs.Writing.{Standing, Tells-deeper}
 
 -- ---- the shapes that a shape holds
 

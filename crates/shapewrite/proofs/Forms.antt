@@ -1,5 +1,5 @@
 -- A form as what the writer prints: its head, its element, its members and a bracket. Assumes nothing.
-use Prim.Native.Nat.{ℕ, suc, _+_, _*_, _%_, _≤_, _<_}
+use Prim.Native.Nat.{ℕ, suc, _+_, _*_, _%_, _≤_}
 use native.Mathlib.Numerals.{add-one}
 use native.Mathlib.Omega.{arith}
 use mathlib.Core.Path.{_≡_, refl, sym, ap, subst, _∙_}
@@ -7,12 +7,13 @@ use mathlib.Core.Bool.{Bool, true, false, true≢false}
 use mathlib.Core.List.{List, [], _∷_, _++_, append-assoc}
 use lib.ListN.{length, getD, drop, length-append}
 use Rattle.definitions.specs.Bytes.{Bytes, bytes}
-use Rattle.definitions.specs.Shape.{Kind, all-kinds, Numeric, Shape, shape, Element, no-list, list-of, Record, no-rec, rec-of, Fields, no-fields, field, has, has-list, forms, forms-element, forms-record}
+use Rattle.definitions.specs.Shape.{Kind, all-kinds, Numeric, Shape, shape, Element, no-list, list-of, Record, no-rec, rec-of, Fields, no-fields, has, has-list, forms, forms-element}
 use Rattle.definitions.specs.ShapeText.{write, write-element, write-record, write-fields, write-kinds, new-line}
-use Rattle.shapes.specs.Shapes.{kind-bit, kind-bits, has-bit, Stands, Fields-stand, no-field-rows, size-at, members-at}
-use Rattle.shapes.specs.ShapesLaws.{has-kind, stands-kinds, stands-size, stands-within, stands-element, stands-members, members-at-is}
+use Rattle.shapes.specs.Shapes.{kind-bit, kind-bits, has-bit, Stands, Fields-stand, no-field-rows, size-at}
+use Rattle.shapes.specs.ShapesLaws.{stands-size, stands-within, stands-element, stands-members, members-at-is}
 use Rattle.shapewrite.specs.Layout.{head-text}
-use Rattle.shapewrite.specs.Held.{Holds, Holds-fields}
+use Rattle.shapes.specs.Held.{Holds-shape, Holds-fields}
+use Rattle.shapes.specs.HeldLaws.{held-has, held-element}
 use Rattle.shapewrite.proofs.Heads.{head-of-kinds}
 
 -- ---- members
@@ -49,13 +50,10 @@ fields-behind (rec-of fs) h = fields-from (stands-members h) (members-at-is h)
 
 -- ---- forms
 
-pub holds-kinds : {shapes pool : List ℕ} {row : ℕ} {s : Shape} → Holds shapes pool row s → getD shapes row 0 % 128 ≡ kind-bits s
-holds-kinds h = stands-kinds (h .stands)
-
-pub holds-size : {shapes pool : List ℕ} {row : ℕ} {s : Shape} → Holds shapes pool row s → size-at shapes row ≡ 2 * forms s
+pub holds-size : {shapes pool : List ℕ} {row : ℕ} {s : Shape} → Holds-shape shapes pool row s → size-at shapes row ≡ 2 * forms s
 holds-size h = stands-size (h .stands)
 
-pub holds-within : {shapes pool : List ℕ} {row : ℕ} {s : Shape} → Holds shapes pool row s → row + 2 * forms s ≤ length shapes
+pub holds-within : {shapes pool : List ℕ} {row : ℕ} {s : Shape} → Holds-shape shapes pool row s → row + 2 * forms s ≤ length shapes
 holds-within h = stands-within (h .stands)
 
 regroup-listed : (h l w f c : Bytes) → h ++ l ++ w ++ (f ++ c) ≡ h ++ (l ++ w) ++ f ++ c
@@ -72,7 +70,7 @@ regroup-unlisted h f c = sym (append-assoc h f c) ∙ ap (λ (t : Bytes). t ++ f
 pub record Listed (shapes pool : List ℕ) (row around : ℕ) (s : Shape) : Type 0 where
   pub element : Shape
   pub fields : Fields
-  pub holds : Holds shapes pool (row + 2) element
+  pub holds : Holds-shape shapes pool (row + 2) element
   pub members : Holds-fields shapes pool (row + 2 + size-at shapes (row + 2)) (row + size-at shapes row) fields
   pub text
       : head-text (kind-bits s) ++ new-line (around + 1) ++ write element (around + 1) ++ (write-fields fields (around + 1) ++ bytes ")")
@@ -134,40 +132,40 @@ unlisted-text n b x k r around next e =
     (λ (t : Bytes). bytes "(shape" ++ write-kinds (shape n b k x no-list r) all-kinds ++ [] ++ t ++ bytes ")")
     (ap (write-fields (fields-of r)) e ∙ write-fields-of r (suc around))
 
-has-list-of
-    : {shapes pool : List ℕ} {row : ℕ} {s : Shape} {b : Bool} → Holds shapes pool row s → has-bit (getD shapes row 0 % 128) 32 ≡ b
-    → has Kind.list s ≡ b
-unfolding kind-bit
-has-list-of {s = s} h e = sym (has-kind Kind.list s) ∙ ap (λ (x : ℕ). has-bit x 32) (sym (holds-kinds h)) ∙ e
-
 module _ {shapes pool : List ℕ} {row : ℕ} (around : ℕ) where
-  pub listed : {s : Shape} → Holds shapes pool row s → has-bit (getD shapes row 0 % 128) 32 ≡ true → Listed shapes pool row around s
-  unfolding has has-list forms
-  listed {s = shape n b k x no-list r} h e = absurd (true≢false (sym (has-list-of h e)))
+  pub listed : {s : Shape} → Holds-shape shapes pool row s → has-bit (getD shapes row 0 % 128) 32 ≡ true → Listed shapes pool row around s
+  unfolding kind-bit has has-list forms
+  listed {s = shape n b k x no-list r} h e = absurd (true≢false (sym e ∙ held-has Kind.list h))
   listed {s = shape n b k x (list-of a) r} h e =
       record {
         element = a;
         fields = fields-of r;
-        holds = record { used = h .used; name = 0; stands = stands-element (h .stands); pooled = h .pooled };
+        holds = held-element h;
         members = record {
           used = h .used;
-          stand = fields-from (fields-behind r (h .stands))
-              (ap (λ (i : ℕ). row + 2 + i) (sym (stands-size (stands-element (h .stands)))));
-          pooled = h .pooled;
+          listed = record {
+            stand = fields-from (fields-behind r (h .stands))
+                (ap (λ (i : ℕ). row + 2 + i) (sym (stands-size (stands-element (h .stands)))));
+            front = h .front;
+            small = h .small;
+          };
         };
         text = listed-text n b x k a r around (around + 1) (add-one around);
       }
 
-  pub unlisted : {s : Shape} → Holds shapes pool row s → has-bit (getD shapes row 0 % 128) 32 ≡ false → Unlisted shapes pool row around s
-  unfolding has has-list forms
-  unlisted {s = shape n b k x (list-of a) r} h e = absurd (true≢false (has-list-of h e))
+  pub unlisted : {s : Shape} → Holds-shape shapes pool row s → has-bit (getD shapes row 0 % 128) 32 ≡ false → Unlisted shapes pool row around s
+  unfolding kind-bit has has-list forms
+  unlisted {s = shape n b k x (list-of a) r} h e = absurd (true≢false (sym (held-has Kind.list h) ∙ e))
   unlisted {s = shape n b k x no-list r} h e =
       record {
         fields = fields-of r;
         members = record {
           used = h .used;
-          stand = fields-from (fields-behind r (h .stands)) (omega arith);
-          pooled = h .pooled;
+          listed = record {
+            stand = fields-from (fields-behind r (h .stands)) (omega arith);
+            front = h .front;
+            small = h .small;
+          };
         };
         text = unlisted-text n b x k r around (around + 1) (add-one around);
       }

@@ -1,7 +1,7 @@
 -- Line feeds and indentation. Assumes nothing.
-use Prim.Native.Nat.{ℕ, suc, _+_, _≤_, _<_}
+use Prim.Native.Nat.{ℕ, _+_, _≤_, _<_}
 use native.Mathlib.Omega.{arith}
-use mathlib.Core.Path.{_≡_, sym, ap, _∙_}
+use mathlib.Core.Path.{_≡_, ap}
 use mathlib.Core.List.{[], _∷_, _++_}
 use lib.ListN.{length, replicate, length-replicate, replicate-append-replicate}
 use Rattle.definitions.specs.Bytes.{Bytes, bytes}

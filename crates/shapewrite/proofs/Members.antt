@@ -10,12 +10,13 @@ use Rattle.definitions.specs.Shape.{Shape, Fields, no-fields, field, forms}
 use Rattle.definitions.specs.ShapeText.{write, write-fields}
 use Rattle.nodes.specs.Nodes.{Refers}
 use Rattle.plain.specs.Parts.{Holds-text}
-use Rattle.shapes.specs.Shapes.{Stands, Fields-stand, size-at}
+use Rattle.shapes.specs.Shapes.{Fields-stand, size-at}
 use Rattle.shapes.specs.ShapesLaws.{forms-some, stands-name, fields-left, Some-fields, some-fields, fields-first, fields-rest, fields-some}
 use Rattle.shapewrite.specs.Prints.{Prints}
 use Rattle.shapewrite.specs.PrintsLaws.{prints-none, prints-then, prints-as}
 use Rattle.shapewrite.specs.Layout.{label-text}
-use Rattle.shapewrite.specs.Held.{Holds, Printable, Prints-form, Holds-fields, Printable-fields, Printable-label, Prints-label}
+use Rattle.shapes.specs.Held.{Holds-shape, Holds-fields}
+use Rattle.shapewrite.specs.Writing.{Printable, Prints-form, Printable-fields, Printable-label, Prints-label}
 use Rattle.shapewrite.proofs.Names.{length-label}
 use Rattle.shapewrite.proofs.Forms.{holds-size, holds-within}
 
@@ -27,11 +28,11 @@ pub record First (shapes pool : List ℕ) (i end : ℕ) (fs : Fields) : Type 0 w
   pub rest : Fields
   pub same : fs ≡ field name shape rest
   pub label : Holds-text pool (getD shapes (i + 1) 0) name
-  pub holds : Holds shapes pool i shape
+  pub holds : Holds-shape shapes pool i shape
   pub more : Holds-fields shapes pool (i + size-at shapes i) end rest
 
 pub first : {shapes pool : List ℕ} {i end : ℕ} {fs : Fields} → Holds-fields shapes pool i end fs → i < end → First shapes pool i end fs
-first {shapes} {pool} {i} {end} {fs} h l = go (fields-left (h .stand) l) (h .stand)
+first {shapes} {pool} {i} {end} {fs} h l = go (fields-left (h .listed .stand) l) (h .listed .stand)
   where
     go : {gs : Fields} → Some-fields gs → Fields-stand shapes (h .used) i end gs → First shapes pool i end gs
     go (some-fields {n = n} {s = s} {fs = gs}) g =
@@ -44,16 +45,19 @@ first {shapes} {pool} {i} {end} {fs} h l = go (fields-left (h .stand) l) (h .sta
           label = record {
             used = h .used;
             refers = subst (λ (k : ℕ). Refers (h .used) n k) (sym (stands-name (f .2))) (f .1);
-            pooled = h .pooled;
+            pooled = record { front = h .listed .front; small = h .listed .small };
           };
-          holds = record { used = h .used; name = f .0; stands = f .2; pooled = h .pooled };
-          more = record { used = h .used; stand = fields-rest g; pooled = h .pooled };
+          holds = record { used = h .used; name = f .0; stands = f .2; front = h .listed .front; small = h .listed .small };
+          more = record {
+            used = h .used;
+            listed = record { stand = fields-rest g; front = h .listed .front; small = h .listed .small };
+          };
         }
 
 none-left : {shapes pool : List ℕ} {i end : ℕ} {fs : Fields} (around : ℕ) → Holds-fields shapes pool i end fs → end ≤ i → write-fields fs around ≡ []
 unfolding write
 none-left {fs = no-fields} around h l = refl
-none-left {fs = field n s fs} around h l = absurd (let z : ⊥ = omega (arith, fields-some (h .stand), l) in z)
+none-left {fs = field n s fs} around h l = absurd (let z : ⊥ = omega (arith, fields-some (h .listed .stand), l) in z)
 
 module _ {shapes pool : List ℕ} {i end : ℕ} {fs : Fields} (f : First shapes pool i end fs) (around : ℕ) where
   member-text
@@ -173,7 +177,7 @@ module _
             }
 
         module _ {j₂ : ℕ} {out₂ : Bytes} (y : Prints-form shapes pool i (around + 1) out₁ out₂ j₁ j₂) where
-          form-printed : (s : Shape) → Holds shapes pool i s → Prints out₁ out₂ j₁ (write s (suc around)) j₂
+          form-printed : (s : Shape) → Holds-shape shapes pool i s → Prints out₁ out₂ j₁ (write s (suc around)) j₂
           form-printed s h = prints-as (ap (write s) (add-one around)) (y s h)
 
           pub bracket-room : j₂ + 1 < 2 ^ 64

@@ -1,4 +1,6 @@
 pub mod Prints
 pub mod PrintsLaws
 pub mod Layout
-pub mod Held
+pub mod Writing
+pub mod WritingLaws
+pub mod WritingSample

@@ -6,7 +6,7 @@ ghost use Rattle.definitions.specs.ShapeText.{new-line};
 ghost use Rattle.shapes.specs.Shapes.{has-bit};
 ghost use Rattle.shapewrite.specs.Prints.{Prints};
 ghost use Rattle.shapewrite.specs.Layout.{word-of, head-text};
-ghost use Rattle.shapewrite.specs.Held.{Printable-name, Prints-name, Printable-label, Prints-label};
+ghost use Rattle.shapewrite.specs.Writing.{Printable-name, Prints-name, Printable-label, Prints-label};
 use shapes::Shape;
 
 // Prints bytes from a place on, and answers the place behind them.

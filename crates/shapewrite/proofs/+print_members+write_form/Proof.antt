@@ -9,13 +9,13 @@ use borrow.Fn.Kinds.{In}
 use borrow.Fn.PlainCycle.{Measures, is, falls, and}
 use denote.Ref.{now}
 use lib.ListN.{length}
-use Rattle.definitions.specs.Bytes.{bytes}
 use Rattle.shapes.specs.Shapes.{has-bit}
 use Rattle.shapes.specs.ShapesLaws.{forms-some}
+use Rattle.shapes.specs.HeldLaws.{held-kinds}
 use Rattle.shapewrite.specs.Layout.{head-text}
 use Rattle.shapewrite.specs.PrintsLaws.{prints-then, prints-as}
 use Rattle.shapewrite.proofs.Lines.{length-new-line}
-use Rattle.shapewrite.proofs.Forms.{Listed, Unlisted, holds-kinds, holds-size, holds-within, listed, unlisted, length-listed, length-unlisted, head-short}
+use Rattle.shapewrite.proofs.Forms.{holds-size, holds-within, listed, unlisted, length-listed, length-unlisted, head-short}
 use Rattle.shapewrite.proofs.Members.{Loop, loop-begins, close-room, printed-all, inner-room, label-printable, form-printable, bracket-room, loop-on, turn-some, turn-within}
 use Rattle.shapewrite.proofs.print_members.Reads as print-members
 use Rattle.shapewrite.proofs.print_members.Kinds as print-members-kinds
@@ -104,7 +104,7 @@ print-members-name-requires t c κs =
 
 print-members-print-label-requires : (t : ℕ) → print-members-lts.Need-print-label-requires (members-claims t) (print-members-at t) print-members.Post print-members-Inv-loop print-members-μ-loop
 print-members-print-label-requires t c κs =
-    label-printable (c .before .before .before .before .before .before .before .pre .1) (c .before .before .before .loop .inv) (c .before .before .loop-test .taken) (c .name .ensures)
+    label-printable (c .before .before .before .before .before .before .before .pre .1) (c .before .before .before .loop .inv) (c .before .before .loop-test .taken) (omega (arith, c .name .ensures))
 
 print-members-add-write-form : (t : ℕ) → print-members-lts.Need-add-write-form (members-claims t) (print-members-at t) print-members.Post print-members-Inv-loop print-members-μ-loop
 print-members-add-write-form t c =
@@ -198,7 +198,7 @@ write-form-print-head-requires t c κs =
       arith,
       c .before .before .before .before .before .before .pre .1 .room,
       head-short (c .before .before .before .before .before .before .pre .1 .shape) (c .before .before .before .before .before .before .args .around),
-      ap (λ (k : ℕ). length (head-text k)) (c .before .before .kinds .ensures ∙ holds-kinds (c .before .before .before .before .before .before .pre .1 .holds)),
+      ap (λ (k : ℕ). length (head-text k)) (c .before .before .kinds .ensures ∙ held-kinds (c .before .before .before .before .before .before .pre .1 .holds)),
     )
 
 write-form-has-requires : (t : ℕ) → write-form-lts.Need-has-requires (form-claims t) (write-form-at t) write-form.Post
@@ -222,7 +222,7 @@ write-form-print-line-requires t c κs =
       c .before .before .before .before .before .before .before .before .before .before .before .before .before .pre .1 .room,
       length-listed l,
       c .before .before .before .before .before .before .print-head .ensures .end,
-      ap (λ (k : ℕ). length (head-text k)) (c .before .before .before .before .before .before .before .before .before .kinds .ensures ∙ holds-kinds (c .before .before .before .before .before .before .before .before .before .before .before .before .before .pre .1 .holds)),
+      ap (λ (k : ℕ). length (head-text k)) (c .before .before .before .before .before .before .before .before .before .kinds .ensures ∙ held-kinds (c .before .before .before .before .before .before .before .before .before .before .before .before .before .pre .1 .holds)),
     )
 
 write-form-write-form-requires : (t : ℕ) → write-form-lts.Need-write-form-requires (form-claims t) (write-form-at t) write-form.Post
@@ -238,7 +238,7 @@ write-form-write-form-requires t c κs =
           length-listed l,
           c .before .before .before .before .before .before .before .before .before .before .print-head .ensures .end,
           c .before .before .before .print-line .ensures .end,
-          ap (λ (k : ℕ). length (head-text k)) (c .before .before .before .before .before .before .before .before .before .before .before .before .before .kinds .ensures ∙ holds-kinds (c .before .before .before .before .before .before .before .before .before .before .before .before .before .before .before .before .before .pre .1 .holds)),
+          ap (λ (k : ℕ). length (head-text k)) (c .before .before .before .before .before .before .before .before .before .before .before .before .before .kinds .ensures ∙ held-kinds (c .before .before .before .before .before .before .before .before .before .before .before .before .before .before .before .before .before .pre .1 .holds)),
         );
         deep = omega (
           arith,
@@ -271,7 +271,7 @@ write-form-print-members-requires t c κs =
           c .before .before .before .before .before .before .before .before .before .before .before .before .before .before .print-head .ensures .end,
           c .before .before .before .before .before .before .before .print-line .ensures .end,
           c .before .before .before .write-form .ensures (l .element) (l .holds) .end,
-          ap (λ (k : ℕ). length (head-text k)) (c .before .before .before .before .before .before .before .before .before .before .before .before .before .before .before .before .before .kinds .ensures ∙ holds-kinds (c .before .before .before .before .before .before .before .before .before .before .before .before .before .before .before .before .before .before .before .before .before .pre .1 .holds)),
+          ap (λ (k : ℕ). length (head-text k)) (c .before .before .before .before .before .before .before .before .before .before .before .before .before .before .before .before .before .kinds .ensures ∙ held-kinds (c .before .before .before .before .before .before .before .before .before .before .before .before .before .before .before .before .before .before .before .before .before .pre .1 .holds)),
         );
       },
     )
@@ -286,7 +286,7 @@ write-form-returns t c s h =
     prints-as (l .text)
     (prints-then
     (prints-then
-    (prints-then (prints-as (ap head-text (c .before .before .before .before .before .before .before .before .before .before .before .before .before .before .before .before .before .before .before .before .kinds .ensures ∙ holds-kinds h)) (c .before .before .before .before .before .before .before .before .before .before .before .before .before .before .before .before .before .print-head .ensures)) (c .before .before .before .before .before .before .before .before .before .before .print-line .ensures))
+    (prints-then (prints-as (ap head-text (c .before .before .before .before .before .before .before .before .before .before .before .before .before .before .before .before .before .before .before .before .kinds .ensures ∙ held-kinds h)) (c .before .before .before .before .before .before .before .before .before .before .before .before .before .before .before .before .before .print-head .ensures)) (c .before .before .before .before .before .before .before .before .before .before .print-line .ensures))
     (c .before .before .before .before .before .before .write-form .ensures (l .element) (l .holds)))
     (c .before .before .print-members .ensures (l .fields) (rw (c .before .before .before .before .before .before .before .before .before .before .before .before .before .before .before .before .before .before .before .size .ensures, c .before .before .before .before .before .before .before .before .before .before .before .before .size2 .ensures) (l .members))))
 
@@ -302,7 +302,7 @@ write-form-print-members-requires-2 t c κs =
           c .before .before .before .before .before .before .before .before .before .before .before .before .pre .1 .room,
           length-unlisted l,
           c .before .before .before .before .before .print-head .ensures .end,
-          ap (λ (k : ℕ). length (head-text k)) (c .before .before .before .before .before .before .before .before .kinds .ensures ∙ holds-kinds (c .before .before .before .before .before .before .before .before .before .before .before .before .pre .1 .holds)),
+          ap (λ (k : ℕ). length (head-text k)) (c .before .before .before .before .before .before .before .before .kinds .ensures ∙ held-kinds (c .before .before .before .before .before .before .before .before .before .before .before .before .pre .1 .holds)),
         );
       },
     )
@@ -316,7 +316,7 @@ write-form-returns-2 t c s h =
     let l = unlisted (c .before .before .before .before .before .before .before .before .before .before .before .before .before .before .before .args .around) h (ap (λ (k : ℕ). has-bit k 32) (sym (c .before .before .before .before .before .before .before .before .before .before .before .kinds .ensures)) ∙ sym (c .before .before .before .before .before .has .ensures) ∙ c .before .before .before .before .if1 .left) in
     prints-as (l .text)
     (prints-then
-    (prints-as (ap head-text (c .before .before .before .before .before .before .before .before .before .before .before .kinds .ensures ∙ holds-kinds h)) (c .before .before .before .before .before .before .before .before .print-head .ensures))
+    (prints-as (ap head-text (c .before .before .before .before .before .before .before .before .before .before .before .kinds .ensures ∙ held-kinds h)) (c .before .before .before .before .before .before .before .before .print-head .ensures))
     (c .before .before .print-members2 .ensures (l .fields) (rw (c .before .before .before .before .before .before .before .before .before .before .size .ensures) (l .members))))
 
 pub +print-members+write-form-spec : {M : Type 1} → statement M

@@ -1,5 +1,5 @@
--- What a shape table and a pool hold, and what a writer of shapes asks and answers. Assumes nothing.
-use Prim.Native.Nat.{ℕ, suc, _+_, _^_, _≤_, _<_}
+-- What a writer of shapes asks and answers. Assumes nothing.
+use Prim.Native.Nat.{ℕ, _+_, _^_, _≤_, _<_}
 use mathlib.Core.Path.{_≡_}
 use mathlib.Core.Bool.{Bool}
 use mathlib.Core.List.{List, _++_}
@@ -11,47 +11,32 @@ use Rattle.definitions.specs.Bytes.{Bytes, bytes}
 use Rattle.definitions.specs.Shape.{Shape, Fields, levels}
 use Rattle.definitions.specs.Plain.{plain-text}
 use Rattle.definitions.specs.ShapeText.{write, write-fields, write-shape}
-use Rattle.definitions.specs.Operations.{Judged, passed, stopped, Text-out, refusal, shape-out, finish}
-use Rattle.plain.specs.Table.{Used}
+use Rattle.definitions.specs.Operations.{passed, stopped, refusal, shape-out, finish}
 use Rattle.plain.specs.Parts.{Holds-text}
-use Rattle.shapes.specs.Shapes.{Stands, Fields-stand}
+use Rattle.shapes.specs.Shapes.{Stands}
+use Rattle.shapes.specs.Held.{Holds-shape, Holds-fields}
 use Rattle.shapewrite.specs.declared.Measured.{Measured}
 use Rattle.shapewrite.specs.declared.Measured.the-variants.{Over, Fits}
 use Rattle.shapewrite.specs.Prints.{Prints}
 use Rattle.shapewrite.specs.Layout.{label-text}
-
--- ---- what a table holds
-
--- the shape s stands in the table from a row on, and its names in the pool
-pub record Holds (shapes pool : List ℕ) (row : ℕ) (s : Shape) : Type 0 where
-  pub used : List ℕ
-  pub name : ℕ
-  pub stands : Stands shapes used row name s
-  pub pooled : Used pool used
-
--- members stand from a row up to an end
-pub record Holds-fields (shapes pool : List ℕ) (row end : ℕ) (fs : Fields) : Type 0 where
-  pub used : List ℕ
-  pub stand : Fields-stand shapes used row end fs
-  pub pooled : Used pool used
 
 -- ---- what a writer asks and answers
 
 -- a shape stands there, and the place behind its form is a number of 64 bits
 pub record Printable (shapes pool : List ℕ) (row at around : ℕ) : Type 0 where
   pub shape : Shape
-  pub holds : Holds shapes pool row shape
+  pub holds : Holds-shape shapes pool row shape
   pub room : at + length (write shape around) < 2 ^ 64
   pub deep : around + 1 < 2 ^ 64
 
 -- the form of the shape that stands there is printed from a place on
 abbrev pub Prints-form : (shapes pool : List ℕ) (row around : ℕ) (out out′ : Bytes) (at r : ℕ) → Type 0
 Prints-form shapes pool row around out out′ at r =
-    (s : Shape) → Holds shapes pool row s → Prints out out′ at (write s around) r
+    (s : Shape) → Holds-shape shapes pool row s → Prints out out′ at (write s around) r
 
 -- the length of its form
 abbrev pub Length-of-form : (shapes pool : List ℕ) (row around r : ℕ) → Type 0
-Length-of-form shapes pool row around r = (s : Shape) → Holds shapes pool row s → r ≡ length (write s around)
+Length-of-form shapes pool row around r = (s : Shape) → Holds-shape shapes pool row s → r ≡ length (write s around)
 
 pub record Printable-fields (shapes pool : List ℕ) (row end at around : ℕ) : Type 0 where
   pub fields : Fields
@@ -97,20 +82,20 @@ Tells-deeper shapes row left r = (p : List ℕ) (m : ℕ) (s : Shape) → Stands
 -- some shape stands at the first row of a table that is not too long for its text to be measured
 pub record Deliverable (shapes pool : List ℕ) : Type 0 where
   pub shape : Shape
-  pub holds : Holds shapes pool 0 shape
+  pub holds : Holds-shape shapes pool 0 shape
   pub small : length shapes ≤ 65536
 
 -- what judging refusal 11 comes to, and how long the text is
 abbrev pub Measures : (shapes pool : List ℕ) → Limits → Measured → Type 0
-Measures shapes pool l Over = (s : Shape) → Holds shapes pool 0 s → shape-out l s ≡ stopped (refusal 11 0 0)
+Measures shapes pool l Over = (s : Shape) → Holds-shape shapes pool 0 s → shape-out l s ≡ stopped (refusal 11 0 0)
 Measures shapes pool l (Fits n) =
-    (s : Shape) → Holds shapes pool 0 s
+    (s : Shape) → Holds-shape shapes pool 0 s
     → (shape-out l s ≡ passed (record { bytes = write-shape s; steps = 0 })) × (n ≡ length (write-shape s))
 
 -- the answer of an operation that writes the shape that stands at the first row
 abbrev pub Delivers-answer : (shapes pool : List ℕ) → Limits → Bytes → Answer → Type 0
-Delivers-answer shapes pool l out r = (s : Shape) → Holds shapes pool 0 s → r ≡ finish out (shape-out l s) .answer
+Delivers-answer shapes pool l out r = (s : Shape) → Holds-shape shapes pool 0 s → r ≡ finish out (shape-out l s) .answer
 
 -- and its output
 abbrev pub Delivers-output : (shapes pool : List ℕ) → Limits → Bytes → Bytes → Type 0
-Delivers-output shapes pool l out out′ = (s : Shape) → Holds shapes pool 0 s → out′ ≡ finish out (shape-out l s) .output
+Delivers-output shapes pool l out out′ = (s : Shape) → Holds-shape shapes pool 0 s → out′ ≡ finish out (shape-out l s) .output
