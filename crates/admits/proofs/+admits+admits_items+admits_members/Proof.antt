@@ -10,13 +10,13 @@ use Rattle.admits.proofs.Named as named
 use Rattle.admits.proofs.Wholes.{Seen, seen, without-kind, single, value-ends, list-asks, list-told, rec-asks, rec-fails, rec-told, members-within}
 use borrow.Fn.Kinds.{In}
 use borrow.Fn.PlainCycle.{Measures, is, falls, and}
-use Rattle.admits.proofs.admits.Reads as admits
+use Rattle.admits.proofs.admits as admits
 use Rattle.admits.proofs.admits.Kinds as admits-kinds
 use Rattle.admits.proofs.+admits+admits_items+admits_members.Lts-admits as admits-lts
-use Rattle.admits.proofs.admits_items.Reads as admits-items
+use Rattle.admits.proofs.admits_items as admits-items
 use Rattle.admits.proofs.admits_items.Kinds as admits-items-kinds
 use Rattle.admits.proofs.+admits+admits_items+admits_members.Lts-admits_items as admits-items-lts
-use Rattle.admits.proofs.admits_members.Reads as admits-members
+use Rattle.admits.proofs.admits_members as admits-members
 use Rattle.admits.proofs.admits_members.Kinds as admits-members-kinds
 use Rattle.admits.proofs.+admits+admits_items+admits_members.Lts-admits_members as admits-members-lts
 use Rattle.admits.proofs.kind_bit.Reads as kind-bit-reads
@@ -40,14 +40,14 @@ abbrev μ-admits-members : Measures 3 admits-members-kinds.ps ℕ
 μ-admits-members κs a = length (a .1 .1 .1 .0 .now) - a .1 .1 .1 .1 .0 + 1
 
 abbrev admits-at : ℕ → In 3 admits-kinds.ps
-admits-at t = and 3 admits-kinds.ps (is 3 admits-kinds.ps μ-admits t) admits.Pre
+admits-at t = and 3 admits-kinds.ps (is 3 admits-kinds.ps μ-admits t) admits.Reads.Pre
 
 abbrev admits-below : ℕ → In 3 admits-kinds.ps
-admits-below t = and 3 admits-kinds.ps (falls 3 admits-kinds.ps _<_ μ-admits t) admits.Pre
+admits-below t = and 3 admits-kinds.ps (falls 3 admits-kinds.ps _<_ μ-admits t) admits.Reads.Pre
 
 abbrev admits-items-at : ℕ → In 3 admits-items-kinds.ps
 admits-items-at t =
-    and 3 admits-items-kinds.ps (is 3 admits-items-kinds.ps μ-admits-items t) admits-items.Pre
+    and 3 admits-items-kinds.ps (is 3 admits-items-kinds.ps μ-admits-items t) admits-items.Reads.Pre
 
 abbrev admits-items-below : ℕ → In 3 admits-items-kinds.ps
 admits-items-below t =
@@ -55,7 +55,7 @@ admits-items-below t =
     3
     admits-items-kinds.ps
     (falls 3 admits-items-kinds.ps _<_ μ-admits-items t)
-    admits-items.Pre
+    admits-items.Reads.Pre
 
 abbrev admits-members-at : ℕ → In 3 admits-members-kinds.ps
 admits-members-at t =
@@ -63,7 +63,7 @@ admits-members-at t =
     3
     admits-members-kinds.ps
     (is 3 admits-members-kinds.ps μ-admits-members t)
-    admits-members.Pre
+    admits-members.Reads.Pre
 
 abbrev admits-members-below : ℕ → In 3 admits-members-kinds.ps
 admits-members-below t =
@@ -71,7 +71,7 @@ admits-members-below t =
     3
     admits-members-kinds.ps
     (falls 3 admits-members-kinds.ps _<_ μ-admits-members t)
-    admits-members.Pre
+    admits-members.Reads.Pre
 
 -- what the functions called ask and ensure
 abbrev admits-claims : ℕ → admits-lts.Claims
@@ -85,13 +85,13 @@ admits-claims t = (
   row-size-reads.Asked,
   row-size-reads.Learnt,
   admits-items-below t,
-  admits-items.Post,
+  admits-items.Reads.Post,
   members-reads.Asked,
   members-reads.Learnt,
   size-reads.Asked,
   size-reads.Learnt,
   admits-members-below t,
-  admits-members.Post,
+  admits-members.Reads.Post,
   missing-have-null-reads.Asked,
   missing-have-null-reads.Learnt,
 )
@@ -100,54 +100,54 @@ admits-claims t = (
 
 -- what is known behind the first test
 seen-here
-    : (t : ℕ) (c : admits-lts.After-has (admits-claims t) (admits-at t) admits.Post)
+    : (t : ℕ) (c : admits-lts.After-has (admits-claims t) (admits-at t) admits.Reads.Post)
     → Seen (c .before .before .before .before .before .before .args .shapes .now) (c .before .before .before .before .before .before .args .row) (c .before .before .before .before .before .before .args .nodes .now) (c .before .before .before .before .before .before .args .at) (c .before .before .before .before .before .before .args .pool .now) (c .before .before .kind-bit .result) (c .has .result)
 seen-here t c = seen (c .before .before .before .before .before .before .args .shapes .now) (c .before .before .before .before .before .before .args .row) (c .before .before .before .before .before .before .args .nodes .now) (c .before .before .before .before .before .before .args .at) (c .before .before .before .before .before .before .args .pool .now) (c .before .before .kind-bit .ensures) (c .before .kinds .ensures) (c .has .ensures)
 
-admits-kind-bit-requires : (t : ℕ) → admits-lts.Need-kind-bit-requires (admits-claims t) (admits-at t) admits.Post
+admits-kind-bit-requires : (t : ℕ) → admits-lts.Need-kind-bit-requires (admits-claims t) (admits-at t) admits.Reads.Post
 admits-kind-bit-requires t c κs = search needs
 
-admits-kinds-requires : (t : ℕ) → admits-lts.Need-kinds-requires (admits-claims t) (admits-at t) admits.Post
+admits-kinds-requires : (t : ℕ) → admits-lts.Need-kinds-requires (admits-claims t) (admits-at t) admits.Reads.Post
 admits-kinds-requires t c κs = search needs
 
-admits-has-requires : (t : ℕ) → admits-lts.Need-has-requires (admits-claims t) (admits-at t) admits.Post
+admits-has-requires : (t : ℕ) → admits-lts.Need-has-requires (admits-claims t) (admits-at t) admits.Reads.Post
 admits-has-requires t c κs = search needs
 
-admits-returns : (t : ℕ) → admits-lts.Need-returns (admits-claims t) (admits-at t) admits.Post
+admits-returns : (t : ℕ) → admits-lts.Need-returns (admits-claims t) (admits-at t) admits.Reads.Post
 admits-returns t c =
     without-kind (c .before .before .before .before .before .before .before .args .shapes .now) (c .before .before .before .before .before .before .before .args .row) (c .before .before .before .before .before .before .before .args .nodes .now) (c .before .before .before .before .before .before .before .args .at) (c .before .before .before .before .before .before .before .args .pool .now)
     (seen-here t (c .before)) (c .if1 .taken)
 
-admits-returns-2 : (t : ℕ) → admits-lts.Need-returns-2 (admits-claims t) (admits-at t) admits.Post
+admits-returns-2 : (t : ℕ) → admits-lts.Need-returns-2 (admits-claims t) (admits-at t) admits.Reads.Post
 admits-returns-2 t c =
     single (c .before .before .before .before .before .before .before .before .args .shapes .now) (c .before .before .before .before .before .before .before .before .args .row) (c .before .before .before .before .before .before .before .before .args .nodes .now) (c .before .before .before .before .before .before .before .before .args .at) (c .before .before .before .before .before .before .before .before .args .pool .now)
     (seen-here t (c .before .before)) (c .before .if1 .left) (c .if2 .taken)
 
-admits-row-size-requires : (t : ℕ) → admits-lts.Need-row-size-requires (admits-claims t) (admits-at t) admits.Post
+admits-row-size-requires : (t : ℕ) → admits-lts.Need-row-size-requires (admits-claims t) (admits-at t) admits.Reads.Post
 admits-row-size-requires t c κs = search needs
 
-admits-add-end : (t : ℕ) → admits-lts.Need-add-end (admits-claims t) (admits-at t) admits.Post
+admits-add-end : (t : ℕ) → admits-lts.Need-add-end (admits-claims t) (admits-at t) admits.Reads.Post
 admits-add-end t c = omega (arith, value-ends (c .before .before .before .before .before .before .before .before .before .pre .1 .holds) .1, c .row-size .ensures, c .before .before .before .before .before .before .before .before .before .good .1 .1 .0 .0)
 
-admits-add-admits-items : (t : ℕ) → admits-lts.Need-add-admits-items (admits-claims t) (admits-at t) admits.Post
+admits-add-admits-items : (t : ℕ) → admits-lts.Need-add-admits-items (admits-claims t) (admits-at t) admits.Reads.Post
 admits-add-admits-items t c = omega (arith, held-within (c .before .before .before .before .before .before .before .before .before .before .pre .1 .held) .0, held-within (c .before .before .before .before .before .before .before .before .before .before .pre .1 .held) .1, c .before .before .before .before .before .before .before .before .before .before .good .0 .0)
 
-admits-add-admits-items-2 : (t : ℕ) → admits-lts.Need-add-admits-items-2 (admits-claims t) (admits-at t) admits.Post
+admits-add-admits-items-2 : (t : ℕ) → admits-lts.Need-add-admits-items-2 (admits-claims t) (admits-at t) admits.Reads.Post
 admits-add-admits-items-2 t c = omega (arith, value-ends (c .before .before .before .before .before .before .before .before .before .before .pre .1 .holds) .0, value-ends (c .before .before .before .before .before .before .before .before .before .before .pre .1 .holds) .1, c .before .before .before .before .before .before .before .before .before .before .good .1 .1 .0 .0)
 
-admits-admits-items-requires : (t : ℕ) → admits-lts.Need-admits-items-requires (admits-claims t) (admits-at t) admits.Post
+admits-admits-items-requires : (t : ℕ) → admits-lts.Need-admits-items-requires (admits-claims t) (admits-at t) admits.Reads.Post
 admits-admits-items-requires t c κs = (
   omega (arith, c .before .before .before .before .before .before .before .before .before .before .pre .0, value-ends (c .before .before .before .before .before .before .before .before .before .before .pre .1 .holds) .0, value-ends (c .before .before .before .before .before .before .before .before .before .before .pre .1 .holds) .1),
   list-asks (c .before .before .before .before .before .before .before .before .before .before .args .shapes .now) (c .before .before .before .before .before .before .before .before .before .before .args .row) (c .before .before .before .before .before .before .before .before .before .before .args .nodes .now) (c .before .before .before .before .before .before .before .before .before .before .args .at) (c .before .before .before .before .before .before .before .before .before .before .args .pool .now)
       (seen-here t (c .before .before .before .before)) (c .before .before .before .if1 .left) (c .before .row-size .ensures) (c .if3 .taken) (c .before .before .before .before .before .before .before .before .before .before .pre .1),
 )
 
-admits-returns-3 : (t : ℕ) → admits-lts.Need-returns-3 (admits-claims t) (admits-at t) admits.Post
+admits-returns-3 : (t : ℕ) → admits-lts.Need-returns-3 (admits-claims t) (admits-at t) admits.Reads.Post
 admits-returns-3 t c =
     list-told (c .before .before .before .before .before .before .before .before .before .before .before .args .shapes .now) (c .before .before .before .before .before .before .before .before .before .before .before .args .row) (c .before .before .before .before .before .before .before .before .before .before .before .args .nodes .now) (c .before .before .before .before .before .before .before .before .before .before .before .args .at) (c .before .before .before .before .before .before .before .before .before .before .before .args .pool .now)
     (seen-here t (c .before .before .before .before .before)) (c .before .before .before .before .if1 .left) (c .before .before .row-size .ensures) (c .before .if3 .taken) (c .admits-items .ensures)
 
-admits-members-requires : (t : ℕ) → admits-lts.Need-members-requires (admits-claims t) (admits-at t) admits.Post
+admits-members-requires : (t : ℕ) → admits-lts.Need-members-requires (admits-claims t) (admits-at t) admits.Reads.Post
 admits-members-requires t c κs = (
   omega (arith, held-within (c .before .before .before .before .before .before .before .before .before .before .pre .1 .held) .0, held-within (c .before .before .before .before .before .before .before .before .before .before .pre .1 .held) .1),
   omega (
@@ -159,37 +159,37 @@ admits-members-requires t c κs = (
   ),
 )
 
-admits-size-requires : (t : ℕ) → admits-lts.Need-size-requires (admits-claims t) (admits-at t) admits.Post
+admits-size-requires : (t : ℕ) → admits-lts.Need-size-requires (admits-claims t) (admits-at t) admits.Reads.Post
 admits-size-requires t c κs = search needs
 
-admits-add-to : (t : ℕ) → admits-lts.Need-add-to (admits-claims t) (admits-at t) admits.Post
+admits-add-to : (t : ℕ) → admits-lts.Need-add-to (admits-claims t) (admits-at t) admits.Reads.Post
 admits-add-to t c = omega (arith, held-within (c .before .before .before .before .before .before .before .before .before .before .before .before .pre .1 .held) .1, c .size .ensures, c .before .before .before .before .before .before .before .before .before .before .before .before .good .0 .0)
 
-admits-add-admits-members : (t : ℕ) → admits-lts.Need-add-admits-members (admits-claims t) (admits-at t) admits.Post
+admits-add-admits-members : (t : ℕ) → admits-lts.Need-add-admits-members (admits-claims t) (admits-at t) admits.Reads.Post
 admits-add-admits-members t c = omega (arith, value-ends (c .before .before .before .before .before .before .before .before .before .before .before .before .pre .1 .holds) .0, value-ends (c .before .before .before .before .before .before .before .before .before .before .before .before .pre .1 .holds) .1, c .before .before .before .before .before .before .before .before .before .before .before .before .good .1 .1 .0 .0)
 
-admits-admits-members-requires : (t : ℕ) → admits-lts.Need-admits-members-requires (admits-claims t) (admits-at t) admits.Post
+admits-admits-members-requires : (t : ℕ) → admits-lts.Need-admits-members-requires (admits-claims t) (admits-at t) admits.Reads.Post
 admits-admits-members-requires t c κs = (
   omega (arith, c .before .before .before .before .before .before .before .before .before .before .before .before .pre .0, value-ends (c .before .before .before .before .before .before .before .before .before .before .before .before .pre .1 .holds) .0, value-ends (c .before .before .before .before .before .before .before .before .before .before .before .before .pre .1 .holds) .1),
   rec-asks (c .before .before .before .before .before .before .before .before .before .before .before .before .args .shapes .now) (c .before .before .before .before .before .before .before .before .before .before .before .before .args .row) (c .before .before .before .before .before .before .before .before .before .before .before .before .args .nodes .now) (c .before .before .before .before .before .before .before .before .before .before .before .before .args .at) (c .before .before .before .before .before .before .before .before .before .before .before .before .args .pool .now)
       (seen-here t (c .before .before .before .before .before .before)) (c .before .before .before .before .before .if1 .left) (c .before .before .before .row-size .ensures) (c .before .before .before .before .if2 .left) (c .before .before .if3 .left) (c .before .members .ensures) (c .size .ensures) (c .before .before .before .before .before .before .before .before .before .before .before .before .pre .1),
 )
 
-admits-returns-4 : (t : ℕ) → admits-lts.Need-returns-4 (admits-claims t) (admits-at t) admits.Post
+admits-returns-4 : (t : ℕ) → admits-lts.Need-returns-4 (admits-claims t) (admits-at t) admits.Reads.Post
 admits-returns-4 t c =
     rec-fails (c .before .before .before .before .before .before .before .before .before .before .before .before .before .before .args .shapes .now) (c .before .before .before .before .before .before .before .before .before .before .before .before .before .before .args .row) (c .before .before .before .before .before .before .before .before .before .before .before .before .before .before .args .nodes .now) (c .before .before .before .before .before .before .before .before .before .before .before .before .before .before .args .at) (c .before .before .before .before .before .before .before .before .before .before .before .before .before .before .args .pool .now)
     (seen-here t (c .before .before .before .before .before .before .before .before)) (c .before .before .before .before .before .before .before .if1 .left) (c .before .before .before .before .before .row-size .ensures) (c .before .before .before .before .before .before .if2 .left) (c .before .before .before .before .if3 .left) (c .before .before .before .members .ensures) (c .before .before .size .ensures)
     (c .before .admits-members .ensures) (c .if4 .taken)
 
-admits-add-missing-have-null : (t : ℕ) → admits-lts.Need-add-missing-have-null (admits-claims t) (admits-at t) admits.Post
+admits-add-missing-have-null : (t : ℕ) → admits-lts.Need-add-missing-have-null (admits-claims t) (admits-at t) admits.Reads.Post
 admits-add-missing-have-null t c = omega (arith, value-ends (c .before .before .before .before .before .before .before .before .before .before .before .before .before .before .pre .1 .holds) .0, value-ends (c .before .before .before .before .before .before .before .before .before .before .before .before .before .before .pre .1 .holds) .1, c .before .before .before .before .before .before .before .before .before .before .before .before .before .before .good .1 .1 .0 .0)
 
-admits-missing-have-null-requires : (t : ℕ) → admits-lts.Need-missing-have-null-requires (admits-claims t) (admits-at t) admits.Post
+admits-missing-have-null-requires : (t : ℕ) → admits-lts.Need-missing-have-null-requires (admits-claims t) (admits-at t) admits.Reads.Post
 admits-missing-have-null-requires t c κs =
     rec-asks (c .before .before .before .before .before .before .before .before .before .before .before .before .before .before .args .shapes .now) (c .before .before .before .before .before .before .before .before .before .before .before .before .before .before .args .row) (c .before .before .before .before .before .before .before .before .before .before .before .before .before .before .args .nodes .now) (c .before .before .before .before .before .before .before .before .before .before .before .before .before .before .args .at) (c .before .before .before .before .before .before .before .before .before .before .before .before .before .before .args .pool .now)
     (seen-here t (c .before .before .before .before .before .before .before .before)) (c .before .before .before .before .before .before .before .if1 .left) (c .before .before .before .before .before .row-size .ensures) (c .before .before .before .before .before .before .if2 .left) (c .before .before .before .before .if3 .left) (c .before .before .before .members .ensures) (c .before .before .size .ensures) (c .before .before .before .before .before .before .before .before .before .before .before .before .before .before .pre .1)
 
-admits-returns-5 : (t : ℕ) → admits-lts.Need-returns-5 (admits-claims t) (admits-at t) admits.Post
+admits-returns-5 : (t : ℕ) → admits-lts.Need-returns-5 (admits-claims t) (admits-at t) admits.Reads.Post
 admits-returns-5 t c =
     rec-told (c .before .before .before .before .before .before .before .before .before .before .before .before .before .before .before .args .shapes .now) (c .before .before .before .before .before .before .before .before .before .before .before .before .before .before .before .args .row) (c .before .before .before .before .before .before .before .before .before .before .before .before .before .before .before .args .nodes .now) (c .before .before .before .before .before .before .before .before .before .before .before .before .before .before .before .args .at) (c .before .before .before .before .before .before .before .before .before .before .before .before .before .before .before .args .pool .now)
     (seen-here t (c .before .before .before .before .before .before .before .before .before)) (c .before .before .before .before .before .before .before .before .if1 .left) (c .before .before .before .before .before .before .row-size .ensures) (c .before .before .before .before .before .before .before .if2 .left) (c .before .before .before .before .before .if3 .left) (c .before .before .before .before .members .ensures) (c .before .before .before .size .ensures)
@@ -205,47 +205,47 @@ admits-items-μ-loop shapes row nodes at end pool i₀ i = end - i
 abbrev admits-items-claims : ℕ → admits-items-lts.Claims
 admits-items-claims t = (
   admits-below t,
-  admits.Post,
+  admits.Reads.Post,
   row-size-reads.Asked,
   row-size-reads.Learnt,
 )
 
 -- ---- admits_items
 
-admits-items-loop-holds : (t : ℕ) → admits-items-lts.Need-loop-holds (admits-items-claims t) (admits-items-at t) admits-items.Post admits-items-Inv-loop admits-items-μ-loop
+admits-items-loop-holds : (t : ℕ) → admits-items-lts.Need-loop-holds (admits-items-claims t) (admits-items-at t) admits-items.Reads.Post admits-items-Inv-loop admits-items-μ-loop
 admits-items-loop-holds t c = elements.walk-begins (c .before .before .before .args .shapes .now) (c .before .before .before .args .row) (c .before .before .before .args .nodes .now) (c .before .before .before .args .at) (c .before .before .before .args .end) (c .before .before .before .args .pool .now)
 
-admits-items-admits-requires : (t : ℕ) → admits-items-lts.Need-admits-requires (admits-items-claims t) (admits-items-at t) admits-items.Post admits-items-Inv-loop admits-items-μ-loop
+admits-items-admits-requires : (t : ℕ) → admits-items-lts.Need-admits-requires (admits-items-claims t) (admits-items-at t) admits-items.Reads.Post admits-items-Inv-loop admits-items-μ-loop
 admits-items-admits-requires t c κs =
     let s = elements.walk-step (c .before .before .before .before .before .args .shapes .now) (c .before .before .before .before .before .args .row) (c .before .before .before .before .before .args .nodes .now) (c .before .before .before .before .before .args .at) (c .before .before .before .before .before .args .end) (c .before .before .before .before .before .args .pool .now) (c .before .loop .inv) (c .loop-test .taken) (c .before .before .before .before .before .pre .1) in (
       omega (arith, c .before .before .before .before .before .pre .0, c .before .loop .inv .ahead, s .0, s .1),
       elements.walk-asks (c .before .before .before .before .before .args .shapes .now) (c .before .before .before .before .before .args .row) (c .before .before .before .before .before .args .nodes .now) (c .before .before .before .before .before .args .at) (c .before .before .before .before .before .args .end) (c .before .before .before .before .before .args .pool .now) (c .before .loop .inv) (c .loop-test .taken) (c .before .before .before .before .before .pre .1),
     )
 
-admits-items-returns : (t : ℕ) → admits-items-lts.Need-returns (admits-items-claims t) (admits-items-at t) admits-items.Post admits-items-Inv-loop admits-items-μ-loop
+admits-items-returns : (t : ℕ) → admits-items-lts.Need-returns (admits-items-claims t) (admits-items-at t) admits-items.Reads.Post admits-items-Inv-loop admits-items-μ-loop
 admits-items-returns t c =
     elements.walk-fails (c .before .before .before .before .before .before .before .args .shapes .now) (c .before .before .before .before .before .before .before .args .row) (c .before .before .before .before .before .before .before .args .nodes .now) (c .before .before .before .before .before .before .before .args .at) (c .before .before .before .before .before .before .before .args .end) (c .before .before .before .before .before .before .before .args .pool .now) (c .before .before .before .loop .inv) (c .before .before .loop-test .taken)
     (c .before .admits .ensures) (c .if1 .taken)
 
-admits-items-row-size-requires : (t : ℕ) → admits-items-lts.Need-row-size-requires (admits-items-claims t) (admits-items-at t) admits-items.Post admits-items-Inv-loop admits-items-μ-loop
+admits-items-row-size-requires : (t : ℕ) → admits-items-lts.Need-row-size-requires (admits-items-claims t) (admits-items-at t) admits-items.Reads.Post admits-items-Inv-loop admits-items-μ-loop
 admits-items-row-size-requires t c κs = search needs
 
-admits-items-add-i : (t : ℕ) → admits-items-lts.Need-add-i (admits-items-claims t) (admits-items-at t) admits-items.Post admits-items-Inv-loop admits-items-μ-loop
+admits-items-add-i : (t : ℕ) → admits-items-lts.Need-add-i (admits-items-claims t) (admits-items-at t) admits-items.Reads.Post admits-items-Inv-loop admits-items-μ-loop
 admits-items-add-i t c =
     let s = elements.walk-step (c .before .before .before .before .before .before .before .before .args .shapes .now) (c .before .before .before .before .before .before .before .before .args .row) (c .before .before .before .before .before .before .before .before .args .nodes .now) (c .before .before .before .before .before .before .before .before .args .at) (c .before .before .before .before .before .before .before .before .args .end) (c .before .before .before .before .before .before .before .before .args .pool .now) (c .before .before .before .before .loop .inv) (c .before .before .before .loop-test .taken) (c .before .before .before .before .before .before .before .before .pre .1) in
     omega (arith, c .row-size .ensures, s .2)
 
-admits-items-loop-less : (t : ℕ) → admits-items-lts.Need-loop-less (admits-items-claims t) (admits-items-at t) admits-items.Post admits-items-Inv-loop admits-items-μ-loop
+admits-items-loop-less : (t : ℕ) → admits-items-lts.Need-loop-less (admits-items-claims t) (admits-items-at t) admits-items.Reads.Post admits-items-Inv-loop admits-items-μ-loop
 admits-items-loop-less t c =
     let s = elements.walk-step (c .before .before .before .before .before .before .before .before .args .shapes .now) (c .before .before .before .before .before .before .before .before .args .row) (c .before .before .before .before .before .before .before .before .args .nodes .now) (c .before .before .before .before .before .before .before .before .args .at) (c .before .before .before .before .before .before .before .before .args .end) (c .before .before .before .before .before .before .before .before .args .pool .now) (c .before .before .before .before .loop .inv) (c .before .before .before .loop-test .taken) (c .before .before .before .before .before .before .before .before .pre .1) in
     omega (arith, c .row-size .ensures, c .before .before .before .loop-test .taken, s .0, s .2)
 
-admits-items-loop-again : (t : ℕ) → admits-items-lts.Need-loop-again (admits-items-claims t) (admits-items-at t) admits-items.Post admits-items-Inv-loop admits-items-μ-loop
+admits-items-loop-again : (t : ℕ) → admits-items-lts.Need-loop-again (admits-items-claims t) (admits-items-at t) admits-items.Reads.Post admits-items-Inv-loop admits-items-μ-loop
 admits-items-loop-again t c =
     elements.walk-on (c .before .before .before .before .before .before .before .before .args .shapes .now) (c .before .before .before .before .before .before .before .before .args .row) (c .before .before .before .before .before .before .before .before .args .nodes .now) (c .before .before .before .before .before .before .before .before .args .at) (c .before .before .before .before .before .before .before .before .args .end) (c .before .before .before .before .before .before .before .before .args .pool .now) (c .before .before .before .before .loop .inv) (c .before .before .before .loop-test .taken)
     (c .before .before .admits .ensures) (c .before .if1 .left) (c .row-size .ensures)
 
-admits-items-returns-2 : (t : ℕ) → admits-items-lts.Need-returns-2 (admits-items-claims t) (admits-items-at t) admits-items.Post admits-items-Inv-loop admits-items-μ-loop
+admits-items-returns-2 : (t : ℕ) → admits-items-lts.Need-returns-2 (admits-items-claims t) (admits-items-at t) admits-items.Reads.Post admits-items-Inv-loop admits-items-μ-loop
 admits-items-returns-2 t c =
     elements.walk-ends (c .before .before .before .before .before .args .shapes .now) (c .before .before .before .before .before .args .row) (c .before .before .before .before .before .args .nodes .now) (c .before .before .before .before .before .args .at) (c .before .before .before .before .before .args .end) (c .before .before .before .before .before .args .pool .now) (c .before .loop .inv) (c .loop-test .left)
 
@@ -261,31 +261,31 @@ admits-members-claims t = (
   listed-reads.Asked,
   listed-reads.Learnt,
   admits-below t,
-  admits.Post,
+  admits.Reads.Post,
   row-size-reads.Asked,
   row-size-reads.Learnt,
 )
 
 -- ---- admits_members
 
-admits-members-loop-holds : (t : ℕ) → admits-members-lts.Need-loop-holds (admits-members-claims t) (admits-members-at t) admits-members.Post admits-members-Inv-loop admits-members-μ-loop
+admits-members-loop-holds : (t : ℕ) → admits-members-lts.Need-loop-holds (admits-members-claims t) (admits-members-at t) admits-members.Reads.Post admits-members-Inv-loop admits-members-μ-loop
 admits-members-loop-holds t c = named.walk-begins (c .before .before .before .args .shapes .now) (c .before .before .before .args .from) (c .before .before .before .args .to) (c .before .before .before .args .nodes .now) (c .before .before .before .args .at) (c .before .before .before .args .end) (c .before .before .before .args .pool .now)
 
-admits-members-listed-requires : (t : ℕ) → admits-members-lts.Need-listed-requires (admits-members-claims t) (admits-members-at t) admits-members.Post admits-members-Inv-loop admits-members-μ-loop
+admits-members-listed-requires : (t : ℕ) → admits-members-lts.Need-listed-requires (admits-members-claims t) (admits-members-at t) admits-members.Reads.Post admits-members-Inv-loop admits-members-μ-loop
 admits-members-listed-requires t c κs = some-listed (c .before .before .before .before .before .pre .1 .held)
 
-admits-members-enum-known-row : (t : ℕ) → admits-members-lts.Need-enum-known-row (admits-members-claims t) (admits-members-at t) admits-members.Post admits-members-Inv-loop admits-members-μ-loop
+admits-members-enum-known-row : (t : ℕ) → admits-members-lts.Need-enum-known-row (admits-members-claims t) (admits-members-at t) admits-members.Reads.Post admits-members-Inv-loop admits-members-μ-loop
 admits-members-enum-known-row t c = search needs
 
-admits-members-enum-told : (t : ℕ) → admits-members-lts.Need-enum-told (admits-members-claims t) (admits-members-at t) admits-members.Post admits-members-Inv-loop admits-members-μ-loop
+admits-members-enum-told : (t : ℕ) → admits-members-lts.Need-enum-told (admits-members-claims t) (admits-members-at t) admits-members.Reads.Post admits-members-Inv-loop admits-members-μ-loop
 admits-members-enum-told t c = search needs
 
-admits-members-returns : (t : ℕ) → admits-members-lts.Need-returns (admits-members-claims t) (admits-members-at t) admits-members.Post admits-members-Inv-loop admits-members-μ-loop
+admits-members-returns : (t : ℕ) → admits-members-lts.Need-returns (admits-members-claims t) (admits-members-at t) admits-members.Reads.Post admits-members-Inv-loop admits-members-μ-loop
 admits-members-returns t c =
     named.walk-misses (c .before .before .before .before .before .before .before .before .args .shapes .now) (c .before .before .before .before .before .before .before .before .args .from) (c .before .before .before .before .before .before .before .before .args .to) (c .before .before .before .before .before .before .before .before .args .nodes .now) (c .before .before .before .before .before .before .before .before .args .at) (c .before .before .before .before .before .before .before .before .args .end) (c .before .before .before .before .before .before .before .before .args .pool .now) (c .before .before .before .before .loop .inv) (c .before .before .before .loop-test .taken)
     (c .before .before .listed .result) (c .before .before .listed .ensures) (c .enum-told .given .1)
 
-admits-members-admits-requires : (t : ℕ) → admits-members-lts.Need-admits-requires (admits-members-claims t) (admits-members-at t) admits-members.Post admits-members-Inv-loop admits-members-μ-loop
+admits-members-admits-requires : (t : ℕ) → admits-members-lts.Need-admits-requires (admits-members-claims t) (admits-members-at t) admits-members.Reads.Post admits-members-Inv-loop admits-members-μ-loop
 admits-members-admits-requires t c κs =
     let s = named.walk-step (c .before .before .before .before .before .before .before .before .before .args .shapes .now) (c .before .before .before .before .before .before .before .before .before .args .from) (c .before .before .before .before .before .before .before .before .before .args .to) (c .before .before .before .before .before .before .before .before .before .args .nodes .now) (c .before .before .before .before .before .before .before .before .before .args .at) (c .before .before .before .before .before .before .before .before .before .args .end) (c .before .before .before .before .before .before .before .before .before .args .pool .now) (c .before .before .before .before .before .loop .inv) (c .before .before .before .before .loop-test .taken) (c .before .before .before .before .before .before .before .before .before .pre .1) in (
       omega (arith, c .before .before .before .before .before .before .before .before .before .pre .0, c .before .before .before .before .before .loop .inv .ahead, s .0, s .1),
@@ -293,30 +293,30 @@ admits-members-admits-requires t c κs =
           (c .before .before .before .listed .result) (c .before .before .before .listed .ensures) (c .before .row .given .1) (c .before .before .before .before .before .before .before .before .before .pre .1),
     )
 
-admits-members-returns-2 : (t : ℕ) → admits-members-lts.Need-returns-2 (admits-members-claims t) (admits-members-at t) admits-members.Post admits-members-Inv-loop admits-members-μ-loop
+admits-members-returns-2 : (t : ℕ) → admits-members-lts.Need-returns-2 (admits-members-claims t) (admits-members-at t) admits-members.Reads.Post admits-members-Inv-loop admits-members-μ-loop
 admits-members-returns-2 t c =
     named.walk-fails (c .before .before .before .before .before .before .before .before .before .before .before .args .shapes .now) (c .before .before .before .before .before .before .before .before .before .before .before .args .from) (c .before .before .before .before .before .before .before .before .before .before .before .args .to) (c .before .before .before .before .before .before .before .before .before .before .before .args .nodes .now) (c .before .before .before .before .before .before .before .before .before .before .before .args .at) (c .before .before .before .before .before .before .before .before .before .before .before .args .end) (c .before .before .before .before .before .before .before .before .before .before .before .args .pool .now) (c .before .before .before .before .before .before .before .loop .inv) (c .before .before .before .before .before .before .loop-test .taken)
     (c .before .before .before .before .before .listed .result) (c .before .before .before .before .before .listed .ensures) (c .before .before .before .row .given .1) (c .before .admits .ensures) (c .if1 .taken)
 
-admits-members-row-size-requires : (t : ℕ) → admits-members-lts.Need-row-size-requires (admits-members-claims t) (admits-members-at t) admits-members.Post admits-members-Inv-loop admits-members-μ-loop
+admits-members-row-size-requires : (t : ℕ) → admits-members-lts.Need-row-size-requires (admits-members-claims t) (admits-members-at t) admits-members.Reads.Post admits-members-Inv-loop admits-members-μ-loop
 admits-members-row-size-requires t c κs = search needs
 
-admits-members-add-i : (t : ℕ) → admits-members-lts.Need-add-i (admits-members-claims t) (admits-members-at t) admits-members.Post admits-members-Inv-loop admits-members-μ-loop
+admits-members-add-i : (t : ℕ) → admits-members-lts.Need-add-i (admits-members-claims t) (admits-members-at t) admits-members.Reads.Post admits-members-Inv-loop admits-members-μ-loop
 admits-members-add-i t c =
     let s = named.walk-step (c .before .before .before .before .before .before .before .before .before .before .before .before .args .shapes .now) (c .before .before .before .before .before .before .before .before .before .before .before .before .args .from) (c .before .before .before .before .before .before .before .before .before .before .before .before .args .to) (c .before .before .before .before .before .before .before .before .before .before .before .before .args .nodes .now) (c .before .before .before .before .before .before .before .before .before .before .before .before .args .at) (c .before .before .before .before .before .before .before .before .before .before .before .before .args .end) (c .before .before .before .before .before .before .before .before .before .before .before .before .args .pool .now) (c .before .before .before .before .before .before .before .before .loop .inv) (c .before .before .before .before .before .before .before .loop-test .taken) (c .before .before .before .before .before .before .before .before .before .before .before .before .pre .1) in
     omega (arith, c .row-size .ensures, s .2)
 
-admits-members-loop-less : (t : ℕ) → admits-members-lts.Need-loop-less (admits-members-claims t) (admits-members-at t) admits-members.Post admits-members-Inv-loop admits-members-μ-loop
+admits-members-loop-less : (t : ℕ) → admits-members-lts.Need-loop-less (admits-members-claims t) (admits-members-at t) admits-members.Reads.Post admits-members-Inv-loop admits-members-μ-loop
 admits-members-loop-less t c =
     let s = named.walk-step (c .before .before .before .before .before .before .before .before .before .before .before .before .args .shapes .now) (c .before .before .before .before .before .before .before .before .before .before .before .before .args .from) (c .before .before .before .before .before .before .before .before .before .before .before .before .args .to) (c .before .before .before .before .before .before .before .before .before .before .before .before .args .nodes .now) (c .before .before .before .before .before .before .before .before .before .before .before .before .args .at) (c .before .before .before .before .before .before .before .before .before .before .before .before .args .end) (c .before .before .before .before .before .before .before .before .before .before .before .before .args .pool .now) (c .before .before .before .before .before .before .before .before .loop .inv) (c .before .before .before .before .before .before .before .loop-test .taken) (c .before .before .before .before .before .before .before .before .before .before .before .before .pre .1) in
     omega (arith, c .row-size .ensures, c .before .before .before .before .before .before .before .loop-test .taken, s .0, s .2)
 
-admits-members-loop-again : (t : ℕ) → admits-members-lts.Need-loop-again (admits-members-claims t) (admits-members-at t) admits-members.Post admits-members-Inv-loop admits-members-μ-loop
+admits-members-loop-again : (t : ℕ) → admits-members-lts.Need-loop-again (admits-members-claims t) (admits-members-at t) admits-members.Reads.Post admits-members-Inv-loop admits-members-μ-loop
 admits-members-loop-again t c =
     named.walk-on (c .before .before .before .before .before .before .before .before .before .before .before .before .args .shapes .now) (c .before .before .before .before .before .before .before .before .before .before .before .before .args .from) (c .before .before .before .before .before .before .before .before .before .before .before .before .args .to) (c .before .before .before .before .before .before .before .before .before .before .before .before .args .nodes .now) (c .before .before .before .before .before .before .before .before .before .before .before .before .args .at) (c .before .before .before .before .before .before .before .before .before .before .before .before .args .end) (c .before .before .before .before .before .before .before .before .before .before .before .before .args .pool .now) (c .before .before .before .before .before .before .before .before .loop .inv) (c .before .before .before .before .before .before .before .loop-test .taken)
     (c .before .before .before .before .before .before .listed .result) (c .before .before .before .before .before .before .listed .ensures) (c .before .before .before .before .row .given .1) (c .before .before .admits .ensures) (c .before .if1 .left) (c .row-size .ensures)
 
-admits-members-returns-3 : (t : ℕ) → admits-members-lts.Need-returns-3 (admits-members-claims t) (admits-members-at t) admits-members.Post admits-members-Inv-loop admits-members-μ-loop
+admits-members-returns-3 : (t : ℕ) → admits-members-lts.Need-returns-3 (admits-members-claims t) (admits-members-at t) admits-members.Reads.Post admits-members-Inv-loop admits-members-μ-loop
 admits-members-returns-3 t c =
     named.walk-ends (c .before .before .before .before .before .args .shapes .now) (c .before .before .before .before .before .args .from) (c .before .before .before .before .before .args .to) (c .before .before .before .before .before .args .nodes .now) (c .before .before .before .before .before .args .at) (c .before .before .before .before .before .args .end) (c .before .before .before .before .before .args .pool .now) (c .before .loop .inv) (c .loop-test .left)
 
@@ -324,7 +324,7 @@ pub +admits+admits-items+admits-members-spec : {M : Type 1} → statement M
 +admits+admits-items+admits-members-spec =
     close μ-admits μ-admits-items μ-admits-members (λ t. admits-lts.spec (admits-claims t)
     (admits-at t)
-    admits.Post
+    admits.Reads.Post
     (admits-kind-bit-requires t)
     (admits-kinds-requires t)
     (admits-has-requires t)
@@ -347,7 +347,7 @@ pub +admits+admits-items+admits-members-spec : {M : Type 1} → statement M
     (admits-returns-5 t))
     (λ t. admits-items-lts.spec (admits-items-claims t)
     (admits-items-at t)
-    admits-items.Post
+    admits-items.Reads.Post
     admits-items-Inv-loop
     admits-items-μ-loop
     (admits-items-loop-holds t)
@@ -360,7 +360,7 @@ pub +admits+admits-items+admits-members-spec : {M : Type 1} → statement M
     (admits-items-returns-2 t))
     λ t. admits-members-lts.spec (admits-members-claims t)
     (admits-members-at t)
-    admits-members.Post
+    admits-members.Reads.Post
     admits-members-Inv-loop
     admits-members-μ-loop
     (admits-members-loop-holds t)
