@@ -15,7 +15,7 @@ pub record Opened (part part′ : List ℕ) (used gap : ℕ) : Type 0 where
 
 -- the old words from a row on are replaced by these rows, so many more; behind what is used all is free
 pub record Replaced (shapes shapes′ : List ℕ) (used words row old : ℕ) (rows : List ℕ) : Type 0 where
-  pub held : take (used + words) shapes′ ≡ take row shapes ++ rows ++ drop (row + old) (take used shapes)
+  pub held : take (used + words) shapes′ ≡ take row shapes ++ (rows ++ drop (row + old) (take used shapes))
   pub grown : length rows ≡ old + words
   pub within : used + words ≤ length shapes
   pub same : length shapes′ ≡ length shapes

@@ -1,0 +1,183 @@
+-- Laws of words replaced in place. Assumes nothing.
+use Prim.Native.Nat.{ℕ, suc, _+_, _-_, _*_, _≤_, _<_}
+use native.Mathlib.Nat.{add-zero}
+use native.Mathlib.Numerals.{add-one}
+use native.Mathlib.Omega.{arith}
+use mathlib.Core.Path.{_≡_, refl, sym, ap, _∙_}
+use mathlib.Core.List.{List, [], _∷_, _++_, append-assoc, append-nil}
+use lib.ListN.{length, getD, set, take, drop, length-append, length-drop, take-append-drop}
+use lib.Seq.{length-take-le, take-take, take-all, take-at, drop-at, drop-drop, drop-append-le, getD-at, set-at, take-set-lt, set-split, set-append-left}
+use Rattle.definitions.specs.Shape.{Shape, Fields, forms, forms-fields}
+use Rattle.shapes.specs.Shapes.{Shape-rows, Field-rows, Stands, Fields-stand}
+use Rattle.shapes.specs.ShapesLaws.{length-shape-rows}
+use Rattle.join.specs.Replacing.{Replaced, Put, Over}
+
+-- ---- the used words, in parts
+
+-- the used words of a table: so many from a row on, and what stands before and behind them
+pub record Split (shapes : List ℕ) (used row old : ℕ) (front middle behind : List ℕ) : Type 0 where
+  pub whole : take used shapes ≡ front ++ (middle ++ behind)
+  pub at : length front ≡ row
+  pub size : length middle ≡ old
+  pub fits : used ≤ length shapes
+
+module _ {shapes : List ℕ} {used row old : ℕ} {front middle behind : List ℕ} (w : Split shapes used row old front middle behind) where
+  pub split-used : row + old + length behind ≡ used
+  split-used =
+      omega (
+        arith,
+        w .at,
+        w .size,
+        w .fits,
+        length-append front (middle ++ behind),
+        length-append middle behind,
+        sym (ap length (w .whole)) ∙ length-take-le used shapes (w .fits),
+      )
+
+  pub split-front : take row shapes ≡ front
+  split-front =
+      sym (take-take row used shapes (omega (arith, split-used)))
+      ∙ ap (take row) (w .whole)
+      ∙ take-at front (middle ++ behind) row (w .at)
+
+  pub split-behind : drop (row + old) (take used shapes) ≡ behind
+  split-behind =
+      ap (drop (row + old)) (w .whole ∙ sym (append-assoc front middle behind))
+      ∙ drop-at (front ++ middle) behind (row + old) (omega (arith, length-append front middle, w .at, w .size))
+
+  -- with what is free behind them
+  pub split-all : shapes ≡ front ++ (middle ++ (behind ++ drop used shapes))
+  split-all =
+      sym (take-append-drop used shapes)
+      ∙ ap (λ (l : List ℕ). l ++ drop used shapes) (w .whole)
+      ∙ append-assoc front (middle ++ behind) (drop used shapes)
+      ∙ ap (λ (l : List ℕ). front ++ l) (append-assoc middle behind (drop used shapes))
+
+  pub split-drop : drop row shapes ≡ middle ++ (behind ++ drop used shapes)
+  split-drop = ap (drop row) split-all ∙ drop-at front (middle ++ (behind ++ drop used shapes)) row (w .at)
+
+-- ---- parts of the middle
+
+module _ {shapes : List ℕ} {used row : ℕ} {front behind : List ℕ} (xs ys zs : List ℕ) where
+  pub split-inner
+      : {old : ℕ} → Split shapes used row old front (xs ++ (ys ++ zs)) behind
+      → Split shapes used (row + length xs) (length ys) (front ++ xs) ys (zs ++ behind)
+  split-inner w =
+      record {
+        whole = w .whole
+            ∙ ap (λ (l : List ℕ). front ++ l) (append-assoc xs (ys ++ zs) behind ∙ ap (λ (l : List ℕ). xs ++ l) (append-assoc ys zs behind))
+            ∙ sym (append-assoc front xs (ys ++ (zs ++ behind)));
+        at = omega (arith, length-append front xs, w .at);
+        size = refl;
+        fits = w .fits;
+      }
+
+  pub split-outer
+      : {n : ℕ} → length front ≡ row → Split shapes used (row + length xs) n (front ++ xs) ys (zs ++ behind)
+      → Split shapes used row (length xs + n + length zs) front (xs ++ (ys ++ zs)) behind
+  split-outer {n} e w =
+      record {
+        whole = w .whole
+            ∙ append-assoc front xs (ys ++ (zs ++ behind))
+            ∙ ap
+            (λ (l : List ℕ). front ++ l)
+            (sym (append-assoc xs (ys ++ zs) behind ∙ ap (λ (l : List ℕ). xs ++ l) (append-assoc ys zs behind)));
+        at = e;
+        size = omega (arith, length-append xs (ys ++ zs), length-append ys zs, w .size);
+        fits = w .fits;
+      }
+
+-- ---- the middle replaced
+
+module _ {shapes shapes′ : List ℕ} {used words row old : ℕ} {front middle behind rows : List ℕ} where
+  pub replaced-split
+      : Split shapes used row old front middle behind → Replaced shapes shapes′ used words row old rows
+      → Split shapes′ (used + words) row (old + words) front rows behind
+  replaced-split w r =
+      record {
+        whole = r .held
+            ∙ ap (λ (l : List ℕ). l ++ (rows ++ drop (row + old) (take used shapes))) (split-front w)
+            ∙ ap (λ (l : List ℕ). front ++ (rows ++ l)) (split-behind w);
+        at = w .at;
+        size = r .grown;
+        fits = omega (arith, r .within, r .same);
+      }
+
+  pub split-replaced
+      : Split shapes used row old front middle behind → Split shapes′ (used + words) row (old + words) front rows behind
+      → length shapes′ ≡ length shapes → Replaced shapes shapes′ used words row old rows
+  split-replaced w v e =
+      record {
+        held = v .whole
+            ∙ ap (λ (l : List ℕ). l ++ (rows ++ behind)) (sym (split-front w))
+            ∙ ap (λ (l : List ℕ). take row shapes ++ (rows ++ l)) (sym (split-behind w));
+        grown = v .size;
+        within = omega (arith, v .fits);
+        same = e;
+      }
+
+-- ---- one word put
+
+pub split-put
+    : {shapes : List ℕ} {used row old : ℕ} {front : List ℕ} {x : ℕ} {xs behind : List ℕ} (y : ℕ)
+    → Split shapes used row old front (x ∷ xs) behind
+    → Split (take row shapes ++ y ∷ drop (row + 1) shapes) used row old front (y ∷ xs) behind
+split-put {shapes} {used} {row} {old} {front} {x} {xs} {behind} y w =
+    let e : take row shapes ++ y ∷ drop (row + 1) shapes ≡ (front ++ (y ∷ (xs ++ behind))) ++ drop used shapes
+    = ap (λ (l : List ℕ). l ++ y ∷ drop (row + 1) shapes) (split-front w)
+    ∙ ap (λ (l : List ℕ). front ++ y ∷ l) (sym (drop-drop 1 row shapes) ∙ ap (drop 1) (split-drop w))
+    ∙ ap (λ (l : List ℕ). front ++ y ∷ l) (sym (append-assoc xs behind (drop used shapes)))
+    ∙ sym (append-assoc front (y ∷ (xs ++ behind)) (drop used shapes)) in
+    let n : length (front ++ (y ∷ (xs ++ behind))) ≡ used
+    = omega (arith, length-append front (y ∷ (xs ++ behind)), length-append xs behind, w .at, w .size, split-used w) in
+    record {
+      whole = ap (take used) e ∙ take-at (front ++ (y ∷ (xs ++ behind))) (drop used shapes) used n;
+      at = w .at;
+      size = w .size;
+      fits = omega (arith, ap length e, length-append (front ++ (y ∷ (xs ++ behind))) (drop used shapes));
+    }
+
+-- ---- what stands in a table
+
+module _ {shapes p : List ℕ} {used row m : ℕ} {s : Shape} where
+  pub stands-split
+      : (h : Stands shapes p row m s) → row + 2 * forms s ≤ used → used ≤ length shapes
+      → Split shapes used row (2 * forms s) (take row shapes) (h .rows) (drop (row + 2 * forms s) (take used shapes))
+  stands-split h i j =
+      let n : length (h .rows) ≡ 2 * forms s = length-shape-rows (h .encoded) in
+      let l : length (take row shapes) ≡ row = length-take-le row shapes (omega arith) in
+      let e : shapes ≡ (take row shapes ++ h .rows) ++ h .rest
+      = sym (take-append-drop row shapes)
+      ∙ ap (λ (l : List ℕ). take row shapes ++ l) (h .placed)
+      ∙ sym (append-assoc (take row shapes) (h .rows) (h .rest)) in
+      let k : length (take row shapes ++ h .rows) ≡ row + 2 * forms s = omega (arith, length-append (take row shapes) (h .rows)) in
+      record {
+        whole = sym (take-append-drop (row + 2 * forms s) (take used shapes))
+            ∙ ap
+            (λ (x : List ℕ). x ++ drop (row + 2 * forms s) (take used shapes))
+            (take-take (row + 2 * forms s) used shapes i
+            ∙ ap (take (row + 2 * forms s)) e
+            ∙ take-at (take row shapes ++ h .rows) (h .rest) (row + 2 * forms s) k)
+            ∙ append-assoc (take row shapes) (h .rows) (drop (row + 2 * forms s) (take used shapes));
+        at = l;
+        size = n;
+        fits = j;
+      }
+
+  pub split-stands
+      : {old : ℕ} {front rows behind : List ℕ} → Split shapes used row old front rows behind → Shape-rows p m s rows
+      → Stands shapes p row m s
+  split-stands {rows} {behind} w e =
+      record { rows = rows; rest = behind ++ drop used shapes; encoded = e; placed = split-drop w }
+
+pub split-fields
+    : {shapes p : List ℕ} {used row old : ℕ} {fs : Fields} {front rows behind : List ℕ} → Split shapes used row old front rows behind
+    → Field-rows p fs rows → Fields-stand shapes p row (row + old) fs
+split-fields {shapes} {used} {row} {rows} {behind} w e =
+    record {
+      rows = rows;
+      rest = behind ++ drop used shapes;
+      encoded = e;
+      placed = split-drop w;
+      reaches = ap (λ (n : ℕ). row + n) (w .size);
+    }
