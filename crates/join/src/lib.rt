@@ -1,8 +1,12 @@
 // Joining a shape into another in place: what is new takes its place in byte order, and what stands behind it moves up.
 ghost use mathlib.Core.Path.{_≡_};
-ghost use Prim.Native.Nat.{_+_, _≤_};
-ghost use lib.ListN.{length};
-ghost use Rattle.join.specs.Replacing.{Opened};
+ghost use mathlib.Core.List.{_++_, _∷_};
+ghost use Prim.Native.Nat.{_+_, _*_, _^_, _≤_, _<_};
+ghost use lib.ListN.{length, getD, take, drop};
+ghost use Rattle.join.specs.Replacing.{Opened, Puts};
+ghost use Rattle.join.specs.Joining.{Insertable, Copied, null-head, Tells-next};
+use pool::Comparison;
+use shapes::Shape;
 
 // How a table takes a change in place: it uses so many words more, or it can't hold what is to stand in it.
 pub enum Joined {
@@ -20,4 +24,83 @@ pub fn open_gap(part: &mut [u64], used: usize, gap: usize)
         i -= 1;
         part[i + gap] = part[i];
     }
+}
+
+// Copies words of a second table into a first.
+fn copy_rows(shapes: &mut [u64], at: usize, second: &[u64], from: usize, count: usize)
+    requires { ⌜ at + count ≤ length (now shapes) ⌝ }
+    requires within { ⌜ from + count ≤ length (now second) ⌝ }
+    ensures copied { λ _. ⌜ now (shapes .exit) ≡ take at (now (shapes .entry)) ++ take count (drop from (now (second .entry))) ++ drop (at + count) (now (shapes .entry)) ⌝ }
+{
+    let mut i: usize = 0;
+    while i < count {
+        shapes[at + i] = second[from + i];
+        i += 1;
+    }
+}
+
+// Puts words of a second table at a place of a first, whose later words move up.
+pub fn put_rows(
+    shapes: &mut [u64],
+    used: usize,
+    at: usize,
+    second: &[u64],
+    from: usize,
+    count: usize,
+) -> Joined
+    requires { ⌜ Insertable (now shapes) (now second) used at from count ⌝ }
+    ensures put { λ r. ⌜ Puts (now (shapes .entry)) (now (shapes .exit)) used at 0 count (Copied (now (second .entry)) from count) r ⌝ }
+{
+    if shapes.len() - used < count {
+        return Joined::Full;
+    }
+    open_gap(&mut shapes[at..], used - at, count);
+    copy_rows(shapes, at, second, from, count);
+    Joined::Grown { words: count }
+}
+
+// Adds null to the shape at a row.
+pub fn add_null(shapes: &mut [u64], row: usize)
+    requires { ⌜ row < length (now shapes) ⌝ }
+    requires fits { ⌜ getD (now shapes) row 0 + 1 < 2 ^ 64 ⌝ }
+    ensures added { λ _. ⌜ now (shapes .exit) ≡ take row (now (shapes .entry)) ++ null-head (getD (now (shapes .entry)) row 0) ∷ drop (row + 1) (now (shapes .entry)) ⌝ }
+{
+    if shapes::has(shapes::kinds(shapes, row), Shape::NULL) {
+        return;
+    }
+    shapes[row] = shapes[row] + 1;
+}
+
+// Tells in the first word of the shape at a row that it has a kind more, or none, and words more.
+pub fn grow_head(shapes: &mut [u64], row: usize, kind: u64, words: usize)
+    requires { ⌜ row < length (now shapes) ⌝ }
+    requires fits { ⌜ getD (now shapes) row 0 + kind + 128 * words < 2 ^ 64 ⌝ }
+    ensures told { λ _. ⌜ now (shapes .exit) ≡ take row (now (shapes .entry)) ++ (getD (now (shapes .entry)) row 0 + kind + 128 * words) ∷ drop (row + 1) (now (shapes .entry)) ⌝ }
+{
+    shapes[row] = shapes[row] + kind + 128 * (words as u64);
+}
+
+// Whose member is next where those of two shapes are walked together: less is the first's alone.
+fn next_member(
+    shapes: &[u64],
+    row: usize,
+    end: usize,
+    second: &[u64],
+    other: usize,
+    to: usize,
+    pool: &[u64],
+) -> Comparison
+    ensures told { λ r. ⌜ Tells-next (now (shapes .entry)) (now (second .entry)) (now (pool .entry)) row end other to r ⌝ }
+{
+    if to <= other {
+        return Comparison::Less;
+    }
+    if end <= row {
+        return Comparison::Greater;
+    }
+    let k = shapes::name(shapes, row);
+    let m = shapes::name(second, other);
+    let w = nodes::text_word(k);
+    let v = nodes::text_word(m);
+    pool::compare(pool, w, nodes::text_bytes(k), v, nodes::text_bytes(m))
 }
