@@ -3,10 +3,10 @@ use Prim.Native.Nat.{ℕ, suc, _+_, _-_, _*_, _≤_, _<_}
 use native.Mathlib.Nat.{add-zero}
 use native.Mathlib.Numerals.{add-one}
 use native.Mathlib.Omega.{arith}
-use mathlib.Core.Path.{_≡_, refl, sym, ap, _∙_}
+use mathlib.Core.Path.{_≡_, refl, sym, ap, subst, _∙_}
 use mathlib.Core.List.{List, [], _∷_, _++_, append-assoc, append-nil}
 use lib.ListN.{length, getD, set, take, drop, length-append, length-drop, take-append-drop}
-use lib.Seq.{length-take-le, take-take, take-all, take-at, drop-at, drop-drop, drop-append-le, getD-at, set-at, take-set-lt, set-split, set-append-left}
+use lib.Seq.{length-take-le, take-take, take-add, take-all, take-at, drop-at, drop-drop, drop-append-le, getD-at, set-at, take-set-lt, set-split, set-append-left}
 use Rattle.definitions.specs.Shape.{Shape, Fields, forms, forms-fields}
 use Rattle.shapes.specs.Shapes.{Shape-rows, Field-rows, Stands, Fields-stand}
 use Rattle.shapes.specs.ShapesLaws.{length-shape-rows}
@@ -118,6 +118,12 @@ module _ {shapes shapes′ : List ℕ} {used words row old : ℕ} {front middle 
 
 -- ---- one word put
 
+pub split-head
+    : {shapes : List ℕ} {used row old : ℕ} {front : List ℕ} {x : ℕ} {xs behind : List ℕ}
+    → Split shapes used row old front (x ∷ xs) behind → getD shapes row 0 ≡ x
+split-head {shapes} {used} {row} {front} {x} {xs} {behind} w =
+    ap (λ (l : List ℕ). getD l row 0) (split-all w) ∙ getD-at front x (xs ++ (behind ++ drop used shapes)) 0 row (w .at)
+
 pub split-put
     : {shapes : List ℕ} {used row old : ℕ} {front : List ℕ} {x : ℕ} {xs behind : List ℕ} (y : ℕ)
     → Split shapes used row old front (x ∷ xs) behind
@@ -181,3 +187,87 @@ split-fields {shapes} {used} {row} {rows} {behind} w e =
       placed = split-drop w;
       reaches = ap (λ (n : ℕ). row + n) (w .size);
     }
+
+-- ---- one replacement behind another
+
+pub split-of
+    : (shapes : List ℕ) (used row old : ℕ) → row + old ≤ used → used ≤ length shapes
+    → Split shapes used row old (take row shapes) (take old (drop row shapes)) (drop (row + old) (take used shapes))
+split-of shapes used row old h i =
+    record {
+      whole = sym (take-append-drop (row + old) (take used shapes))
+          ∙ ap
+          (λ (l : List ℕ). l ++ drop (row + old) (take used shapes))
+          (take-take (row + old) used shapes h ∙ take-add row old shapes)
+          ∙ append-assoc (take row shapes) (take old (drop row shapes)) (drop (row + old) (take used shapes));
+      at = length-take-le row shapes (omega arith);
+      size = length-take-le old (drop row shapes) (omega (arith, length-drop row shapes));
+      fits = i;
+    }
+
+-- the same under other numbers and words
+pub split-as
+    : {shapes : List ℕ} {used used′ row old old′ : ℕ} {front middle middle′ behind : List ℕ}
+    → Split shapes used row old front middle behind → used ≡ used′ → old ≡ old′ → middle ≡ middle′
+    → Split shapes used′ row old′ front middle′ behind
+split-as {shapes} {used} {front} {behind} w e f g =
+    record {
+      whole = ap (λ (n : ℕ). take n shapes) (sym e) ∙ w .whole ∙ ap (λ (l : List ℕ). front ++ (l ++ behind)) g;
+      at = w .at;
+      size = sym (ap length g) ∙ w .size ∙ f;
+      fits = omega (arith, w .fits);
+    }
+
+module _ {shapes shapes₁ shapes₂ : List ℕ} {used words more row old new : ℕ} {xs ys : List ℕ} where
+  pub replaced-then
+      : (all : ℕ) → row + old ≤ used → used ≤ length shapes → Replaced shapes shapes₁ used words row old xs → new ≡ old + words
+      → Replaced shapes₁ shapes₂ (used + words) more row new ys → all ≡ words + more → Replaced shapes shapes₂ used all row old ys
+  replaced-then all h i r e q f =
+      let w = split-of shapes used row old h i in
+      let v = replaced-split w r in
+      split-replaced
+      w
+      (split-as
+      (replaced-split (split-as v refl (sym e) refl) q)
+      (let g : used + words + more ≡ used + all = omega arith in g)
+      (let g : new + more ≡ old + all = omega arith in g)
+      refl)
+      (q .same ∙ r .same)
+
+module _ {shapes shapes′ : List ℕ} {used words row old : ℕ} {Rows Other : List ℕ → Type 0} where
+  pub put-map : ((rows : List ℕ) → Rows rows → Other rows) → Put shapes shapes′ used words row old Rows → Put shapes shapes′ used words row old Other
+  put-map f h = record { rows = h .rows; encoded = f (h .rows) (h .encoded); replaced = h .replaced }
+
+-- the words inside a shape are replaced, and then its first word
+module _ {shapes shapes₁ : List ℕ} {used words row old at inner : ℕ} {front behind : List ℕ} {x : ℕ} (xs ys zs : List ℕ) {us : List ℕ} where
+  inside
+      : Split shapes used row old front ((x ∷ xs) ++ (ys ++ zs)) behind → Replaced shapes shapes₁ used words at inner us
+      → at ≡ row + suc (length xs) → inner ≡ length ys
+      → Split shapes₁ (used + words) row (old + words) front ((x ∷ xs) ++ (us ++ zs)) behind
+  inside w r e f =
+      let v = split-inner (x ∷ xs) ys zs w in
+      let q = replaced-split v (subst (λ (n : ℕ). Replaced shapes shapes₁ used words n (length ys) us) e (subst (λ (n : ℕ). Replaced shapes shapes₁ used words at n us) f r)) in
+      split-as
+      (split-outer (x ∷ xs) us zs (w .at) q)
+      refl
+      (omega (arith, w .size, length-append (x ∷ xs) (ys ++ zs), length-append ys zs))
+      refl
+
+  -- the first word is as it was before it is put
+  pub inside-head
+      : Split shapes used row old front ((x ∷ xs) ++ (ys ++ zs)) behind → Replaced shapes shapes₁ used words at inner us
+      → at ≡ row + suc (length xs) → inner ≡ length ys → getD shapes₁ row 0 ≡ x
+  inside-head w r e f = split-head (inside w r e f)
+
+  pub inside-replaced
+      : {shapes₂ : List ℕ} {y : ℕ} → Split shapes used row old front ((x ∷ xs) ++ (ys ++ zs)) behind → Replaced shapes shapes₁ used words at inner us
+      → at ≡ row + suc (length xs) → inner ≡ length ys → shapes₂ ≡ take row shapes₁ ++ y ∷ drop (row + 1) shapes₁
+      → length shapes₂ ≡ length shapes₁ → Replaced shapes shapes₂ used words row old (y ∷ (xs ++ (us ++ zs)))
+  inside-replaced {y} w r e f g l =
+      split-replaced
+      w
+      (subst
+      (λ (s : List ℕ). Split s (used + words) row (old + words) front (y ∷ (xs ++ (us ++ zs))) behind)
+      (sym g)
+      (split-put y (inside w r e f)))
+      (l ∙ r .same)

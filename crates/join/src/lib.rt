@@ -1,10 +1,12 @@
 // Joining a shape into another in place: what is new takes its place in byte order, and what stands behind it moves up.
 ghost use mathlib.Core.Path.{_≡_};
 ghost use mathlib.Core.List.{_++_, _∷_};
-ghost use Prim.Native.Nat.{_+_, _*_, _^_, _≤_, _<_};
+ghost use Prim.Native.Nat.{_+_, _*_, _%_, _^_, _≤_, _<_};
+ghost use mathlib.Core.Bool.{true, false};
+ghost use Rattle.shapes.specs.Shapes.{has-bit};
 ghost use lib.ListN.{length, getD, take, drop};
 ghost use Rattle.join.specs.Replacing.{Opened, Puts};
-ghost use Rattle.join.specs.Joining.{Insertable, Copied, null-head, Tells-next};
+ghost use Rattle.join.specs.Joining.{Insertable, Copied, null-head, Tells-next, passed-words, Puttable, Puts-null, Beside, Becomes-both, join-records, join-elements};
 use pool::Comparison;
 use shapes::Shape;
 
@@ -103,4 +105,60 @@ fn next_member(
     let w = nodes::text_word(k);
     let v = nodes::text_word(m);
     pool::compare(pool, w, nodes::text_bytes(k), v, nodes::text_bytes(m))
+}
+
+// How many words of the second a turn passes.
+fn passed(second: &[u64], other: usize, order: Comparison) -> usize
+    ensures told { λ r. ⌜ r ≡ passed-words (now (second .entry)) other order ⌝ }
+{
+    match order {
+        Comparison::Less => 0,
+        Comparison::Equal => shapes::size(second, other),
+        Comparison::Greater => shapes::size(second, other),
+    }
+}
+
+// Puts a shape of a second table at a place of a first, with null added.
+pub fn put_member(shapes: &mut [u64], used: usize, at: usize, second: &[u64], from: usize) -> Joined
+    requires { ⌜ Puttable (now shapes) (now second) used at from ⌝ }
+    ensures put { λ r. ⌜ Puts-null (now (shapes .entry)) (now (shapes .exit)) (now (second .entry)) used at from r ⌝ }
+{
+    let count = shapes::size(second, from);
+    let Joined::Grown { words } = put_rows(shapes, used, at, second, from, count) else {
+        return Joined::Full;
+    };
+    add_null(shapes, at);
+    Joined::Grown { words }
+}
+
+// Gives the first, which lacks rec, the second's members.
+fn put_members(shapes: &mut [u64], used: usize, row: usize, second: &[u64], other: usize) -> Joined
+    requires { ⌜ Beside (now shapes) (now second) used row other ⌝ }
+    requires lacks { ⌜ has-bit (getD (now shapes) row 0 % 128) 64 ≡ false ⌝ }
+    requires there { ⌜ has-bit (getD (now second) other 0 % 128) 64 ≡ true ⌝ }
+    ensures put { λ r. ⌜ Becomes-both join-records (now (shapes .entry)) (now (shapes .exit)) (now (second .entry)) used row other r ⌝ }
+{
+    let end = row + shapes::size(shapes, row);
+    let from = shapes::members(second, other);
+    let to = other + shapes::size(second, other);
+    let Joined::Grown { words } = put_rows(shapes, used, end, second, from, to - from) else {
+        return Joined::Full;
+    };
+    grow_head(shapes, row, Shape::REC, words);
+    Joined::Grown { words }
+}
+
+// Gives the first, which lacks list, the second's element.
+fn put_element(shapes: &mut [u64], used: usize, row: usize, second: &[u64], other: usize) -> Joined
+    requires { ⌜ Beside (now shapes) (now second) used row other ⌝ }
+    requires lacks { ⌜ has-bit (getD (now shapes) row 0 % 128) 32 ≡ false ⌝ }
+    requires there { ⌜ has-bit (getD (now second) other 0 % 128) 32 ≡ true ⌝ }
+    ensures put { λ r. ⌜ Becomes-both join-elements (now (shapes .entry)) (now (shapes .exit)) (now (second .entry)) used row other r ⌝ }
+{
+    let count = shapes::size(second, other + 2);
+    let Joined::Grown { words } = put_rows(shapes, used, row + 2, second, other + 2, count) else {
+        return Joined::Full;
+    };
+    grow_head(shapes, row, Shape::LIST, words);
+    Joined::Grown { words }
 }
