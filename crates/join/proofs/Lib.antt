@@ -6,3 +6,4 @@ pub mod Rows
 pub mod Answers
 pub mod Members
 pub mod Parts
+pub mod Merging

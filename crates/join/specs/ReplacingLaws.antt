@@ -9,7 +9,7 @@ use lib.ListN.{length, getD, set, take, drop, length-append, length-drop, take-a
 use lib.Seq.{length-take-le, take-take, take-add, take-all, take-at, drop-at, drop-drop, drop-append-le, getD-at, set-at, take-set-lt, set-split, set-append-left}
 use Rattle.definitions.specs.Shape.{Shape, Fields, forms, forms-fields}
 use Rattle.shapes.specs.Shapes.{Shape-rows, Field-rows, Stands, Fields-stand}
-use Rattle.shapes.specs.ShapesLaws.{length-shape-rows}
+use Rattle.shapes.specs.ShapesLaws.{length-shape-rows, length-field-rows}
 use Rattle.join.specs.Replacing.{Replaced, Put, Over}
 
 -- ---- the used words, in parts
@@ -145,30 +145,41 @@ split-put {shapes} {used} {row} {old} {front} {x} {xs} {behind} y w =
 
 -- ---- what stands in a table
 
+-- rows that are placed in a table
+placed-split
+    : {shapes : List ℕ} {used row old : ℕ} (rows rest : List ℕ) → drop row shapes ≡ rows ++ rest → length rows ≡ old → row + old ≤ used
+    → used ≤ length shapes → Split shapes used row old (take row shapes) rows (drop (row + old) (take used shapes))
+placed-split {shapes} {used} {row} {old} rows rest h n i j =
+    let l : length (take row shapes) ≡ row = length-take-le row shapes (omega arith) in
+    let e : shapes ≡ (take row shapes ++ rows) ++ rest
+    = sym (take-append-drop row shapes)
+    ∙ ap (λ (l : List ℕ). take row shapes ++ l) h
+    ∙ sym (append-assoc (take row shapes) rows rest) in
+    let k : length (take row shapes ++ rows) ≡ row + old = omega (arith, length-append (take row shapes) rows) in
+    record {
+      whole = sym (take-append-drop (row + old) (take used shapes))
+          ∙ ap
+          (λ (x : List ℕ). x ++ drop (row + old) (take used shapes))
+          (take-take (row + old) used shapes i
+          ∙ ap (take (row + old)) e
+          ∙ take-at (take row shapes ++ rows) rest (row + old) k)
+          ∙ append-assoc (take row shapes) rows (drop (row + old) (take used shapes));
+      at = l;
+      size = n;
+      fits = j;
+    }
+
+pub fields-split
+    : {shapes p : List ℕ} {used row end : ℕ} {fs : Fields} (h : Fields-stand shapes p row end fs) → end ≤ used → used ≤ length shapes
+    → Split shapes used row (2 * forms-fields fs) (take row shapes) (h .rows) (drop (row + 2 * forms-fields fs) (take used shapes))
+fields-split h i j =
+    placed-split (h .rows) (h .rest) (h .placed) (length-field-rows (h .encoded)) (omega (arith, h .reaches, length-field-rows (h .encoded))) j
+
 module _ {shapes p : List ℕ} {used row m : ℕ} {s : Shape} where
   pub stands-split
       : (h : Stands shapes p row m s) → row + 2 * forms s ≤ used → used ≤ length shapes
       → Split shapes used row (2 * forms s) (take row shapes) (h .rows) (drop (row + 2 * forms s) (take used shapes))
-  stands-split h i j =
-      let n : length (h .rows) ≡ 2 * forms s = length-shape-rows (h .encoded) in
-      let l : length (take row shapes) ≡ row = length-take-le row shapes (omega arith) in
-      let e : shapes ≡ (take row shapes ++ h .rows) ++ h .rest
-      = sym (take-append-drop row shapes)
-      ∙ ap (λ (l : List ℕ). take row shapes ++ l) (h .placed)
-      ∙ sym (append-assoc (take row shapes) (h .rows) (h .rest)) in
-      let k : length (take row shapes ++ h .rows) ≡ row + 2 * forms s = omega (arith, length-append (take row shapes) (h .rows)) in
-      record {
-        whole = sym (take-append-drop (row + 2 * forms s) (take used shapes))
-            ∙ ap
-            (λ (x : List ℕ). x ++ drop (row + 2 * forms s) (take used shapes))
-            (take-take (row + 2 * forms s) used shapes i
-            ∙ ap (take (row + 2 * forms s)) e
-            ∙ take-at (take row shapes ++ h .rows) (h .rest) (row + 2 * forms s) k)
-            ∙ append-assoc (take row shapes) (h .rows) (drop (row + 2 * forms s) (take used shapes));
-        at = l;
-        size = n;
-        fits = j;
-      }
+  stands-split h i j = placed-split (h .rows) (h .rest) (h .placed) (length-shape-rows (h .encoded)) i j
 
   pub split-stands
       : {old : ℕ} {front rows behind : List ℕ} → Split shapes used row old front rows behind → Shape-rows p m s rows
@@ -271,3 +282,47 @@ module _ {shapes shapes₁ : List ℕ} {used words row old at inner : ℕ} {fron
       (sym g)
       (split-put y (inside w r e f)))
       (l ∙ r .same)
+
+-- ---- a walk along the middle
+
+module _ {shapes : List ℕ} {used row old : ℕ} {front : List ℕ} (ys zs : List ℕ) {behind : List ℕ} where
+  -- the first words of the middle
+  pub split-first
+      : Split shapes used row old front (ys ++ zs) behind → Split shapes used row (length ys) front ys (zs ++ behind)
+  split-first w =
+      record {
+        whole = w .whole ∙ ap (λ (l : List ℕ). front ++ l) (append-assoc ys zs behind);
+        at = w .at;
+        size = refl;
+        fits = w .fits;
+      }
+
+  -- the words behind them
+  pub split-next
+      : Split shapes used row old front ys (zs ++ behind) → Split shapes used (row + length ys) (length zs) (front ++ ys) zs behind
+  split-next w =
+      record {
+        whole = w .whole ∙ sym (append-assoc front ys (zs ++ behind));
+        at = omega (arith, length-append front ys, w .at);
+        size = refl;
+        fits = w .fits;
+      }
+
+-- the words before a place taken to the middle
+pub split-back
+    : {shapes : List ℕ} {used row at old : ℕ} (front xs : List ℕ) {behind : List ℕ} → Split shapes used at old (front ++ xs) [] behind
+    → length front ≡ row → Split shapes used row (length xs) front xs behind
+split-back front xs {behind} w e =
+    record { whole = w .whole ∙ append-assoc front xs behind; at = e; size = refl; fits = w .fits }
+
+-- the same behind another list of words
+pub split-behind-as
+    : {shapes : List ℕ} {used row row′ old : ℕ} {front front′ middle behind : List ℕ} → Split shapes used row old front middle behind
+    → front ≡ front′ → row ≡ row′ → Split shapes used row′ old front′ middle behind
+split-behind-as {middle} {behind} w e f =
+    record {
+      whole = w .whole ∙ ap (λ (l : List ℕ). l ++ (middle ++ behind)) e;
+      at = sym (ap length e) ∙ w .at ∙ f;
+      size = w .size;
+      fits = w .fits;
+    }
