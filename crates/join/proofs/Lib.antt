@@ -7,3 +7,5 @@ pub mod Answers
 pub mod Members
 pub mod Parts
 pub mod Merging
+pub mod Turning
+pub mod Joining

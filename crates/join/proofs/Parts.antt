@@ -18,7 +18,7 @@ use Rattle.join.proofs.Members.{copied-rows, head-small}
 
 -- ---- kinds told by their bits
 
-clash : {A : Type 0} {x y : Bool} → x ≡ true → y ≡ false → x ≡ y → A
+pub clash : {A : Type 0} {x y : Bool} → x ≡ true → y ≡ false → x ≡ y → A
 clash p q r = absurd (false≢true (sym q ∙ sym r ∙ p))
 
 pub bit-list

@@ -45,40 +45,65 @@ pub forms-with-null : (s : Shape) → forms (with-null s) ≡ forms s
 unfolding with-null forms
 forms-with-null (shape n b k t e r) = refl
 
--- a first word changed, and the rest kept
-record Headed (p : List ℕ) (m : ℕ) (s : Shape) (rows : List ℕ) : Type 0 where
-  others : List ℕ
-  whole : rows ≡ head-word s ∷ others
-  nulled : Shape-rows p m (with-null s) (head-word (with-null s) ∷ others)
+-- a first word changed, and the rest kept: u differs from s only in kinds other than list and rec
+pub record Headed (p : List ℕ) (m : ℕ) (s u : Shape) (rows : List ℕ) : Type 0 where
+  pub others : List ℕ
+  pub whole : rows ≡ head-word s ∷ others
+  pub changed : Shape-rows p m u (head-word u ∷ others)
 
-headed : {p : List ℕ} {m : ℕ} {s : Shape} {rows : List ℕ} → Shape-rows p m s rows → Headed p m s rows
+pub headed
+    : {p : List ℕ} {m : ℕ} {n b x : Bool} {k : Numeric} {e : Element} {r : Record} {rows : List ℕ} (n′ b′ : Bool) (k′ : Numeric) (x′ : Bool)
+    → Shape-rows p m (shape n b k x e r) rows → Headed p m (shape n b k x e r) (shape n′ b′ k′ x′ e r) rows
+headed {m} n′ b′ k′ x′ (shape-rows {es} {rs} is js) = record { others = m ∷ (es ++ rs); whole = refl; changed = shape-rows is js }
+
+null-headed : {p : List ℕ} {m : ℕ} (s : Shape) {rows : List ℕ} → Shape-rows p m s rows → Headed p m s (with-null s) rows
 unfolding with-null
-headed {m} (shape-rows {es} {rs} is js) = record { others = m ∷ (es ++ rs); whole = refl; nulled = shape-rows is js }
+null-headed (shape n b k x e r) h = headed true b k x h
 
 module _ {shapes p : List ℕ} {used row m : ℕ} {s : Shape} where
-  -- the first word of a shape that stands there is put anew, with null
-  pub nulled
-      : {shapes′ : List ℕ} → Stands shapes p row m s → row + 2 * forms s ≤ used → used ≤ length shapes
-      → shapes′ ≡ take row shapes ++ null-head (getD shapes row 0) ∷ drop (row + 1) shapes → length shapes′ ≡ length shapes
-      → Put shapes shapes′ used 0 row (2 * forms s) (Shape-rows p m (with-null s))
-  nulled {shapes′} h i j e l =
-      let d = headed (h .encoded) in
+  -- the first word of a shape that stands there is put anew
+  pub reheaded
+      : {shapes′ : List ℕ} {u : Shape} (h : Stands shapes p row m s) → row + 2 * forms s ≤ used → used ≤ length shapes
+      → Headed p m s u (h .rows) → shapes′ ≡ take row shapes ++ head-word u ∷ drop (row + 1) shapes → length shapes′ ≡ length shapes
+      → Put shapes shapes′ used 0 row (2 * forms s) (Shape-rows p m u)
+  reheaded {shapes′} {u} h i j d e l =
       let w = stands-split h i j in
-      let v = split-as w refl refl (d .whole) in
-      let x : getD shapes row 0 ≡ head-word s = split-head v in
       record {
-        rows = head-word (with-null s) ∷ d .others;
-        encoded = d .nulled;
-        replaced = split-replaced w
+        rows = head-word u ∷ d .others;
+        encoded = d .changed;
+        replaced = split-replaced
+            w
             (split-as
             (subst
-            (λ (l : List ℕ). Split l used row (2 * forms s) (take row shapes) (head-word (with-null s) ∷ d .others) (drop (row + 2 * forms s) (take used shapes)))
-            (sym (e ∙ ap (λ (y : ℕ). take row shapes ++ y ∷ drop (row + 1) shapes) (ap null-head x ∙ null-head-word s)))
-            (split-put (head-word (with-null s)) v))
+            (λ (l : List ℕ). Split l used row (2 * forms s) (take row shapes) (head-word u ∷ d .others) (drop (row + 2 * forms s) (take used shapes)))
+            (sym e)
+            (split-put (head-word u) (split-as w refl refl (d .whole))))
             (let g : used ≡ used + 0 = omega arith in g)
             (let g : 2 * forms s ≡ 2 * forms s + 0 = omega arith in g)
             refl)
             l;
+      }
+
+  pub nulled
+      : {shapes′ : List ℕ} → Stands shapes p row m s → row + 2 * forms s ≤ used → used ≤ length shapes
+      → shapes′ ≡ take row shapes ++ null-head (getD shapes row 0) ∷ drop (row + 1) shapes → length shapes′ ≡ length shapes
+      → Put shapes shapes′ used 0 row (2 * forms s) (Shape-rows p m (with-null s))
+  nulled h i j e l =
+      let d = null-headed s (h .encoded) in
+      let x : getD shapes row 0 ≡ head-word s = split-head (split-as (stands-split h i j) refl refl (d .whole)) in
+      reheaded h i j d (e ∙ ap (λ (y : ℕ). take row shapes ++ y ∷ drop (row + 1) shapes) (ap null-head x ∙ null-head-word s)) l
+
+  -- nothing is put
+  pub unchanged : Stands shapes p row m s → row + 2 * forms s ≤ used → used ≤ length shapes → Put shapes shapes used 0 row (2 * forms s) (Shape-rows p m s)
+  unchanged h i j =
+      let w = stands-split h i j in
+      record {
+        rows = h .rows;
+        encoded = h .encoded;
+        replaced = split-replaced
+            w
+            (split-as w (let g : used ≡ used + 0 = omega arith in g) (let g : 2 * forms s ≡ 2 * forms s + 0 = omega arith in g) refl)
+            refl;
       }
 
 -- ---- members or element changed
