@@ -9,3 +9,4 @@ pub mod Parts
 pub mod Merging
 pub mod Turning
 pub mod Joining
+pub mod Whole
