@@ -3,10 +3,11 @@ ghost use mathlib.Core.Path.{_≡_};
 ghost use mathlib.Core.List.{_++_, _∷_};
 ghost use Prim.Native.Nat.{_+_, _*_, _%_, _^_, _≤_, _<_};
 ghost use mathlib.Core.Bool.{true, false};
+ghost use Rattle.definitions.specs.Join.{join};
 ghost use Rattle.shapes.specs.Shapes.{has-bit};
 ghost use lib.ListN.{length, getD, take, drop};
 ghost use Rattle.join.specs.Replacing.{Opened, Puts};
-ghost use Rattle.join.specs.Joining.{Insertable, Copied, null-head, Tells-next, passed-words, Puttable, Puts-null, Beside, Becomes-both, join-records, join-elements};
+ghost use Rattle.join.specs.Joining.{Insertable, Copied, null-head, Tells-next, passed-words, Mergeable, Merges, Turns, Turned, Puttable, Puts-null, Beside, Becomes-both, Joinable, Joins-to, join-records, join-elements};
 use pool::Comparison;
 use shapes::Shape;
 
@@ -161,4 +162,146 @@ fn put_element(shapes: &mut [u64], used: usize, row: usize, second: &[u64], othe
     };
     grow_head(shapes, row, Shape::LIST, words);
     Joined::Grown { words }
+}
+
+// Joins the next member of the second into the first: a member of only one is kept with null added.
+fn join_next(
+    shapes: &mut [u64],
+    used: usize,
+    row: usize,
+    second: &[u64],
+    other: usize,
+    order: Comparison,
+    pool: &[u64],
+    left: usize,
+) -> Joined
+    requires { ⌜ Turns order (now shapes) (now second) (now pool) used row other left ⌝ }
+    ensures turned { λ r. ⌜ Turned order (now (shapes .entry)) (now (shapes .exit)) (now (second .entry)) (now (pool .entry)) used row other left r ⌝ }
+{
+    match order {
+        Comparison::Less => {
+            add_null(shapes, row);
+            Joined::Grown { words: 0 }
+        }
+        Comparison::Equal => join_at(shapes, used, row, second, other, pool, left),
+        Comparison::Greater => put_member(shapes, used, row, second, other),
+    }
+}
+
+// Joins the members of the second, up to an end, into those of the first, up to an end: both ascend, and are walked together.
+fn join_members(
+    shapes: &mut [u64],
+    used: usize,
+    row: usize,
+    end: usize,
+    second: &[u64],
+    other: usize,
+    to: usize,
+    pool: &[u64],
+    left: usize,
+) -> Joined
+    requires { ⌜ Mergeable (now shapes) (now second) (now pool) used row end other to left ⌝ }
+    ensures merged { λ r. ⌜ Merges (now (shapes .entry)) (now (shapes .exit)) (now (second .entry)) (now (pool .entry)) used row end other to left r ⌝ }
+{
+    let mut i = row;
+    let mut j = other;
+    let mut words: usize = 0;
+    while i + j < end + words + to {
+        let order = next_member(shapes, i, end + words, second, j, to, pool);
+        let r = join_next(shapes, used + words, i, second, j, order, pool, left);
+        let Joined::Grown { words: more } = r else {
+            return Joined::Full;
+        };
+        i += shapes::size(shapes, i);
+        j += passed(second, j, order);
+        words += more;
+    }
+    Joined::Grown { words }
+}
+
+// Joins the second's members into the first's.
+fn join_record(
+    shapes: &mut [u64],
+    used: usize,
+    row: usize,
+    second: &[u64],
+    other: usize,
+    pool: &[u64],
+    left: usize,
+) -> Joined
+    requires { ⌜ Joinable (now shapes) (now second) (now pool) used row other left ⌝ }
+    ensures joined { λ r. ⌜ Joins-to join-records (now (shapes .entry)) (now (shapes .exit)) (now (second .entry)) (now (pool .entry)) used row other left r ⌝ }
+{
+    if !shapes::has(shapes::kinds(second, other), Shape::REC) {
+        return Joined::Grown { words: 0 };
+    }
+    if !shapes::has(shapes::kinds(shapes, row), Shape::REC) {
+        return put_members(shapes, used, row, second, other);
+    }
+    let at = shapes::members(shapes, row);
+    let end = row + shapes::size(shapes, row);
+    let from = shapes::members(second, other);
+    let to = other + shapes::size(second, other);
+    let r = join_members(shapes, used, at, end, second, from, to, pool, left - 1);
+    let Joined::Grown { words } = r else {
+        return Joined::Full;
+    };
+    grow_head(shapes, row, 0, words);
+    Joined::Grown { words }
+}
+
+// Joins the second's element into the first's.
+fn join_element(
+    shapes: &mut [u64],
+    used: usize,
+    row: usize,
+    second: &[u64],
+    other: usize,
+    pool: &[u64],
+    left: usize,
+) -> Joined
+    requires { ⌜ Joinable (now shapes) (now second) (now pool) used row other left ⌝ }
+    ensures joined { λ r. ⌜ Joins-to join-elements (now (shapes .entry)) (now (shapes .exit)) (now (second .entry)) (now (pool .entry)) used row other left r ⌝ }
+{
+    if !shapes::has(shapes::kinds(second, other), Shape::LIST) {
+        return Joined::Grown { words: 0 };
+    }
+    if !shapes::has(shapes::kinds(shapes, row), Shape::LIST) {
+        return put_element(shapes, used, row, second, other);
+    }
+    let r = join_at(shapes, used, row + 2, second, other + 2, pool, left - 1);
+    let Joined::Grown { words } = r else {
+        return Joined::Full;
+    };
+    grow_head(shapes, row, 0, words);
+    Joined::Grown { words }
+}
+
+// Joins the shape at a row of a second table into that at a row of a first, in place.
+pub fn join_at(
+    shapes: &mut [u64],
+    used: usize,
+    row: usize,
+    second: &[u64],
+    other: usize,
+    pool: &[u64],
+    left: usize,
+) -> Joined
+    requires { ⌜ Joinable (now shapes) (now second) (now pool) used row other left ⌝ }
+    ensures joined { λ r. ⌜ Joins-to join (now (shapes .entry)) (now (shapes .exit)) (now (second .entry)) (now (pool .entry)) used row other left r ⌝ }
+{
+    let r = join_record(shapes, used, row, second, other, pool, left);
+    let Joined::Grown { words } = r else {
+        return Joined::Full;
+    };
+    let r = join_element(shapes, used + words, row, second, other, pool, left);
+    let Joined::Grown { words: more } = r else {
+        return Joined::Full;
+    };
+    let kinds = shapes::kinds(shapes, row) | shapes::kinds(second, other);
+    let size = shapes::size(shapes, row);
+    shapes::put_head(shapes, row, kinds, size);
+    Joined::Grown {
+        words: words + more,
+    }
 }
