@@ -1,0 +1,12 @@
+pub mod Gaps
+pub mod Copies
+pub mod Heads
+pub mod Walks
+pub mod Rows
+pub mod Answers
+pub mod Members
+pub mod Parts
+pub mod Merging
+pub mod Turning
+pub mod Joining
+pub mod Whole

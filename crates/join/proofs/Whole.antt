@@ -1,0 +1,176 @@
+-- A shape joined into another as a whole: its members, its element, its kinds. Assumes nothing.
+use Prim.Native.Nat.{ℕ, _+_, _-_, _*_, _%_, _≤_, _<_}
+use native.Mathlib.Omega.{arith}
+use mathlib.Core.Path.{_≡_, refl, sym, ap, ap₂, subst, _∙_}
+use mathlib.Core.Bool.{Bool, true, false, _||_}
+use mathlib.Core.List.{List, [], _∷_, _++_}
+use lib.Bits.{bitOr}
+use lib.ListN.{length, getD, take, drop}
+use Rattle.definitions.specs.Shape.{Numeric, no-number, int-only, int-and-dec, Shape, shape, Element, no-list, list-of, Record, no-rec, rec-of, Fields, element-of, record-of, has-list, has-rec, only-list, ascending, ascending-element, ascending-record, forms, forms-element, forms-record, levels}
+use Rattle.definitions.specs.Join.{join-numeric, join, join-element, join-record}
+use Rattle.laws.specs.Bools.{and-intro}
+use Rattle.laws.specs.OrderInduction.{ascending-of-element, ascending-of-record}
+use Rattle.laws.specs.SizeLaws.{forms-mono}
+use Rattle.laws.specs.JoinParts.{record-of-join}
+use Rattle.laws.specs.JoinLaws.{join-ascending, join-upper-left}
+use Rattle.shapes.specs.Shapes.{bit, kind-bits, head-of, head-word, Shape-rows, Stands, size-at}
+use Rattle.shapes.specs.ShapesLaws.{kind-bits-lt, union-bits, length-shape-rows, stands-kinds, stands-size, stands-within, forms-some}
+use Rattle.join.specs.Replacing.{Put, Over}
+use Rattle.join.specs.ReplacingLaws.{replaced-then}
+use Rattle.join.specs.Joining.{Both, Joins, Joinable, join-records, join-elements}
+use Rattle.join.proofs.Rows.{Headed, headed, reheaded}
+use Rattle.join.proofs.Members.{put-stands}
+
+-- ---- the parts of a join
+
+-- the first with members and element of both
+abbrev parts-joined : Shape → Shape → Shape
+parts-joined s t = join-elements (join-records s t) t
+
+forms-parts : (s t : Shape) → forms (parts-joined s t) ≡ forms (join s t)
+unfolding join-elements join-records element-of record-of join forms
+forms-parts (shape n b k x e r) (shape n′ b′ k′ x′ e′ r′) = refl
+
+forms-join-element : (e f : Element) → ascending-element e ≡ true → ascending-element f ≡ true → forms-element e ≤ forms-element (join-element e f)
+unfolding only-list ascending join forms
+forms-join-element e f i j =
+    let s : Shape = only-list e in
+    let t : Shape = only-list f in
+    let is : ascending s ≡ true = and-intro i refl in
+    let js : ascending t ≡ true = and-intro j refl in
+    let h : forms s ≤ forms (join s t) = forms-mono s (join s t) is (join-ascending s t is js) (join-upper-left s t is js) in
+    omega arith
+
+forms-records : (s t : Shape) → ascending s ≡ true → ascending t ≡ true → forms (join-records s t) ≤ forms (join s t)
+unfolding join-records record-of element-of join forms
+forms-records (shape n b k x e r) (shape n′ b′ k′ x′ e′ r′) i j =
+    let h =
+    forms-join-element e e′ (ascending-of-element (shape n b k x e r) i) (ascending-of-element (shape n′ b′ k′ x′ e′ r′) j) in
+    omega arith
+
+records-ascend : (s t : Shape) → ascending s ≡ true → ascending t ≡ true → ascending (join-records s t) ≡ true
+unfolding join-records record-of element-of ascending
+records-ascend (shape n b k x e r) (shape n′ b′ k′ x′ e′ r′) i j =
+    let s : Shape = shape n b k x e r in
+    let t : Shape = shape n′ b′ k′ x′ e′ r′ in
+    and-intro
+    (ascending-of-element s i)
+    (sym (ap ascending-record (record-of-join s t)) ∙ ascending-of-record (join s t) (join-ascending s t i j))
+
+-- ---- the kinds of a join
+
+list-twice : (e f : Element) → has-list (join-element (join-element e f) f) ≡ has-list (join-element e f)
+unfolding join has-list
+list-twice no-list no-list = refl
+list-twice no-list (list-of b) = refl
+list-twice (list-of a) no-list = refl
+list-twice (list-of a) (list-of b) = refl
+
+rec-twice : (r q : Record) → has-rec (join-record (join-record r q) q) ≡ has-rec (join-record r q)
+unfolding join has-rec
+rec-twice no-rec no-rec = refl
+rec-twice no-rec (rec-of gs) = refl
+rec-twice (rec-of fs) no-rec = refl
+rec-twice (rec-of fs) (rec-of gs) = refl
+
+kinds-twice : (s t : Shape) → kind-bits (join (parts-joined s t) t) ≡ kind-bits (join s t)
+unfolding join-elements join-records element-of record-of join kind-bits
+kinds-twice (shape n b k x e r) (shape n′ b′ k′ x′ e′ r′) = omega (arith, ap bit (list-twice e e′), ap bit (rec-twice r r′))
+
+-- the first word of a join, put together
+head-joined : (s t : Shape) (a b size : ℕ) → a ≡ kind-bits (parts-joined s t) → b ≡ kind-bits t → size ≡ 2 * forms (parts-joined s t) → head-of (bitOr a b) size ≡ head-word (join s t)
+unfolding head-word
+head-joined s t a b size e f g =
+    let k : bitOr a b ≡ kind-bits (join s t)
+    = ap₂ (λ (x y : ℕ). bitOr x y) e f ∙ union-bits (parts-joined s t) t ∙ kinds-twice s t in
+    omega (arith, forms-parts s t)
+
+parts-headed : {p : List ℕ} {m : ℕ} (s t : Shape) {rows : List ℕ} → Shape-rows p m (parts-joined s t) rows → Headed p m (parts-joined s t) (join s t) rows
+unfolding join-elements join-records element-of record-of join
+parts-headed (shape n b k x e r) (shape n′ b′ k′ x′ e′ r′) h = headed (n || n′) (b || b′) (join-numeric k k′) (x || x′) h
+
+-- ---- one part behind the other
+
+module _ {shapes shapes₁ second pool p : List ℕ} {used row m other k left : ℕ} {s t : Shape} (j : Joins shapes second pool p used row m other k left s t) where
+  pub members-full : Over shapes shapes₁ used (2 * forms s) (2 * forms (join-records s t)) → Over shapes shapes₁ used (2 * forms s) (2 * forms (join s t))
+  members-full o = record { over = omega (arith, o .over, forms-records s t (j .ours-ascend) (j .theirs-ascend)); same = o .same }
+
+  module _ {words : ℕ} (q : Put shapes shapes₁ used words row (2 * forms s) (Shape-rows p m (join-records s t))) where
+    members-words : 2 * forms (join-records s t) ≡ 2 * forms s + words
+    members-words = omega (arith, length-shape-rows (q .encoded), q .replaced .grown)
+
+    pub members-joins : Joins shapes₁ second pool p (used + words) row m other k left (join-records s t) t
+    members-joins =
+        record {
+          both = record {
+            ours = put-stands (j .both .within) (j .both .used-within) q;
+            theirs = j .both .theirs;
+            within = omega (arith, members-words, j .both .within);
+            used-within = omega (arith, q .replaced .within, q .replaced .same);
+          };
+          ours-ascend = records-ascend s t (j .ours-ascend) (j .theirs-ascend);
+          theirs-ascend = j .theirs-ascend;
+          nests = j .nests;
+          pooled = j .pooled;
+        }
+
+    pub elements-full
+        : {shapes₂ : List ℕ} → Over shapes₁ shapes₂ (used + words) (2 * forms (join-records s t)) (2 * forms (parts-joined s t))
+        → Over shapes shapes₂ used (2 * forms s) (2 * forms (join s t))
+    elements-full o =
+        record { over = omega (arith, o .over, members-words, forms-parts s t, q .replaced .same); same = o .same ∙ q .replaced .same }
+
+    module _ {shapes₂ : List ℕ} {more : ℕ} (v : Put shapes₁ shapes₂ (used + words) more row (2 * forms (join-records s t)) (Shape-rows p m (parts-joined s t))) where
+      elements-stand : Stands shapes₂ p row m (parts-joined s t)
+      elements-stand = put-stands (members-joins .both .within) (members-joins .both .used-within) v
+
+      elements-words : 2 * forms (parts-joined s t) ≡ 2 * forms s + (words + more)
+      elements-words = omega (arith, length-shape-rows (v .encoded), v .replaced .grown, members-words)
+
+      head-is : {a b size : ℕ} → a ≡ getD shapes₂ row 0 % 128 → b ≡ getD second other 0 % 128 → size ≡ size-at shapes₂ row → head-of (bitOr a b) size ≡ head-word (join s t)
+      head-is {a} {b} {size} e f g =
+          head-joined s t a b size (e ∙ stands-kinds elements-stand) (f ∙ stands-kinds (j .both .theirs)) (g ∙ stands-size elements-stand)
+
+      pub head-asks
+          : {a b size : ℕ} → a ≡ getD shapes₂ row 0 % 128 → b ≡ getD second other 0 % 128 → size ≡ size-at shapes₂ row → length shapes ≤ 65536
+          → (row < length shapes₂) × (head-of (bitOr a b) size < 18446744073709551616)
+      unfolding head-word
+      head-asks e f g l = (
+        omega (arith, stands-within elements-stand, forms-some (parts-joined s t)),
+        omega (
+          arith,
+          head-is e f g,
+          kind-bits-lt (join s t),
+          forms-parts s t,
+          stands-within elements-stand,
+          v .replaced .same,
+          q .replaced .same,
+        ),
+      )
+
+      pub whole-grown
+          : {shapes₃ : List ℕ} {a b size : ℕ} → a ≡ getD shapes₂ row 0 % 128 → b ≡ getD second other 0 % 128 → size ≡ size-at shapes₂ row
+          → shapes₃ ≡ take row shapes₂ ++ head-of (bitOr a b) size ∷ drop (row + 1) shapes₂ → length shapes₃ ≡ length shapes₂
+          → Put shapes shapes₃ used (words + more) row (2 * forms s) (Shape-rows p m (join s t))
+      whole-grown e f g h l =
+          let x = elements-stand in
+          let d =
+          reheaded x
+          (let i : row + 2 * forms (parts-joined s t) ≤ used + (words + more) = omega (arith, elements-words, j .both .within) in i)
+          (omega (arith, v .replaced .within, v .replaced .same))
+          (parts-headed s t (x .encoded))
+          (h ∙ ap (λ (y : ℕ). take row shapes₂ ++ y ∷ drop (row + 1) shapes₂) (head-is e f g))
+          l in
+          let y = replaced-then (words + more) (j .both .within) (j .both .used-within) (q .replaced) members-words (v .replaced) refl in
+          record {
+            rows = d .rows;
+            encoded = d .encoded;
+            replaced = replaced-then
+                (words + more)
+                (j .both .within)
+                (j .both .used-within)
+                y
+                elements-words
+                (d .replaced)
+                (let i : words + more ≡ words + more + 0 = omega arith in i);
+          }

@@ -1,0 +1,4 @@
+pub mod Replacing
+pub mod ReplacingLaws
+pub mod Merge
+pub mod Joining
