@@ -20,15 +20,18 @@ use Rattle.json.specs.JsonParts.{Skips, Around, Ready, Reads}
 use Rattle.json.proofs.Scan.{scan-token}
 
 -- where a document begins
-abbrev pub start : Cursor
-start = record { at = 0; begun = 0; top = 0 }
+abbrev pub start : ℕ → Cursor
+start top = record { at = 0; begun = 0; top = top }
 
-pub start-ready : {doc nodes pool : List ℕ} {values : ℕ} → Tables doc nodes pool values → Ready doc nodes pool values start
-start-ready t =
+pub start-ready
+    : {doc nodes pool : List ℕ} {values : ℕ} (top : ℕ) → Tables doc nodes pool top values → Ready doc nodes pool values (start top)
+start-ready top t =
     record {
       placed = record { rows = t .rows; short = t .short; few = t .few; within = omega arith; limit = omega arith };
+      base = top;
+      low = t .low;
       texts = t .texts;
-      used = omega arith;
+      used = t .used;
       room = omega arith;
     }
 
@@ -67,10 +70,10 @@ whole-goes-on l n kept doc v at h w =
 
 -- ---- answers
 
-module _ (l : Limits) {doc nodes pool nodes′ pool′ : List ℕ} where
+module _ (l : Limits) {doc nodes pool nodes′ pool′ : List ℕ} (top : ℕ) where
   pub document-refused
-      : {number at : ℕ} → Reads Gap.value 0 (l .nesting) (l .values) doc nodes pool nodes′ pool′ 0 start (Refused number at)
-      → Reads-document l doc nodes pool nodes′ pool′ (Document-is.Refused number at)
+      : {number at : ℕ} → Reads Gap.value 0 (l .nesting) (l .values) doc nodes pool nodes′ pool′ 0 (start top) (Refused number at)
+      → Reads-document l doc nodes pool nodes′ pool′ top (Document-is.Refused number at)
   document-refused {number} {at} d =
       record {
         answer = read-refused l doc number at (d .answer .within) (d .answer .run l root (at-root l) doc);
@@ -79,14 +82,14 @@ module _ (l : Limits) {doc nodes pool nodes′ pool′ : List ℕ} where
       }
 
   module _
-      {written end : ℕ} (to : Cursor) (d : Reads Gap.value 0 (l .nesting) (l .values) doc nodes pool nodes′ pool′ 0 start (Done to written))
+      {written end : ℕ} (to : Cursor) (d : Reads Gap.value 0 (l .nesting) (l .values) doc nodes pool nodes′ pool′ 0 (start top) (Done to written))
       (s : Skips doc (to .at) end) where
     run-to-end
         : scan l 0 doc (gap (Gap.value root)) doc ≡ scan l (to .begun) doc (gap (Gap.whole (d .answer .value))) (drop end doc)
     unfolding put
     run-to-end = d .answer .run l root (at-root l) doc ∙ s .run l (to .begun) doc (Gap.whole (d .answer .value))
 
-    pub document-goes-on : end < length doc → Reads-document l doc nodes pool nodes′ pool′ (Document-is.Refused 3 end)
+    pub document-goes-on : end < length doc → Reads-document l doc nodes pool nodes′ pool′ top (Document-is.Refused 3 end)
     document-goes-on h =
         record {
           answer =
@@ -97,8 +100,8 @@ module _ (l : Limits) {doc nodes pool nodes′ pool′ : List ℕ} where
         }
 
     pub document-read
-        : Tables doc nodes pool (l .values) → length doc ≤ end
-        → Reads-document l doc nodes pool nodes′ pool′ (Document-is.Read (3 * to .begun) (to .top))
+        : Tables doc nodes pool top (l .values) → length doc ≤ end
+        → Reads-document l doc nodes pool nodes′ pool′ top (Document-is.Read (3 * to .begun) (to .top))
     document-read t h =
         let v = d .answer in
         record {
@@ -109,7 +112,9 @@ module _ (l : Limits) {doc nodes pool nodes′ pool′ : List ℕ} where
                 held = rw (v .table) (v .held);
                 counted = omega (arith, v .counted);
                 within = omega (arith, v .moves .room, v .moves .within, v .moves .limit, t .texts, d .pool-kept);
-                small = omega (arith, v .moves .room, v .moves .within, v .moves .limit, t .short, t .few);
+                small = omega (arith, v .moves .room, v .moves .within, v .moves .limit, t .short, t .few, t .low);
+                grows = v .moves .grows;
+                front = v .front;
               };
           nodes-kept = d .nodes-kept;
           pool-kept = d .pool-kept;

@@ -46,7 +46,7 @@ unfolding depth
 inside-record ms n a = record { most = a .most; nests = omega (arith, a .nests) }
 
 -- where the next part may begin
-pub part-ready
+unfoldable pub part-ready
     : (k : Bracket) {left values written : ℕ} {doc : Bytes} {nodes₀ pool₀ nodes pool : List ℕ} (c from : Cursor)
     → Ready doc nodes₀ pool₀ values c → Open-parts k (next-of k) 1 left values doc nodes₀ pool₀ nodes pool c from written
     → Ready doc nodes pool values from
@@ -60,6 +60,8 @@ part-ready k c from r op =
             within = op .moves .within;
             limit = op .moves .limit;
           };
+      base = r .base;
+      low = r .low;
       texts = omega (arith, r .texts, op .pool-kept);
       used = omega (arith, r .room, op .moves .room, op .moves .within, op .moves .limit, r .texts, op .pool-kept);
       room = omega (arith, r .room, op .moves .room);
@@ -172,6 +174,7 @@ module _
       }
 
   pub name-ready : Ready doc nodes₀ pool₀ values c → Name-ready doc nodes pool values (c .begun + 1) from
+  unfolding part-ready
   name-ready r =
       record {
         ready = part-ready curly c from r op;
@@ -210,8 +213,10 @@ module _
                   within = m .within;
                   limit = omega (arith, q .placed .limit, m .begun);
                 };
-            texts = omega (arith, q .texts, d .pool-kept);
-            used = omega (arith, op .moves .room, r .room, m .room, m .begun, m .within, op .moves .limit, q .texts, d .pool-kept);
+            base = r .base;
+            low = r .low;
+            texts = omega (arith, r .texts, op .pool-kept, d .pool-kept);
+            used = omega (arith, op .moves .room, r .room, m .room, m .begun, m .within, op .moves .limit, r .texts, op .pool-kept, d .pool-kept);
             room = omega (arith, op .moves .room, r .room, m .room, m .begun);
           }
 

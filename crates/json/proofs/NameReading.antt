@@ -83,7 +83,7 @@ module _ {doc nodes pool : List ℕ} {values first : ℕ} (c : Cursor) (p : Name
   pub few-used : c .top < 65536
   few-used =
       let r = p .ready in
-      omega (arith, r .room, r .placed .within, r .placed .short, r .placed .limit, r .placed .few)
+      omega (arith, r .room, r .low, r .placed .within, r .placed .short, r .placed .limit, r .placed .few)
 
   pub used-within : c .top ≤ length pool
   used-within = p .ready .used

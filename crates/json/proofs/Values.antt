@@ -105,6 +105,8 @@ module _
                 within = omega arith;
                 limit = p .placed .limit;
               };
+          base = p .base;
+          low = p .low;
           texts = p .texts;
           used = p .used;
           room = omega (arith, p .room, s .from);
@@ -138,6 +140,8 @@ module _
               within = s .within;
               limit = p .placed .limit;
             };
+        base = p .base;
+        low = p .low;
         texts = p .texts;
         used = p .used;
         room = omega (arith, p .room, s .from);

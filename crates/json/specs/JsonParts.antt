@@ -104,13 +104,16 @@ pub record Placed (doc : Bytes) (nodes : List ℕ) (values : ℕ) (c : Cursor) :
   pub within : c .at ≤ length doc
   pub limit : c .begun ≤ values
 
--- the same, and the pool has room for its text: what is used of it is paid for
+-- the same, and the pool has room for its text: what is used of it behind another text's is paid for
 pub record Ready (doc : Bytes) (nodes pool : List ℕ) (values : ℕ) (c : Cursor) : Type 0 where
   pub placed : Placed doc nodes values c
-  pub texts : length doc + 8 * values ≤ 8 * length pool + 9
+  -- how many words the other text's texts take
+  pub base : ℕ
+  pub low : base ≤ 16384
+  pub texts : length doc + 8 * values + 8 * base ≤ 8 * length pool + 9
   -- what is used is there
   pub used : c .top ≤ length pool
-  pub room : 8 * c .top ≤ c .at + 8 * c .begun
+  pub room : 8 * c .top ≤ c .at + 8 * c .begun + 8 * base
 
 -- how far reading goes over a value that is so long in plain JSON
 pub record Moves (doc : Bytes) (values : ℕ) (from to : Cursor) (written : ℕ) : Type 0 where
@@ -208,7 +211,7 @@ pub record Members-at (nodes pool : List ℕ) (first : ℕ) (c : Cursor) (ms : M
 pub record Name-ready (doc : Bytes) (nodes pool : List ℕ) (values first : ℕ) (c : Cursor) : Type 0 where
   pub ready : Ready doc nodes pool values c
   -- the record itself is a value without a text
-  pub spare : 8 * c .top + 8 ≤ c .at + 8 * c .begun
+  pub spare : 8 * c .top + 8 ≤ c .at + 8 * c .begun + 8 * ready .base
   pub members : Members
   pub before : Members-at nodes pool first c members
   pub ordered : first ≤ c .begun

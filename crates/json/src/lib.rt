@@ -20,20 +20,22 @@ pub enum DocumentRead {
     Refused { number: u64, place: usize },
 }
 
-// Reads a document: white space, a value, white space, and the end. Its rows go into the node table, its texts into the pool.
+// Reads a document: white space, a value, white space, and the end. Its rows go into the node table, its texts into the pool
+// from word `top` on: the words before it hold another text's.
 pub fn read_document(
     doc: &[u8],
     nodes: &mut [u64],
     pool: &mut [u64],
+    top: usize,
     limits: Limits,
 ) -> DocumentRead
-    requires { ⌜ Tables (now doc) (now nodes) (now pool) (limits .values) ⌝ }
-    ensures read { λ r. ⌜ Reads-document limits (now (doc .entry)) (now (nodes .entry)) (now (pool .entry)) (now (nodes .exit)) (now (pool .exit)) r ⌝ }
+    requires { ⌜ Tables (now doc) (now nodes) (now pool) top (limits .values) ⌝ }
+    ensures read { λ r. ⌜ Reads-document limits (now (doc .entry)) (now (nodes .entry)) (now (pool .entry)) (now (nodes .exit)) (now (pool .exit)) top r ⌝ }
 {
     let start = Cursor {
         at: 0,
         begun: 0,
-        top: 0,
+        top,
     };
     match value::read_value(doc, nodes, pool, limits.values, limits.nesting, start, 0) {
         ValueRead::Done { to, written: _ } => {

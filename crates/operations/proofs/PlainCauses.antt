@@ -81,19 +81,19 @@ ends e f = (e ∙ sym (ap (λ d. d .answer) f), sym (ap (λ d. d .output) f))
 -- the work slices have room for a document
 pub roomy
     : {doc : Bytes} {nodes pool : List ℕ} {l : Limits} → l ≡ standard → 1536 ≤ length nodes → 2559 ≤ length pool → length doc ≤ 16384
-    → Tables doc nodes pool (l .values)
+    → Tables doc nodes pool 0 (l .values)
 unfolding standard
 roomy {doc} {nodes} {pool} e a b h =
-    subst (λ (l : Limits). Tables doc nodes pool (l .values)) (sym e)
-    (record { rows = omega arith; texts = omega arith; short = omega arith; few = omega arith })
+    subst (λ (l : Limits). Tables doc nodes pool 0 (l .values)) (sym e)
+    (record { rows = omega arith; texts = omega arith; used = omega arith; low = omega arith; short = omega arith; few = omega arith })
 
-module _ {l : Limits} (s : l ≡ standard) {doc : Bytes} {nodes pool nodes′ pool′ : List ℕ} {r : DocumentRead} (d : Reads-document l doc nodes pool nodes′ pool′ r) where
+module _ {l : Limits} (s : l ≡ standard) {doc : Bytes} {nodes pool nodes′ pool′ : List ℕ} {base : ℕ} {r : DocumentRead} (d : Reads-document l doc nodes pool nodes′ pool′ base r) where
   pub read-refused : {n p : ℕ} → r ≡ Refused n p → read-json standard doc ≡ refused n p
-  read-refused {n} {p} e = subst (λ (m : Limits). read-json m doc ≡ refused n p) s (subst (Document-answer l doc nodes′ pool′) e (d .answer))
+  read-refused {n} {p} e = subst (λ (m : Limits). read-json m doc ≡ refused n p) s (subst (Document-answer l doc pool nodes′ pool′ base) e (d .answer))
 
   module _ {words top : ℕ} (e : r ≡ Read words top) where
-    abbrev document : Document-held l doc nodes′ pool′ words top
-    document = subst (Document-answer l doc nodes′ pool′) e (d .answer)
+    abbrev document : Document-held l doc pool nodes′ pool′ base words top
+    document = subst (Document-answer l doc pool nodes′ pool′ base) e (d .answer)
 
     abbrev pub read-value : Value
     read-value = document .value

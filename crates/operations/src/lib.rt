@@ -50,7 +50,7 @@ pub fn plain(document: &[u8], output: &mut [u8], nodes: &mut [u64], pool: &mut [
     if document.len() > 16384 {
         return refusal(2, 1, 0);
     }
-    match json::read_document(document, nodes, pool, standard()) {
+    match json::read_document(document, nodes, pool, 0, standard()) {
         DocumentRead::Read { words: _, top: _ } => plain::deliver(output, nodes, pool, 0),
         DocumentRead::Refused { number, place } => refusal(number, 1, place),
     }

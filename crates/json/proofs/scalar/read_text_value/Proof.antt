@@ -33,7 +33,7 @@ small
     : (c : tie.After-known-told)
     → (c .before .before .before .before .before .before .before .before .before .before .before .before .before .args .c .top < 65536) × (c .before .end .given .0 .1 .0 ≤ 65536) × (c .before .end .given .0 .1 .1 .0 ≤ 65536)
 small c = (
-  omega (arith, c .before .before .before .before .before .before .before .before .before .before .before .before .before .pre .0 .room, c .before .before .before .before .before .before .before .before .before .before .before .before .before .pre .0 .placed .within, c .before .before .before .before .before .before .before .before .before .before .before .before .before .pre .0 .placed .short, c .before .before .before .before .before .before .before .before .before .before .before .before .before .pre .0 .placed .limit, c .before .before .before .before .before .before .before .before .before .before .before .before .before .pre .0 .placed .few),
+  omega (arith, c .before .before .before .before .before .before .before .before .before .before .before .before .before .pre .0 .room, c .before .before .before .before .before .before .before .before .before .before .before .before .before .pre .0 .low, c .before .before .before .before .before .before .before .before .before .before .before .before .before .pre .0 .placed .within, c .before .before .before .before .before .before .before .before .before .before .before .before .before .pre .0 .placed .short, c .before .before .before .before .before .before .before .before .before .before .before .before .before .pre .0 .placed .limit, c .before .before .before .before .before .before .before .before .before .before .before .before .before .pre .0 .placed .few),
   omega (arith, closed c .shorter, closed c .within, c .before .before .before .before .before .before .before .before .before .before .before .before .before .pre .0 .placed .short),
   omega (arith, closed c .bounded, closed c .within, c .before .before .before .before .before .before .before .before .before .before .before .before .before .pre .0 .placed .short),
 )
