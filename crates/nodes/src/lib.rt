@@ -5,7 +5,9 @@ ghost use mathlib.Core.List.{_++_, _∷_};
 ghost use Prim.Native.Nat.{_+_, _*_, _/_, _%_, _^_, _≤_, _<_};
 ghost use lib.Dec.{eqb};
 ghost use lib.ListN.{length, getD, take, drop};
-ghost use Rattle.nodes.specs.Nodes.{head-of, reference, row-size, sign-bit};
+ghost use Rattle.definitions.specs.Number.{Number, is-int};
+ghost use Rattle.definitions.specs.Value.{Value};
+ghost use Rattle.nodes.specs.Nodes.{head-of, head-word, reference, row-size, sign-bit};
 
 // The codes of the kinds.
 pub const NULL: u64 = 0;
@@ -50,6 +52,13 @@ pub fn row_scale(nodes: &[u64], row: usize) -> u64
     ensures read { λ r. ⌜ r ≡ getD (now (nodes .entry)) row 0 / 16 % 16 ⌝ }
 {
     word(nodes, row) / 16 % 16
+}
+
+// Whether the number at a row is an int: it has no fraction.
+pub fn row_is_int(nodes: &[u64], row: usize) -> bool
+    ensures told { λ r. ⌜ ((x : Number) → getD (now (nodes .entry)) row 0 ≡ head-word (Value.number x) → x .scale < 16 → r ≡ is-int x) ⌝ }
+{
+    row_scale(nodes, row) == 0
 }
 
 // How long the value at a row is as plain JSON.
