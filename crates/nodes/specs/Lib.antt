@@ -1,2 +1,4 @@
 pub mod Nodes
 pub mod NodesLaws
+pub mod Standing
+pub mod StandingLaws

@@ -1,13 +1,16 @@
 // The table of a document's values: three words a value, in preorder. The functions that read it are total: past its end
 // stands 0.
 ghost use mathlib.Core.Path.{_≡_};
-ghost use mathlib.Core.List.{_++_, _∷_};
-ghost use Prim.Native.Nat.{_+_, _*_, _/_, _%_, _^_, _≤_, _<_};
+ghost use mathlib.Core.List.{List, _++_, _∷_};
+ghost use Prim.Native.Nat.{ℕ, _+_, _*_, _/_, _%_, _^_, _≤_, _<_};
 ghost use lib.Dec.{eqb};
 ghost use lib.ListN.{length, getD, take, drop};
+ghost use Rattle.definitions.specs.Bytes.{same};
 ghost use Rattle.definitions.specs.Number.{Number, is-int};
-ghost use Rattle.definitions.specs.Value.{Value};
+ghost use Rattle.definitions.specs.Value.{Value, Members, has-name};
+ghost use Rattle.pool.specs.Pool.{text-in};
 ghost use Rattle.nodes.specs.Nodes.{head-of, head-word, reference, row-size, sign-bit};
+ghost use Rattle.nodes.specs.Standing.{Members-stand, Members-held};
 
 // The codes of the kinds.
 pub const NULL: u64 = 0;
@@ -140,6 +143,39 @@ pub fn text_bytes(reference: u64) -> usize
 {
     (reference / 65536) as usize
 }
+
+// ---- members
+
+// Whether the texts of two references are the same.
+pub fn same_name(pool: &[u64], a: u64, b: u64) -> bool
+    ensures compared { λ r. ⌜ r ≡ same (text-in (now (pool .entry)) (a % 65536) (a / 65536)) (text-in (now (pool .entry)) (b % 65536) (b / 65536)) ⌝ }
+{
+    pool::same_text(
+        pool,
+        text_word(a),
+        text_bytes(a),
+        text_word(b),
+        text_bytes(b),
+    )
+}
+
+// Whether one of the members whose rows stand from one row up to another has the name of a reference.
+pub fn has_member(nodes: &[u64], at: usize, end: usize, pool: &[u64], name: u64) -> bool
+    requires { ⌜ Members-held (now nodes) (now pool) at end ⌝ }
+    ensures found { λ r. ⌜ ((p : List ℕ) (ms : Members) → take (length p) (now (pool .entry)) ≡ p → length p < 65536 → Members-stand (now (nodes .entry)) p at end ms → r ≡ has-name (text-in (now (pool .entry)) (name % 65536) (name / 65536)) ms) ⌝ }
+{
+    let mut i = at;
+    while i < end {
+        let k = row_name(nodes, i);
+        if same_name(pool, name, k) {
+            return true;
+        }
+        i += row_size(nodes, i);
+    }
+    false
+}
+
+// ---- rows put
 
 // Puts the three words of a row.
 pub fn put_row(nodes: &mut [u64], row: usize, head: u64, payload: u64, name: u64)

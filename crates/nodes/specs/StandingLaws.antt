@@ -1,0 +1,182 @@
+-- Laws of where values, elements and members stand, in the order of their definitions. Assumes nothing.
+use Prim.Native.Nat.{ℕ, _+_, _*_, _/_, _%_, _≤_, _<_}
+use mathlib.Core.Path.{_≡_, refl, sym, ap, _∙_}
+use mathlib.Core.List.{List, _∷_, _++_, append-assoc}
+use native.Mathlib.Nat.{add-zero}
+use native.Mathlib.Omega.{arith}
+use lib.ListN.{length, take, drop, getD, length-append, length-drop, length-take}
+use lib.Seq.{drop-drop, drop-at, getD-drop, take-length}
+use Rattle.definitions.specs.Bytes.{Bytes}
+use Rattle.definitions.specs.Value.{Value, Items, no-items, item, Members, no-members, member, size}
+use Rattle.pool.specs.Pool.{words, text-in}
+use Rattle.pool.specs.PoolLaws.{text-in-front}
+use Rattle.nodes.specs.Nodes.{head-word, Refers, refers, Rows, list-rows, rec-rows, row-size, Item-rows, no-item-rows, item-rows, Member-rows, no-member-rows, member-rows}
+use Rattle.nodes.specs.NodesLaws.{reference-word, reference-bytes, length-rows, rows-begin, row-size-is, row-name-is}
+use Rattle.nodes.specs.Standing.{Value-stands, Items-stand, Members-stand, First-item, First-member}
+
+pub size-some : (v : Value) → 1 ≤ size v
+unfolding size
+size-some Value.null = omega arith
+size-some (Value.bool b) = omega arith
+size-some (Value.number x) = omega arith
+size-some (Value.text t) = omega arith
+size-some (Value.list vs) = omega arith
+size-some (Value.rec ms) = omega arith
+
+-- ---- a value
+
+module _ {nodes p : List ℕ} {at m : ℕ} {v : Value} where
+  pub value-head : Value-stands nodes p at m v → getD nodes at 0 ≡ head-word v
+  value-head s =
+      ap (λ (i : ℕ). getD nodes i 0) (sym (add-zero at))
+      ∙ sym (getD-drop at nodes 0 0)
+      ∙ ap (λ (l : List ℕ). getD l 0 0) (s .placed ∙ ap (λ (l : List ℕ). l ++ s .rest) (rows-begin (s .encoded) .split))
+
+  pub value-name : Value-stands nodes p at m v → getD nodes (at + 2) 0 ≡ m
+  value-name s = row-name-is nodes (s .rest) at (s .encoded) (s .placed)
+
+  pub value-size : Value-stands nodes p at m v → row-size nodes at ≡ 3 * size v
+  value-size s = row-size-is nodes (s .rest) at (s .encoded) (s .placed) ∙ length-rows (s .encoded)
+
+  pub value-within : Value-stands nodes p at m v → at + 3 * size v ≤ length nodes
+  value-within s =
+      omega (
+        arith,
+        size-some v,
+        length-drop at nodes,
+        ap length (s .placed),
+        length-append (s .rows) (s .rest),
+        length-rows (s .encoded),
+      )
+
+-- behind a list's or a record's own row
+inner
+    : (nodes : List ℕ) (at : ℕ) {x y m : ℕ} (qs rest : List ℕ) → drop at nodes ≡ (x ∷ y ∷ m ∷ qs) ++ rest
+    → drop (at + 3) nodes ≡ qs ++ rest
+inner nodes at qs rest e = sym (drop-drop 3 at nodes) ∙ ap (drop 3) e
+
+pub list-stands
+    : {nodes p : List ℕ} {at m : ℕ} {vs : Items} → Value-stands nodes p at m (Value.list vs)
+    → Items-stand nodes p (at + 3) (at + row-size nodes at) vs
+list-stands {nodes} {p} {at} {m} {vs} s = go (s .encoded) (s .placed)
+  where
+    go
+        : {rs : List ℕ} → Rows p m (Value.list vs) rs → drop at nodes ≡ rs ++ s .rest
+        → Items-stand nodes p (at + 3) (at + row-size nodes at) vs
+    go (list-rows {rs} is) e =
+        record {
+          rows = rs;
+          rest = s .rest;
+          encoded = is;
+          placed = inner nodes at rs (s .rest) e;
+          reaches = omega (arith, row-size-is nodes (s .rest) at (list-rows {m = m} is) e);
+        }
+
+pub rec-stands
+    : {nodes p : List ℕ} {at m : ℕ} {ms : Members} → Value-stands nodes p at m (Value.rec ms)
+    → Members-stand nodes p (at + 3) (at + row-size nodes at) ms
+rec-stands {nodes} {p} {at} {m} {ms} s = go (s .encoded) (s .placed)
+  where
+    go
+        : {rs : List ℕ} → Rows p m (Value.rec ms) rs → drop at nodes ≡ rs ++ s .rest
+        → Members-stand nodes p (at + 3) (at + row-size nodes at) ms
+    go (rec-rows {rs} is) e =
+        record {
+          rows = rs;
+          rest = s .rest;
+          encoded = is;
+          placed = inner nodes at rs (s .rest) e;
+          reaches = omega (arith, row-size-is nodes (s .rest) at (rec-rows {m = m} is) e);
+        }
+
+-- ---- elements
+
+behind
+    : (nodes : List ℕ) (at : ℕ) {n : ℕ} (rs qs rest : List ℕ) → drop at nodes ≡ rs ++ (qs ++ rest) → n ≡ length rs
+    → drop (at + n) nodes ≡ qs ++ rest
+behind nodes at {n} rs qs rest e l =
+    sym (drop-drop n at nodes) ∙ ap (drop n) e ∙ drop-at rs (qs ++ rest) n (sym l)
+
+module _ {nodes p : List ℕ} {at end : ℕ} {vs : Items} (h : Items-stand nodes p at end vs) where
+  pub first-item : at < end → First-item nodes p at end vs
+  first-item more = go (h .encoded) (h .placed) (h .reaches)
+    where
+      go
+          : {ws : Items} {rs : List ℕ} → Item-rows p ws rs → drop at nodes ≡ rs ++ h .rest → at + length rs ≡ end
+          → First-item nodes p at end ws
+      go no-item-rows e l = absurd (let z : ⊥ = omega arith in z)
+      go (item-rows {v} {vs = os} {rs} {qs} r is) e l =
+          let whole : drop at nodes ≡ rs ++ (qs ++ h .rest) = e ∙ append-assoc rs qs (h .rest) in
+          let sized : row-size nodes at ≡ length rs = row-size-is nodes (qs ++ h .rest) at r whole in
+          record {
+            value = v;
+            others = os;
+            same = refl;
+            stands = record { rows = rs; rest = qs ++ h .rest; encoded = r; placed = whole };
+            more =
+                record {
+                  rows = qs;
+                  rest = h .rest;
+                  encoded = is;
+                  placed = behind nodes at rs qs (h .rest) whole sized;
+                  reaches = omega (arith, length-append rs qs);
+                };
+          }
+
+  pub no-item-left : end ≤ at → vs ≡ no-items
+  no-item-left past = go (h .encoded) (h .reaches)
+    where
+      go : {ws : Items} {rs : List ℕ} → Item-rows p ws rs → at + length rs ≡ end → ws ≡ no-items
+      go no-item-rows l = refl
+      go (item-rows {v} {rs} {qs} r is) l =
+          absurd (let z : ⊥ = omega (arith, length-append rs qs, length-rows r, size-some v) in z)
+
+-- ---- members
+
+module _ {nodes p : List ℕ} {at end : ℕ} {ms : Members} (h : Members-stand nodes p at end ms) where
+  pub first-member : at < end → First-member nodes p at end ms
+  first-member more = go (h .encoded) (h .placed) (h .reaches)
+    where
+      go
+          : {ns : Members} {rs : List ℕ} → Member-rows p ns rs → drop at nodes ≡ rs ++ h .rest → at + length rs ≡ end
+          → First-member nodes p at end ns
+      go no-member-rows e l = absurd (let z : ⊥ = omega arith in z)
+      go (member-rows {n} {k} {v} {ms = os} {rs} {qs} f r is) e l =
+          let whole : drop at nodes ≡ rs ++ (qs ++ h .rest) = e ∙ append-assoc rs qs (h .rest) in
+          let sized : row-size nodes at ≡ length rs = row-size-is nodes (qs ++ h .rest) at r whole in
+          record {
+            name = n;
+            word = k;
+            value = v;
+            others = os;
+            same = refl;
+            refers = f;
+            stands = record { rows = rs; rest = qs ++ h .rest; encoded = r; placed = whole };
+            more =
+                record {
+                  rows = qs;
+                  rest = h .rest;
+                  encoded = is;
+                  placed = behind nodes at rs qs (h .rest) whole sized;
+                  reaches = omega (arith, length-append rs qs);
+                };
+          }
+
+  pub no-member-left : end ≤ at → ms ≡ no-members
+  no-member-left past = go (h .encoded) (h .reaches)
+    where
+      go : {ns : Members} {rs : List ℕ} → Member-rows p ns rs → at + length rs ≡ end → ns ≡ no-members
+      go no-member-rows l = refl
+      go (member-rows {v} {rs} {qs} f r is) l =
+          absurd (let z : ⊥ = omega (arith, length-append rs qs, length-rows r, size-some v) in z)
+
+-- ---- a text of the pool
+
+-- the text of a reference, where p is the used part of the pool
+pub text-referred
+    : (pool : List ℕ) {p : List ℕ} {t : Bytes} {k : ℕ} → take (length p) pool ≡ p → length p < 65536 → Refers p t k
+    → text-in pool (k % 65536) (k / 65536) ≡ t
+text-referred pool {p} {t} front small (refers w h e) =
+    let g : w < 65536 = omega arith in
+    rw (reference-word w (length t) g, reference-bytes w (length t) g)
+    (text-in-front p pool (length p) w (length t) (front ∙ sym (take-length p)) h ∙ e)
