@@ -1,0 +1,2 @@
+pub mod Infer
+pub mod InferLaws

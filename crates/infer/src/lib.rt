@@ -1,0 +1,1 @@
+// Joining the shape of a document's value into a shape, in place.
