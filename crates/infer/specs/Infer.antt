@@ -4,7 +4,7 @@ use Prim.Native.Nat.{Ordering, Ordering·lt, Ordering·eq, Ordering·gt}
 use mathlib.Core.Bool.{Bool, true, false}
 use Rattle.definitions.specs.Bytes.{Bytes, order}
 use Rattle.definitions.specs.Value.{Value, Items, no-items, item, Members, no-members, member, has-name}
-use Rattle.definitions.specs.Shape.{Numeric, Shape, shape, Element, no-list, list-of, Record, no-rec, rec-of, Fields, no-fields, field, nothing, only-null, element-of, record-of}
+use Rattle.definitions.specs.Shape.{Numeric, Shape, shape, Element, no-list, list-of, Record, no-rec, rec-of, Fields, no-fields, field, nothing, only-null, has-rec, element-of, record-of}
 use Rattle.definitions.specs.Join.{with-null, join-numeric, numeric-of}
 
 -- ---- a kind added
@@ -37,10 +37,10 @@ unfoldable pub fields-start : Record → Fields
 fields-start no-rec = no-fields
 fields-start (rec-of fs) = fs
 
--- what a new member is joined into: "where one has rec, its members unchanged", else it has null
-unfoldable pub member-start : Record → Shape
-member-start no-rec = nothing
-member-start (rec-of fs) = only-null
+-- what a new member is joined into: null, where there was rec before
+unfoldable pub member-start : Bool → Shape
+member-start false = nothing
+member-start true = only-null
 
 -- ---- members
 
@@ -64,10 +64,10 @@ unfoldable pub null-lacked : Members → Fields → Fields
 null-lacked ms no-fields = no-fields
 null-lacked ms (field n s fs) = field n (null-if-lacked (has-name n ms) s) (null-lacked ms fs)
 
--- nothing is lacked where there was no rec
-unfoldable pub null-others : Record → Members → Fields → Fields
-null-others no-rec ms fs = fs
-null-others (rec-of gs) ms fs = null-lacked ms fs
+-- "where one has rec, its members unchanged"
+unfoldable pub null-others : Bool → Members → Fields → Fields
+null-others false ms fs = fs
+null-others true ms fs = null-lacked ms fs
 
 -- ---- values
 
@@ -80,7 +80,10 @@ unfoldable mutual
   infer-into (Value.list vs) s = with-element (infer-items vs (element-start (element-of s))) s
   infer-into (Value.rec ms) s =
       with-fields
-      (null-others (record-of s) ms (infer-members ms (member-start (record-of s)) (fields-start (record-of s))))
+      (null-others
+      (has-rec (record-of s))
+      ms
+      (infer-members ms (member-start (has-rec (record-of s))) (fields-start (record-of s))))
       s
 
   -- the elements one after the other

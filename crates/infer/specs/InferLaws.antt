@@ -7,7 +7,7 @@ use mathlib.Core.Bool.{Bool, true, false, not, _&&_, or-true, or-false}
 use mathlib.Core.Option.{Option, none, some}
 use Rattle.definitions.specs.Bytes.{Bytes, order, same, found}
 use Rattle.definitions.specs.Value.{Value, Items, no-items, item, Members, no-members, member, has-name}
-use Rattle.definitions.specs.Shape.{Numeric, no-number, int-only, int-and-dec, Shape, shape, Element, no-list, list-of, Record, no-rec, rec-of, Fields, no-fields, field, nothing, find, element-of, record-of, behind, ascending, ascending-element, ascending-record, ascending-fields, only-null, only-bool, only-numeric, only-text, only-list, only-rec}
+use Rattle.definitions.specs.Shape.{Numeric, no-number, int-only, int-and-dec, Shape, shape, Element, no-list, list-of, Record, no-rec, rec-of, Fields, no-fields, field, nothing, find, has-rec, element-of, record-of, behind, ascending, ascending-element, ascending-record, ascending-fields, only-null, only-bool, only-numeric, only-text, only-list, only-rec}
 use Rattle.definitions.specs.Join.{with-null, join-numeric, add-null, insert, numeric-of, join, join-element, join-record, join-fields, shape-of, join-items, fields-of}
 use Rattle.laws.specs.Bools.{tell, and-left, and-right, not-true, clash}
 use Rattle.laws.specs.Distinct.{distinct, distinct-items, distinct-members}
@@ -270,16 +270,16 @@ unfolding ascending fields-start
 fields-start-ascending no-rec i = refl
 fields-start-ascending (rec-of fs) i = i
 
-member-start-ascending : (r : Record) → ascending (member-start r) ≡ true
+member-start-ascending : (had : Bool) → ascending (member-start had) ≡ true
 unfolding member-start only-null ascending
-member-start-ascending no-rec = nothing-ascending
-member-start-ascending (rec-of fs) = refl
+member-start-ascending false = nothing-ascending
+member-start-ascending true = refl
 
 records-joined
     : (ms : Members) (r : Record) (gs : Fields) → ascending-record r ≡ true
-    → Joined-members ms (member-start r) (fields-start r) gs
-    → join-record r (rec-of (fields-of ms)) ≡ rec-of (null-others r ms gs)
-unfolding join member-start fields-start null-others find ascending
+    → Joined-members ms (member-start (has-rec r)) (fields-start r) gs
+    → join-record r (rec-of (fields-of ms)) ≡ rec-of (null-others (has-rec r) ms gs)
+unfolding join member-start fields-start null-others find ascending has-rec
 records-joined ms no-rec gs i j =
     ap rec-of
     (fields-ext (fields-of ms) gs (fields-of-ascending ms) (j .ascends)
@@ -323,17 +323,17 @@ mutual
       (rec-is
       (fields-of ms)
       s
-      (null-others (record-of s) ms (infer-members ms (member-start (record-of s)) (fields-start (record-of s))))
+      (null-others (has-rec (record-of s)) ms (infer-members ms (member-start (has-rec (record-of s))) (fields-start (record-of s))))
       (records-joined
       ms
       (record-of s)
-      (infer-members ms (member-start (record-of s)) (fields-start (record-of s)))
+      (infer-members ms (member-start (has-rec (record-of s))) (fields-start (record-of s)))
       (ascending-of-record s i)
       (infer-members-are
       ms
-      (member-start (record-of s))
+      (member-start (has-rec (record-of s)))
       (fields-start (record-of s))
-      (member-start-ascending (record-of s))
+      (member-start-ascending (has-rec (record-of s)))
       (fields-start-ascending (record-of s) (ascending-of-record s i))
       d)))
 

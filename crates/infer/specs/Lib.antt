@@ -1,2 +1,3 @@
 pub mod Infer
 pub mod InferLaws
+pub mod InferForms
