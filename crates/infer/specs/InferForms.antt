@@ -44,25 +44,29 @@ unfolding forms fields-start
 forms-fields-start no-rec = refl
 forms-fields-start (rec-of fs) = refl
 
+pub forms-some : (s : Shape) → 1 ≤ forms s
+unfolding forms
+forms-some (shape n b m t e r) = omega arith
+
 -- ---- members
 
-forms-place-lt
+pub place-lt
     : (n : Bytes) (st : Shape) (f : Shape → Shape) (m : Bytes) (b : Shape) (gs : Fields) → order n m ≡ Ordering·lt
     → place n st f (field m b gs) ≡ field n (f st) (field m b gs)
 unfolding place
-forms-place-lt n st f m b gs e = rw (e, place)
+place-lt n st f m b gs e = rw (e, place)
 
-forms-place-eq
+pub place-eq
     : (n : Bytes) (st : Shape) (f : Shape → Shape) (m : Bytes) (b : Shape) (gs : Fields) → order n m ≡ Ordering·eq
     → place n st f (field m b gs) ≡ field m (f b) gs
 unfolding place
-forms-place-eq n st f m b gs e = rw (e, place)
+place-eq n st f m b gs e = rw (e, place)
 
-forms-place-gt
+pub place-gt
     : (n : Bytes) (st : Shape) (f : Shape → Shape) (m : Bytes) (b : Shape) (gs : Fields) → order n m ≡ Ordering·gt
     → place n st f (field m b gs) ≡ field m b (place n st f gs)
 unfolding place
-forms-place-gt n st f m b gs e = rw (e, place)
+place-gt n st f m b gs e = rw (e, place)
 
 pub forms-place
     : (n : Bytes) (st : Shape) (f : Shape → Shape) → ((s : Shape) → forms s ≤ forms (f s)) → (fs : Fields)
@@ -74,9 +78,9 @@ forms-place n st f h (field m b gs) = go (forms-place n st f h gs) (order n m) r
     go
         : forms-fields gs ≤ forms-fields (place n st f gs) → (o : Ordering) → order n m ≡ o
         → forms-fields (field m b gs) ≤ forms-fields (place n st f (field m b gs))
-    go i Ordering·lt e = omega (arith, ap forms-fields (forms-place-lt n st f m b gs e))
-    go i Ordering·eq e = omega (arith, ap forms-fields (forms-place-eq n st f m b gs e), h b)
-    go i Ordering·gt e = omega (arith, ap forms-fields (forms-place-gt n st f m b gs e))
+    go i Ordering·lt e = omega (arith, ap forms-fields (place-lt n st f m b gs e))
+    go i Ordering·eq e = omega (arith, ap forms-fields (place-eq n st f m b gs e), h b)
+    go i Ordering·gt e = omega (arith, ap forms-fields (place-gt n st f m b gs e))
 
 forms-if-lacked : (b : Bool) (s : Shape) → forms (null-if-lacked b s) ≡ forms s
 unfolding null-if-lacked

@@ -38,7 +38,7 @@ unfolding join
 record-nothing no-rec = refl
 record-nothing (rec-of fs) = refl
 
-null-is : (s : Shape) → join s only-null ≡ with-null s
+pub null-is : (s : Shape) → join s only-null ≡ with-null s
 unfolding join only-null with-null
 null-is (shape n b m t e r) =
     λ i. shape (or-true n i) (or-false b i) (numeric-nothing m i) (or-false t i) (element-nothing e i) (record-nothing r i)
@@ -47,29 +47,29 @@ null-first : (s : Shape) → join only-null s ≡ with-null s
 unfolding join only-null with-null join-numeric
 null-first (shape n b m t e r) = refl
 
-bool-is : (s : Shape) → join s only-bool ≡ with-bool s
+pub bool-is : (s : Shape) → join s only-bool ≡ with-bool s
 unfolding join only-bool with-bool
 bool-is (shape n b m t e r) =
     λ i. shape (or-false n i) (or-true b i) (numeric-nothing m i) (or-false t i) (element-nothing e i) (record-nothing r i)
 
-numeric-is : (k : Numeric) (s : Shape) → join s (only-numeric k) ≡ with-numeric k s
+pub numeric-is : (k : Numeric) (s : Shape) → join s (only-numeric k) ≡ with-numeric k s
 unfolding join only-numeric with-numeric
 numeric-is k (shape n b m t e r) =
     λ i. shape (or-false n i) (or-false b i) (join-numeric m k) (or-false t i) (element-nothing e i) (record-nothing r i)
 
-text-is : (s : Shape) → join s only-text ≡ with-text s
+pub text-is : (s : Shape) → join s only-text ≡ with-text s
 unfolding join only-text with-text
 text-is (shape n b m t e r) =
     λ i. shape (or-false n i) (or-false b i) (numeric-nothing m i) (or-true t i) (element-nothing e i) (record-nothing r i)
 
-list-is
+pub list-is
     : (a : Shape) (s : Shape) (c : Shape) → join-element (element-of s) (list-of a) ≡ list-of c
     → join s (only-list (list-of a)) ≡ with-element c s
 unfolding join only-list with-element element-of
 list-is a (shape n b m t e r) c h =
     λ i. shape (or-false n i) (or-false b i) (numeric-nothing m i) (or-false t i) (h i) (record-nothing r i)
 
-rec-is
+pub rec-is
     : (fs : Fields) (s : Shape) (gs : Fields) → join-record (record-of s) (rec-of fs) ≡ rec-of gs
     → join s (only-rec (rec-of fs)) ≡ with-fields gs s
 unfolding join only-rec with-fields record-of
