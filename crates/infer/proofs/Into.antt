@@ -1,0 +1,86 @@
+-- A value that holds no others joined into a shape, and which value it is. Assumes nothing.
+use Prim.Native.Nat.{ℕ, _+_, _*_, _%_, _^_, _≤_, _<_}
+use native.Mathlib.Omega.{arith}
+use mathlib.Core.Path.{_≡_, refl, sym, ap, subst, _∙_}
+use mathlib.Core.Bool.{Bool, true, false}
+use mathlib.Core.List.{List, _∷_, _++_}
+use lib.Bits.{bitOr}
+use lib.ListN.{length, getD, take, drop}
+use Rattle.definitions.specs.Value.{Value, Items, Members}
+use Rattle.definitions.specs.Shape.{Shape, forms}
+use Rattle.definitions.specs.Join.{shape-of}
+use Rattle.nodes.specs.Nodes.{kind-code}
+use Rattle.nodes.specs.Standing.{Value-stands}
+use Rattle.plain.specs.Table.{Bounded-numbers}
+use Rattle.shapes.specs.Shapes.{head-of, kind-bits, size-at, Shape-rows}
+use Rattle.shapes.specs.ShapesLaws.{stands-row}
+use Rattle.join.specs.Replacing.{Put, Becomes}
+use Rattle.join.specs.declared.Joined.{Joined}
+use Rattle.infer.specs.Infer.{infer-into}
+use Rattle.infer.specs.InferLaws.{infer-is}
+use Rattle.infer.specs.Inferring.{Room, Meets, Infers, Joins}
+use Rattle.infer.proofs.Heads.{scalar-parts, scalar-bits, raise-fits, kinds-put}
+
+pub scalar-code : (v : Value) {k : ℕ} → kind-code v ≡ k → (k ≡ 5 → ⊥) → (k ≡ 6 → ⊥) → kind-code v < 5
+unfolding kind-code
+scalar-code Value.null e f g = omega arith
+scalar-code (Value.bool true) e f g = omega arith
+scalar-code (Value.bool false) e f g = omega arith
+scalar-code (Value.number x) e f g = omega arith
+scalar-code (Value.text t) e f g = omega arith
+scalar-code (Value.list vs) e f g = absurd (f (omega arith))
+scalar-code (Value.rec ms) e f g = absurd (g (omega arith))
+
+pub a-list : (v : Value) → kind-code v ≡ 5 → (vs : Items) × (v ≡ Value.list vs)
+unfolding kind-code
+a-list Value.null e = absurd (let z : ⊥ = omega arith in z)
+a-list (Value.bool true) e = absurd (let z : ⊥ = omega arith in z)
+a-list (Value.bool false) e = absurd (let z : ⊥ = omega arith in z)
+a-list (Value.number x) e = absurd (let z : ⊥ = omega arith in z)
+a-list (Value.text t) e = absurd (let z : ⊥ = omega arith in z)
+a-list (Value.list vs) e = (vs, refl)
+a-list (Value.rec ms) e = absurd (let z : ⊥ = omega arith in z)
+
+pub a-record : (v : Value) → kind-code v ≡ 6 → (ms : Members) × (v ≡ Value.rec ms)
+unfolding kind-code
+a-record Value.null e = absurd (let z : ⊥ = omega arith in z)
+a-record (Value.bool true) e = absurd (let z : ⊥ = omega arith in z)
+a-record (Value.bool false) e = absurd (let z : ⊥ = omega arith in z)
+a-record (Value.number x) e = absurd (let z : ⊥ = omega arith in z)
+a-record (Value.text t) e = absurd (let z : ⊥ = omega arith in z)
+a-record (Value.list vs) e = absurd (let z : ⊥ = omega arith in z)
+a-record (Value.rec ms) e = (ms, refl)
+
+module _
+    {shapes nodes pool : List ℕ} {used row at : ℕ} {p : List ℕ} {m : ℕ} {s : Shape} {k : ℕ} {v : Value} {kinds : ℕ}
+    (h : Meets shapes nodes pool used row at p m s k v)
+    (scalar : kind-code v < 5)
+    (told
+    : (q : List ℕ) (j : ℕ) (w : Value) → Value-stands nodes q at j w → Bounded-numbers w → kind-code w < 5
+    → kinds ≡ kind-bits (shape-of w))
+    (room : Room shapes used)
+  where
+    bits : bitOr (kind-bits s) kinds ≡ kind-bits (infer-into v s)
+    bits =
+        ap (λ (x : ℕ). bitOr (kind-bits s) x) (told p k v (h .held) (h .bounded) scalar) ∙ scalar-bits v s scalar
+
+    pub scalar-fits : (row < length shapes) × (head-of (bitOr (getD shapes row 0 % 128) kinds) (size-at shapes row + 0) < 2 ^ 64)
+    scalar-fits =
+        let c = scalar-parts v s scalar in (
+          omega (arith, stands-row (h .stands)),
+          raise-fits kinds 0 (infer-into v s) (h .stands) bits (omega (arith, c .counts))
+              (omega (arith, c .counts, h .within, room .enough, room .small)),
+        )
+
+    pub scalar-put
+        : {shapes′ : List ℕ}
+        → shapes′ ≡ take row shapes ++ head-of (bitOr (getD shapes row 0 % 128) kinds) (size-at shapes row + 0) ∷ drop (row + 1) shapes
+        → length shapes′ ≡ length shapes → Put shapes shapes′ used 0 row (2 * forms s) (Shape-rows p m (infer-into v s))
+    scalar-put e l = kinds-put kinds (h .stands) (h .within) (room .enough) (scalar-parts v s scalar) bits l e
+
+-- the steps come to the join
+pub into-joins
+    : (shapes nodes pool shapes′ : List ℕ) (used row at : ℕ) (r : Joined) → Infers shapes nodes pool shapes′ used row at r
+    → Joins shapes nodes pool shapes′ used row at r
+into-joins shapes nodes pool shapes′ used row at r q p m s k v h i d =
+    subst (λ (u : Shape). Becomes shapes shapes′ p used row m s u r) (infer-is v s i d) (q p m s k v h)

@@ -1,0 +1,12 @@
+pub mod Steps
+pub mod Scalars
+pub mod Heads
+pub mod Places
+pub mod Elements
+pub mod Nulling
+pub mod Into
+pub mod Items
+pub mod Lists
+pub mod Members
+pub mod Walk
+pub mod Records

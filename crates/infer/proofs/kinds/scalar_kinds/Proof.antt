@@ -1,0 +1,48 @@
+-- `infer::kinds::scalar_kinds` meets its contract. Assumes nothing.
+use native.Mathlib.Omega.{arith}
+use mathlib.Core.Path.{_∙_}
+use Rattle.infer.proofs.Scalars.{kind-told, bits-null, bits-number, bits-text, bits-bool}
+use borrow.Author.Needs.{needs}
+use Rattle.infer.proofs.kinds.scalar_kinds.Statement.{statement}
+use Rattle.infer.proofs.kinds.scalar_kinds.Tie as tie
+use Rattle.infer.proofs.kinds.scalar_kinds.Reads as reads
+use Rattle.infer.proofs.kinds.scalar_kinds.Lts as lts
+use Rattle.infer.proofs.kinds.number_kinds.Reads as number-kinds-reads
+use Rattle.nodes.proofs.row_is_int.Reads as row-is-int-reads
+use Rattle.nodes.proofs.row_kind.Reads as row-kind-reads
+
+row-kind-requires : tie.Need-row-kind-requires
+row-kind-requires c κs = search needs
+
+returns : tie.Need-returns
+returns c p k v h b l = bits-null v (kind-told h (c .before .row-kind .ensures) ∙ c .if1 .taken)
+
+row-is-int-requires : tie.Need-row-is-int-requires
+row-is-int-requires c κs = search needs
+
+number-kinds-requires : tie.Need-number-kinds-requires
+number-kinds-requires c κs = search needs
+
+returns-2 : tie.Need-returns-2
+returns-2 c p k v h b l =
+    bits-number v h b (kind-told h (c .before .before .before .before .row-kind .ensures) ∙ c .before .before .if2 .taken) (c .before .row-is-int .ensures) (c .number-kinds .ensures)
+
+returns-3 : tie.Need-returns-3
+returns-3 c p k v h b l = bits-text v (kind-told h (c .before .before .before .row-kind .ensures) ∙ c .if3 .taken)
+
+returns-4 : tie.Need-returns-4
+returns-4 c p k v h b l =
+    let e = kind-told h (c .before .before .before .row-kind .ensures) in
+    bits-bool v e (omega (arith, l, e)) (c .before .before .if1 .left) (c .before .if2 .left) (c .if3 .left)
+
+pub scalar-kinds-spec : {M : Type 1} → statement M
+scalar-kinds-spec =
+    tie.close
+    (tie.spec
+    row-kind-requires
+    returns
+    row-is-int-requires
+    number-kinds-requires
+    returns-2
+    returns-3
+    returns-4)

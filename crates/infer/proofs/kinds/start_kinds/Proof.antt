@@ -1,0 +1,15 @@
+-- `infer::kinds::start_kinds` meets its contract. Assumes nothing.
+use Rattle.infer.proofs.Scalars.{start-null, start-nothing}
+use Rattle.infer.proofs.kinds.start_kinds.Statement.{statement}
+use Rattle.infer.proofs.kinds.start_kinds.Tie as tie
+use Rattle.infer.proofs.kinds.start_kinds.Reads as reads
+use Rattle.infer.proofs.kinds.start_kinds.Lts as lts
+
+returns : tie.Need-returns
+returns c = start-null (c .if1 .taken)
+
+returns-2 : tie.Need-returns-2
+returns-2 c = start-nothing (c .if1 .left)
+
+pub start-kinds-spec : {M : Type 1} → statement M
+start-kinds-spec = tie.close (tie.spec returns returns-2)

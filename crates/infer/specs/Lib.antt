@@ -1,0 +1,5 @@
+pub mod Infer
+pub mod InferLaws
+pub mod InferForms
+pub mod Inferring
+pub mod Readying

@@ -1,0 +1,69 @@
+// Null for the members of a shape that a record lacks.
+ghost use mathlib.Core.Bool.{true};
+ghost use Rattle.infer.specs.Inferring.{Room, Members-inferable, Nulls, Listed-held, Nulls-listed};
+use crate::rows::raise;
+use shapes::Shape;
+
+// Adds null to the member at a row, if the record lacks its name.
+fn null_member(
+    shapes: &mut [u64],
+    used: usize,
+    row: usize,
+    nodes: &[u64],
+    at: usize,
+    end: usize,
+    pool: &[u64],
+)
+    requires { ⌜ Listed-held (now shapes) (now nodes) (now pool) used row at end ⌝ }
+    requires room { ⌜ Room (now shapes) used ⌝ }
+    ensures nulled { λ _. ⌜ Nulls-listed (now (shapes .entry)) (now (nodes .entry)) (now (pool .entry)) (now (shapes .exit)) used row at end ⌝ }
+{
+    if nodes::has_member(nodes, at, end, pool, shapes::name(shapes, row)) {
+        return;
+    }
+    raise(shapes, row, Shape::NULL, 0);
+}
+
+// Adds null to the members that the record lacks.
+fn null_lacked(
+    shapes: &mut [u64],
+    used: usize,
+    first: usize,
+    last: usize,
+    nodes: &[u64],
+    at: usize,
+    end: usize,
+    pool: &[u64],
+)
+    requires { ⌜ Members-inferable (now shapes) (now nodes) (now pool) used first last at end ⌝ }
+    requires room { ⌜ Room (now shapes) used ⌝ }
+    ensures nulled { λ _. ⌜ Nulls (now (shapes .entry)) (now (nodes .entry)) (now (pool .entry)) (now (shapes .exit)) used first last at end true ⌝ }
+{
+    let mut row = first;
+    while row < last {
+        null_member(shapes, used, row, nodes, at, end, pool);
+        row += shapes::size(shapes, row);
+    }
+}
+
+// Adds null to the members that the record lacks, if there were members before.
+pub fn null_others(
+    shapes: &mut [u64],
+    used: usize,
+    first: usize,
+    last: usize,
+    nodes: &[u64],
+    at: usize,
+    end: usize,
+    pool: &[u64],
+    had: bool,
+)
+    requires { ⌜ Members-inferable (now shapes) (now nodes) (now pool) used first last at end ⌝ }
+    requires room { ⌜ Room (now shapes) used ⌝ }
+    ensures nulled { λ _. ⌜ Nulls (now (shapes .entry)) (now (nodes .entry)) (now (pool .entry)) (now (shapes .exit)) used first last at end had ⌝ }
+{
+    if had {
+        null_lacked(shapes, used, first, last, nodes, at, end, pool);
+        return;
+    }
+}
