@@ -1,1 +1,2 @@
+pub mod FewValues
 pub mod PlainCauses

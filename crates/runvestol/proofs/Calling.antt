@@ -1,6 +1,6 @@
 -- What a call answers: refusal 1 for a short answer buffer, else what its operation does with the call's own work slices.
 -- Assumes nothing.
-use Prim.Native.Nat.{ℕ, _≤_, _<_}
+use Prim.Native.Nat.{ℕ, _+_, _-_, _*_, _/_, _≤_, _<_, min}
 use mathlib.Core.Path.{_≡_, refl, sym, ap, _∙_}
 use mathlib.Core.Bool.{false}
 use mathlib.Core.List.{List, [], _∷_, _++_}
@@ -37,35 +37,42 @@ called b o a d h w e =
       (e ∙ ap (λ x. answer-words x ++ drop 40 b) (w .0) ∙ ap (λ c. c .answer) (sym f), w .1 ∙ ap (λ c. c .output) (sym f)),
     )
 
--- ---- with work slices as long as published
+-- ---- with work slices of the call's own
 
 judged : (published lent : List ℕ) → slices-short published lent ≡ false → judge-work published lent ≡ judge-work [] []
 unfolding slices-short
 judged published lent h = work-long published lent h ∙ sym (work-long [] [] refl)
 
-module _ (doc out : Bytes) (nodes pool : List ℕ) (a : length nodes ≡ 1536) (b : length pool ≡ 2559) where
+-- as long as a document asks
+module _ (doc out : Bytes) (nodes pool : List ℕ) where
   -- the operation on the slices that the call holds
   abbrev on-slices : Done
-  on-slices = plain-operation read-json (1536 ∷ 2559 ∷ []) (length nodes ∷ length pool ∷ []) standard doc out
+  on-slices =
+      plain-operation read-json (3 * min 512 (length doc + 1) ∷ (min 16384 (length doc) + 8 * min 512 (length doc + 1) - 2) / 8 ∷ []) (length nodes ∷ length pool ∷ []) standard doc out
 
   -- and without any
   abbrev alone : Done
   alone = plain-operation read-json [] [] standard doc out
 
-  long : slices-short (1536 ∷ 2559 ∷ []) (length nodes ∷ length pool ∷ []) ≡ false
-  unfolding slices-short
-  long = rw (a, b) refl
+  module _ (a : 3 * min 512 (length doc + 1) ≤ length nodes) (b : (min 16384 (length doc) + 8 * min 512 (length doc + 1) - 2) / 8 ≤ length pool) where
+    long : slices-short (3 * min 512 (length doc + 1) ∷ (min 16384 (length doc) + 8 * min 512 (length doc + 1) - 2) / 8 ∷ []) (length nodes ∷ length pool ∷ []) ≡ false
+    unfolding slices-short
+    long = rw (le-ltb _ _ a, le-ltb _ _ b) refl
 
-  same : on-slices ≡ alone
-  unfolding plain-operation
-  same = rw (judged (1536 ∷ 2559 ∷ []) (length nodes ∷ length pool ∷ []) long) refl
+    same : on-slices ≡ alone
+    unfolding plain-operation
+    same = rw (judged _ _ long) refl
 
-  pub plain-called
-      : (buffer : Bytes) {buffer′ out′ : Bytes} (r : Answer) → 40 ≤ length buffer → (r ≡ on-slices .answer) × (out′ ≡ on-slices .output)
-      → buffer′ ≡ answer-words r ++ drop 40 buffer → Calls (plain-call doc out buffer) (r .number) buffer′ out′
-  unfolding plain-call
-  plain-called buffer r h w e =
-      called buffer out r alone h (w .0 ∙ ap (λ d. d .answer) same, w .1 ∙ ap (λ d. d .output) same) e
+    pub plain-alone : {out′ : Bytes} {r : Answer} → (r ≡ on-slices .answer) × (out′ ≡ on-slices .output) → (r ≡ alone .answer) × (out′ ≡ alone .output)
+    plain-alone w = (w .0 ∙ ap (λ d. d .answer) same, w .1 ∙ ap (λ d. d .output) same)
+
+pub plain-called
+    : (doc out buffer : Bytes) {buffer′ out′ : Bytes} (r : Answer) → 40 ≤ length buffer
+    → (r ≡ plain-operation read-json [] [] standard doc out .answer) × (out′ ≡ plain-operation read-json [] [] standard doc out .output)
+    → buffer′ ≡ answer-words r ++ drop 40 buffer
+    → Calls (plain-call doc out buffer) (r .number) buffer′ out′
+unfolding plain-call
+plain-called doc out buffer r h w e = called buffer out r (plain-operation read-json [] [] standard doc out) h w e
 
 pub plain-short : (doc out buffer : Bytes) → length buffer < 40 → Calls (plain-call doc out buffer) 1 buffer out
 unfolding plain-call

@@ -6,5 +6,6 @@ pub mod Escaped
 pub mod Characters
 pub mod Puts
 pub mod Reading
+pub mod EightBytes
 pub mod Writing
 pub mod Words

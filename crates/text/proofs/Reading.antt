@@ -183,22 +183,31 @@ module _ (doc : Bytes) (i : ℕ) (l : i < length doc) (e : getD doc i 0 ≡ 0x5C
 
 -- ---- a byte that stands for itself
 
+pub itself-run
+    : (doc : Bytes) (i : ℕ) → i < length doc → stands (getD doc i 0) ≡ true → (acc : Bytes)
+    → text-run Inside.chars acc (drop i doc) ≡ text-run Inside.chars (getD doc i 0 ∷ acc) (drop (i + 1) doc)
+unfolding text-step char-step
+itself-run doc i l t acc = more-at Inside.chars acc doc i l (ap (text-step Inside.chars acc) (getD-within doc i 256 0 l) ∙ step)
+  where
+    s : Itself (getD doc i 0)
+    s = stands-itself (getD doc i 0) t
+
+    step : text-step Inside.chars acc (getD doc i 0) ≡ more Inside.chars (getD doc i 0 ∷ acc)
+    step = rw (ne-is "\"" (s .no-quote), ne-is "\\" (s .no-backslash), in-between (record { from = s .from; to = s .to }), text-step, char-step)
+
 pub piece-itself
     : (doc : Bytes) (i : ℕ) (p p′ : List ℕ) (w n b : ℕ) → i < length doc → b ≡ getD doc i 0 → stands b ≡ true
     → Put p p′ (8 * w + n) b → (8 * w + n) / 8 < length p
     → Piece-read doc i p p′ w n (i + 1) (n + 1) 1
-unfolding text-step char-step
 piece-itself doc i p p′ w n b l e t h r =
     piece-byte doc i p p′ w n (i + 1) b 1 h r run (one-plain b (s .from) (s .no-quote) (s .no-backslash)) (omega arith) (omega arith) (omega arith)
   where
     s : Itself b
     s = stands-itself b t
 
-    step : (acc : Bytes) → text-step Inside.chars acc b ≡ more Inside.chars (b ∷ acc)
-    step acc = rw (ne-is "\"" (s .no-quote), ne-is "\\" (s .no-backslash), in-between (record { from = s .from; to = s .to }), text-step, char-step)
-
     run : (acc : Bytes) → text-run Inside.chars acc (drop i doc) ≡ text-run Inside.chars (b ∷ acc) (drop (i + 1) doc)
-    run acc = more-at Inside.chars acc doc i l (ap (text-step Inside.chars acc) (getD-within doc i 256 0 l ∙ sym e) ∙ step acc)
+    run acc =
+        itself-run doc i l (ap stands (sym e) ∙ t) acc ∙ ap (λ (x : ℕ). text-run Inside.chars (x ∷ acc) (drop (i + 1) doc)) (sym e)
 
 -- ---- the loop
 
@@ -256,6 +265,14 @@ module _ {doc : Bytes} {at : ℕ} {p₀ p : List ℕ} {w i n m : ℕ} (h : Readi
       let s = h .shorter in
       let l = h .within in
       let o : words n ≤ words (length doc - at) = words-mono (omega arith) in
+      omega arith
+
+  -- room for eight bytes that are there
+  pub room-eight : i + 8 ≤ length doc → w + words (n + 8) ≤ length p
+  room-eight l =
+      let k = h .keeps .kept in
+      let s = h .shorter in
+      let o : words (n + 8) ≤ words (length doc - at) = words-mono (omega arith) in
       omega arith
 
   -- room for a byte

@@ -28,6 +28,16 @@ use Rattle.text.specs.declared.pieces.Piece.the-variants.{Went, Stopped}
 unfoldable pub stands : ℕ → Bool
 stands b = between 0x20 0x7F b && not (eqb b 0x22) && not (eqb b 0x5C)
 
+-- k bytes from place i on do
+abbrev pub Stand : Bytes → (i k : ℕ) → Type 0
+Stand doc i k = (j : ℕ) → j < k → stands (getD doc (i + j) 0) ≡ true
+
+-- behind n bytes, which fill whole words, the next eight stand for themselves
+pub record Word-ahead (doc : Bytes) (i n : ℕ) : Type 0 where
+  pub border : n % 8 ≡ 0
+  pub within : i + 8 ≤ length doc
+  pub stand : Stand doc i 8
+
 -- the value of a hexadecimal digit; of anything else, 16
 unfoldable pub hex-value : ℕ → ℕ
 hex-value b = elim (look hex-table b) [ none ↦ 16 | some k ↦ b - k ]

@@ -11,6 +11,7 @@ mod unicode; // escapes by hexadecimal digits
 mod wide; // characters of several bytes
 mod pieces; // what is no plain ASCII byte, put into the pool
 mod escape; // a byte as plain JSON has it
+mod eight; // eight bytes at a time
 
 use pieces::Piece;
 
@@ -37,6 +38,13 @@ pub fn read_text(doc: &[u8], at: usize, pool: &mut [u64], w: usize) -> TextRead
     let mut n: usize = 0;
     let mut written: usize = 2;
     while i < doc.len() {
+        if eight::word_ahead(doc, i, n) {
+            eight::put_word(doc, i, pool, w, n);
+            i += 8;
+            n += 8;
+            written += 8;
+            continue;
+        }
         let b = doc[i];
         if b == b'"' {
             return TextRead::Closed {
