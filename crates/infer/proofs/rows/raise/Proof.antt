@@ -1,6 +1,6 @@
 -- `infer::rows::raise` meets its contract. Assumes nothing.
 use Prim.Native.Nat.{ℕ, _+_, _^_, _<_}
-use mathlib.Core.Path.{_≡_, sym, ap, subst, _∙_}
+use mathlib.Core.Path.{sym, ap, subst, _∙_}
 use mathlib.Core.List.{_∷_, _++_}
 use denote.Ref.{now}
 use lib.ListN.{take, drop}
@@ -8,11 +8,6 @@ use Rattle.infer.proofs.Scalars.{head-as}
 use borrow.Author.Needs.{needs}
 use Rattle.infer.proofs.rows.raise.Statement.{statement}
 use Rattle.infer.proofs.rows.raise.Tie as tie
-use Rattle.infer.proofs.rows.raise.Reads as reads
-use Rattle.infer.proofs.rows.raise.Lts as lts
-use Rattle.shapes.proofs.kinds.Reads as kinds-reads
-use Rattle.shapes.proofs.put_head.Reads as put-head-reads
-use Rattle.shapes.proofs.size.Reads as size-reads
 
 kinds-requires : tie.Need-kinds-requires
 kinds-requires c κs = search needs
