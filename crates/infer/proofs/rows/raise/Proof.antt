@@ -1,6 +1,7 @@
 -- `infer::rows::raise` meets its contract. Assumes nothing.
-use Prim.Native.Nat.{ℕ, _+_, _^_, _<_}
-use mathlib.Core.Path.{sym, ap, subst, _∙_}
+use Prim.Native.Nat.{ℕ, _+_}
+use native.Mathlib.Omega.{arith}
+use mathlib.Core.Path.{ap, _∙_}
 use mathlib.Core.List.{_∷_, _++_}
 use denote.Ref.{now}
 use lib.ListN.{take, drop}
@@ -21,7 +22,7 @@ add-size c = search needs
 put-head-requires : tie.Need-put-head-requires
 put-head-requires c κs = (
   c .before .before .before .before .before .before .pre .0,
-  subst (λ (x : ℕ). x < 2 ^ 64) (sym (head-as _ _ (c .before .before .before .kinds .ensures) (c .before .size .ensures))) (c .before .before .before .before .before .before .pre .1),
+  omega (arith, head-as (c .before .before .before .before .before .before .args .kinds) (c .before .before .before .before .before .before .args .words) (c .before .before .before .kinds .ensures) (c .before .size .ensures), c .before .before .before .before .before .before .pre .1),
 )
 
 same-length : tie.Need-same-length
