@@ -1,16 +1,15 @@
 -- The element of a shape, there or made ready. Assumes nothing.
-use Prim.Native.Nat.{ℕ, _+_, _*_, _%_, _≤_, _<_}
-use native.Mathlib.Nat.{add-zero}
+use Prim.Native.Nat.{ℕ, _+_, _*_, _%_, _≤_}
 use native.Mathlib.Omega.{arith}
-use mathlib.Core.Path.{_≡_, refl, sym, ap, subst, _∙_}
-use mathlib.Core.Bool.{Bool, true, false}
-use mathlib.Core.List.{List, [], _∷_, _++_}
+use mathlib.Core.Path.{_≡_, sym, ap, subst, _∙_}
+use mathlib.Core.Bool.{true, false}
+use mathlib.Core.List.{List, [], _∷_}
 use lib.ListN.{length, getD}
-use Rattle.definitions.specs.Shape.{Kind, Shape, shape, Element, no-list, list-of, Record, nothing, has-list, has-rec, has, element-of, forms, forms-element}
+use Rattle.definitions.specs.Shape.{Shape, shape, no-list, list-of, nothing, has-list, has-rec, element-of, forms, forms-element}
 use Rattle.laws.specs.Bools.{clash}
-use Rattle.shapes.specs.Shapes.{kind-bit, bit, numeric-bits, kind-bits, has-bit, head-of, head-word, Shape-rows, shape-rows, no-element-rows, no-record-rows, Stands}
+use Rattle.shapes.specs.Shapes.{bit, numeric-bits, kind-bits, has-bit, head-of, head-word, Shape-rows, shape-rows, no-element-rows, no-record-rows, Stands}
 use Rattle.shapes.specs.ShapesLaws.{stands-kinds, stands-element, has-list-bit}
-use Rattle.join.specs.Replacing.{Put, Puts, Over}
+use Rattle.join.specs.Replacing.{Put, Puts}
 use Rattle.join.specs.declared.Joined.{Joined}
 use Rattle.join.specs.declared.Joined.the-variants.{Grown, Full}
 use Rattle.infer.specs.Infer.{element-start}

@@ -3,10 +3,9 @@ use Prim.Native.Nat.{ℕ, _+_, _*_, _/_, _%_, _^_, _≤_, _<_}
 use native.Mathlib.Nat.{add-zero}
 use native.Mathlib.Omega.{arith}
 use mathlib.Core.Path.{_≡_, refl, sym, ap, ap₂, subst, _∙_}
-use mathlib.Core.Bool.{Bool, true, false}
-use mathlib.Core.List.{List, [], _∷_, _++_}
+use mathlib.Core.List.{List, _∷_, _++_}
 use lib.Bits.{bitOr}
-use lib.ListN.{length, getD, take, drop, length-append}
+use lib.ListN.{length, getD, take, drop}
 use lib.Seq.{getD-drop}
 use Rattle.definitions.specs.Value.{Value}
 use Rattle.definitions.specs.Shape.{Numeric, Shape, shape, Element, no-list, list-of, Record, no-rec, rec-of, Fields, no-fields, nothing, has-list, has-rec, element-of, record-of, only-null, only-list, only-rec, forms}
@@ -14,7 +13,7 @@ use Rattle.definitions.specs.Join.{with-null, join, join-element, join-record, 
 use Rattle.nodes.specs.Nodes.{kind-code}
 use Rattle.shapes.specs.Shapes.{head-of, head-word, bit, numeric-bits, kind-bits, size-at, Shape-rows, shape-rows, Element-rows, Record-rows, Stands}
 use Rattle.shapes.specs.ShapesLaws.{kind-bits-lt, union-bits, head-kinds, head-size, stands-kinds, stands-size}
-use Rattle.join.specs.Replacing.{Replaced, Put}
+use Rattle.join.specs.Replacing.{Put}
 use Rattle.join.specs.ReplacingLaws.{Split, split-used, split-put, split-replaced, split-drop, stands-split}
 use Rattle.infer.specs.Infer.{with-bool, with-numeric, with-text, with-element, with-fields, infer-into}
 use Rattle.infer.specs.InferLaws.{null-is, bool-is, numeric-is, text-is, list-is, rec-is}

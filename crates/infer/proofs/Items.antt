@@ -1,17 +1,16 @@
 -- Elements joined into an element one after the other. Assumes nothing.
 use Prim.Native.Nat.{ℕ, _+_, _*_, _≤_, _<_}
-use native.Mathlib.Nat.{add-zero}
 use native.Mathlib.Omega.{arith}
 use mathlib.Core.Path.{_≡_, refl, sym, ap, subst, _∙_}
 use mathlib.Core.List.{List}
 use lib.ListN.{length, take, drop}
-use Rattle.definitions.specs.Value.{Value, Items, no-items, item, size}
+use Rattle.definitions.specs.Value.{Value, Items, item}
 use Rattle.definitions.specs.Shape.{Shape, forms}
 use Rattle.nodes.specs.Nodes.{row-size}
-use Rattle.nodes.specs.Standing.{Value-stands, Items-stand, First-item}
+use Rattle.nodes.specs.Standing.{Items-stand, First-item}
 use Rattle.nodes.specs.StandingLaws.{size-some, value-size, value-within, first-item, no-item-left}
 use Rattle.plain.specs.Table.{Bounded-numbers, Bounded-items}
-use Rattle.shapes.specs.Shapes.{Shape-rows, Stands}
+use Rattle.shapes.specs.Shapes.{Shape-rows}
 use Rattle.shapes.specs.ShapesLaws.{length-shape-rows}
 use Rattle.join.specs.Replacing.{Put, Over, Becomes}
 use Rattle.join.specs.ReplacingLaws.{Split, split-used, stands-split, split-stands, replaced-split}

@@ -1,18 +1,17 @@
 -- A list joined into a shape: its elements into the shape's element. Assumes nothing.
 use Prim.Native.Nat.{ℕ, _+_, _*_, _%_, _^_, _≤_, _<_}
-use native.Mathlib.Nat.{add-zero}
 use native.Mathlib.Omega.{arith}
 use mathlib.Core.Path.{_≡_, refl, sym, ap, subst, _∙_}
 use mathlib.Core.List.{List, [], _∷_, _++_}
 use lib.Bits.{bitOr}
 use lib.ListN.{length, getD, take, drop, length-append}
 use Rattle.definitions.specs.Value.{Value, Items}
-use Rattle.definitions.specs.Shape.{Shape, shape, Element, list-of, Record, element-of, record-of, forms, forms-element, forms-record}
-use Rattle.nodes.specs.Nodes.{kind-code, row-size}
+use Rattle.definitions.specs.Shape.{Shape, shape, Element, list-of, Record, element-of, record-of, forms, forms-element}
+use Rattle.nodes.specs.Nodes.{row-size}
 use Rattle.nodes.specs.Standing.{Value-stands, Items-stand}
 use Rattle.nodes.specs.StandingLaws.{list-stands}
 use Rattle.plain.specs.Table.{Bounded-numbers, Bounded-items}
-use Rattle.shapes.specs.Shapes.{head-of, head-word, size-at, Shape-rows, Element-rows, element-rows, Record-rows, Stands}
+use Rattle.shapes.specs.Shapes.{head-of, head-word, size-at, Shape-rows, Element-rows, element-rows, Record-rows}
 use Rattle.shapes.specs.ShapesLaws.{length-shape-rows, length-element-rows}
 use Rattle.join.specs.Replacing.{Put, Puts, Over, Becomes}
 use Rattle.join.specs.ReplacingLaws.{Split, split-used, stands-split, split-stands, split-inner, split-outer, replaced-split}
@@ -21,7 +20,7 @@ use Rattle.join.specs.declared.Joined.the-variants.{Grown, Full}
 use Rattle.infer.specs.Infer.{element-start, with-element, infer-into, infer-items}
 use Rattle.infer.specs.InferForms.{forms-by, forms-with-element, forms-infer-items}
 use Rattle.infer.specs.Inferring.{Room, Meets, Inferable, Infers, Meets-items, Items-inferable, Infers-items}
-use Rattle.infer.specs.Readying.{Shape-held, Readies}
+use Rattle.infer.specs.Readying.{Readies}
 use Rattle.infer.proofs.Steps.{split-as, replaced-then}
 use Rattle.infer.proofs.Scalars.{kind-told}
 use Rattle.infer.proofs.Into.{a-list}

@@ -1,6 +1,5 @@
 -- A member joined into the members of a shape: into the one of its name, or into a new one. Assumes nothing.
-use Prim.Native.Nat.{ℕ, _+_, _*_, _%_, _^_, _≤_, _<_}
-use native.Mathlib.Nat.{add-zero}
+use Prim.Native.Nat.{ℕ, _+_, _*_, _≤_}
 use native.Mathlib.Omega.{arith}
 use mathlib.Core.Path.{_≡_, refl, sym, ap, subst, _∙_}
 use mathlib.Core.Bool.{Bool, true, false}
@@ -8,18 +7,18 @@ use mathlib.Core.List.{List, [], _∷_, _++_, append-assoc}
 use lib.ListN.{length, getD, take, drop, length-append}
 use Rattle.definitions.specs.Bytes.{Bytes}
 use Rattle.definitions.specs.Value.{Value}
-use Rattle.definitions.specs.Shape.{Shape, shape, Fields, no-fields, field, nothing, only-null, has-list, has-rec, forms, forms-fields}
+use Rattle.definitions.specs.Shape.{Shape, Fields, field, nothing, only-null, forms, forms-fields}
 use Rattle.nodes.specs.Nodes.{Refers}
 use Rattle.nodes.specs.StandingLaws.{value-name}
-use Rattle.shapes.specs.Shapes.{head-of, head-word, bit, numeric-bits, kind-bits, Shape-rows, shape-rows, no-element-rows, no-record-rows, Field-rows, no-field-rows, field-rows, Stands, Fields-stand}
-use Rattle.shapes.specs.ShapesLaws.{kind-bits-lt, length-shape-rows, length-field-rows, fields-end}
+use Rattle.shapes.specs.Shapes.{head-of, head-word, kind-bits, Shape-rows, shape-rows, no-element-rows, no-record-rows, Field-rows, field-rows, Fields-stand}
+use Rattle.shapes.specs.ShapesLaws.{length-shape-rows}
 use Rattle.join.specs.Replacing.{Put, Puts, Over, Becomes}
 use Rattle.join.specs.ReplacingLaws.{Split, split-used, split-stands, split-inner, split-outer, replaced-split, split-replaced}
 use Rattle.join.specs.declared.Joined.{Joined}
 use Rattle.join.specs.declared.Joined.the-variants.{Grown, Full}
 use Rattle.infer.specs.Infer.{member-start, place, infer-into}
 use Rattle.infer.specs.InferForms.{place-eq, forms-some}
-use Rattle.infer.specs.Inferring.{Room, New-row, Meets, Inferable, Infers, Meets-fields, Fields-held, Fields-become, Meets-member, Member-inferable, Infers-member, Around, Listed, Finds}
+use Rattle.infer.specs.Inferring.{Room, New-row, Meets, Inferable, Infers, Meets-fields, Fields-become, Meets-member, Member-inferable, Infers-member, Finds}
 use Rattle.infer.proofs.Steps.{split-as, replaced-then, fields-split}
 
 -- ---- the start of a new member

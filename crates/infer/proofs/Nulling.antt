@@ -4,7 +4,7 @@ use native.Mathlib.Nat.{add-zero}
 use native.Mathlib.Omega.{arith}
 use mathlib.Core.Path.{_≡_, refl, sym, ap, subst, _∙_}
 use mathlib.Core.Bool.{Bool, true, false}
-use mathlib.Core.List.{List, [], _∷_, _++_, append-assoc, append-nil}
+use mathlib.Core.List.{List, [], _∷_, _++_, append-assoc}
 use lib.Bits.{bitOr}
 use lib.ListN.{length, getD, take, drop, length-append}
 use Rattle.definitions.specs.Bytes.{Bytes}
@@ -13,11 +13,11 @@ use Rattle.definitions.specs.Shape.{Shape, Fields, no-fields, field, forms, for
 use Rattle.definitions.specs.Join.{with-null}
 use Rattle.pool.specs.Pool.{text-in}
 use Rattle.nodes.specs.Nodes.{Refers}
-use Rattle.nodes.specs.Standing.{Members-stand, Members-held}
+use Rattle.nodes.specs.Standing.{Members-stand}
 use Rattle.nodes.specs.StandingLaws.{text-referred}
-use Rattle.shapes.specs.Shapes.{head-of, kind-bits, size-at, Shape-rows, Field-rows, no-field-rows, field-rows, Stands, Fields-stand}
-use Rattle.shapes.specs.ShapesLaws.{length-shape-rows, length-field-rows, stands-name, stands-size, stands-row, fields-end}
-use Rattle.join.specs.Replacing.{Put, Replaced}
+use Rattle.shapes.specs.Shapes.{head-of, size-at, Shape-rows, Field-rows, no-field-rows, field-rows, Stands, Fields-stand}
+use Rattle.shapes.specs.ShapesLaws.{length-shape-rows, stands-name, stands-size, stands-row, fields-end}
+use Rattle.join.specs.Replacing.{Put}
 use Rattle.join.specs.ReplacingLaws.{Split, split-used, split-inner, split-outer, split-stands, replaced-split, split-replaced}
 use Rattle.infer.specs.Infer.{null-if-lacked, null-lacked, null-others}
 use Rattle.infer.specs.InferForms.{forms-some, forms-null}

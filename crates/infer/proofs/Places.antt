@@ -1,24 +1,24 @@
 -- The walk along members to the place of a name. Assumes nothing.
-use Prim.Native.Nat.{ℕ, Ordering, Ordering·lt, Ordering·eq, Ordering·gt, _+_, _*_, _/_, _%_, _≤_, _<_}
+use Prim.Native.Nat.{ℕ, Ordering·lt, Ordering·eq, Ordering·gt, _+_, _/_, _%_, _≤_, _<_}
 use native.Mathlib.Omega.{arith}
 use mathlib.Core.Path.{_≡_, refl, sym, ap, ap₂, subst, _∙_}
-use mathlib.Core.Bool.{Bool, true, false}
-use mathlib.Core.List.{List, [], _∷_, _++_, append-assoc}
+use mathlib.Core.Bool.{true, false}
+use mathlib.Core.List.{List, [], _++_, append-assoc}
 use lib.ListN.{length, getD, drop, length-append}
 use lib.Seq.{drop-drop, drop-at}
 use Rattle.definitions.specs.Bytes.{Bytes, order}
-use Rattle.definitions.specs.Shape.{Shape, Fields, no-fields, field, forms, forms-fields}
+use Rattle.definitions.specs.Shape.{Shape, Fields, no-fields, field, forms}
 use Rattle.pool.specs.Pool.{text-in, ordering-of}
 use Rattle.pool.specs.declared.Comparison.{Comparison}
 use Rattle.pool.specs.declared.Comparison.the-variants.{Less, Equal, Greater}
 use Rattle.nodes.specs.Nodes.{Refers}
 use Rattle.nodes.specs.StandingLaws.{text-referred}
 use Rattle.plain.specs.Table.{Used}
-use Rattle.shapes.specs.Shapes.{size-at, Shape-rows, Field-rows, no-field-rows, field-rows, Stands, Fields-stand}
-use Rattle.shapes.specs.ShapesLaws.{length-shape-rows, stands-name, stands-size, stands-within, fields-first, fields-rest, fields-end, Some-fields, some-fields, fields-left}
+use Rattle.shapes.specs.Shapes.{size-at, Field-rows, no-field-rows, field-rows, Stands, Fields-stand}
+use Rattle.shapes.specs.ShapesLaws.{length-shape-rows, stands-name, stands-size, fields-first, fields-rest, Some-fields, some-fields, fields-left}
 use Rattle.infer.specs.Infer.{place}
-use Rattle.infer.specs.InferForms.{place-lt, place-eq, place-gt, forms-some}
-use Rattle.infer.specs.Inferring.{Room, Meets-fields, Fields-held, Around, Listed, Finds}
+use Rattle.infer.specs.InferForms.{place-lt, place-gt, forms-some}
+use Rattle.infer.specs.Inferring.{Meets-fields, Around, Finds}
 
 -- ---- where the walk stands
 

@@ -1,27 +1,26 @@
 -- A record joined into a shape: its members into the shape's members. Assumes nothing.
 use Prim.Native.Nat.{ℕ, _+_, _*_, _%_, _^_, _≤_, _<_}
-use native.Mathlib.Nat.{add-zero}
 use native.Mathlib.Omega.{arith}
 use mathlib.Core.Path.{_≡_, refl, sym, ap, subst, _∙_}
-use mathlib.Core.Bool.{Bool, true, false}
+use mathlib.Core.Bool.{Bool}
 use mathlib.Core.List.{List, [], _∷_, _++_, append-nil}
 use lib.Bits.{bitOr}
-use lib.ListN.{length, getD, take, drop, length-append}
+use lib.ListN.{length, getD, take, drop}
 use Rattle.definitions.specs.Value.{Value, Members}
-use Rattle.definitions.specs.Shape.{Kind, Shape, shape, Element, Record, no-rec, rec-of, Fields, has, has-rec, element-of, record-of, forms, forms-element, forms-record, forms-fields}
+use Rattle.definitions.specs.Shape.{Kind, Shape, shape, Element, Record, rec-of, Fields, has, has-rec, element-of, record-of, forms, forms-element, forms-fields}
 use Rattle.nodes.specs.Nodes.{row-size}
 use Rattle.nodes.specs.Standing.{Value-stands, Members-stand}
 use Rattle.nodes.specs.StandingLaws.{rec-stands}
 use Rattle.plain.specs.Table.{Bounded-numbers, Bounded-members}
 use Rattle.shapes.specs.Shapes.{kind-bit, has-bit, head-of, head-word, size-at, members-at, Shape-rows, Element-rows, Record-rows, no-record-rows, record-rows, Field-rows, no-field-rows, Stands, Fields-stand}
 use Rattle.shapes.specs.ShapesLaws.{has-kind, stands-kinds, stands-size, stands-row, members-at-is, length-field-rows, length-element-rows}
-use Rattle.join.specs.Replacing.{Put, Puts, Over}
-use Rattle.join.specs.ReplacingLaws.{Split, split-used, stands-split, split-inner, split-outer, split-fields, replaced-split}
+use Rattle.join.specs.Replacing.{Put, Over}
+use Rattle.join.specs.ReplacingLaws.{Split, stands-split, split-inner, split-outer, split-fields, replaced-split}
 use Rattle.join.specs.declared.Joined.{Joined}
 use Rattle.join.specs.declared.Joined.the-variants.{Grown, Full}
 use Rattle.infer.specs.Infer.{fields-start, member-start, null-others, with-fields, infer-into, infer-members}
 use Rattle.infer.specs.InferForms.{forms-by, forms-with-fields, forms-fields-start, forms-others}
-use Rattle.infer.specs.Inferring.{Room, Meets, Inferable, Infers, Meets-fields, Fields-become, Meets-members, Members-inferable, Infers-members, Nulls}
+use Rattle.infer.specs.Inferring.{Room, Meets, Inferable, Infers, Fields-become, Meets-members, Members-inferable, Infers-members, Nulls}
 use Rattle.infer.proofs.Steps.{split-as, replaced-then}
 use Rattle.infer.proofs.Scalars.{kind-told}
 use Rattle.infer.proofs.Into.{a-record}

@@ -1,21 +1,20 @@
 -- The kinds of values that hold no others, from the words of their row. Assumes nothing.
-use Prim.Native.Nat.{ℕ, Ordering, _+_, _*_, _/_, _%_, _^_, _≤_, _<_}
+use Prim.Native.Nat.{ℕ, Ordering, _+_, _/_, _%_, _<_}
 use native.Mathlib.Omega.{arith}
-use mathlib.Core.Path.{_≡_, refl, sym, ap, ap₂, subst, _∙_}
+use mathlib.Core.Path.{_≡_, refl, sym, ap, ap₂, _∙_}
 use mathlib.Core.Bool.{Bool, true, false}
 use mathlib.Core.List.{List}
 use lib.Bits.{bitOr}
 use lib.ListN.{getD}
-use Rattle.definitions.specs.Bytes.{Bytes, order}
+use Rattle.definitions.specs.Bytes.{order}
 use Rattle.definitions.specs.Number.{Number, is-int, most-scale}
 use Rattle.definitions.specs.Value.{Value}
-use Rattle.definitions.specs.Shape.{Numeric, no-number, int-only, int-and-dec, Shape, shape, nothing, has-list, has-rec, only-null, only-bool, only-numeric, only-text}
+use Rattle.definitions.specs.Shape.{Numeric, int-only, int-and-dec, nothing, has-list, has-rec, only-null, only-bool, only-numeric, only-text}
 use Rattle.definitions.specs.Join.{numeric-of, shape-of}
 use Rattle.pool.specs.Pool.{text-in}
 use Rattle.nodes.specs.Nodes.{kind-code, head-word}
 use Rattle.nodes.specs.Standing.{Value-stands}
 use Rattle.nodes.specs.StandingLaws.{value-head}
-use Rattle.number.specs.NumberWrite.{Bounded}
 use Rattle.plain.specs.Table.{Bounded-numbers}
 use Rattle.plain.specs.HeadLaws.{head-kind}
 use Rattle.shapes.specs.Shapes.{head-of, bit, numeric-bits, kind-bits}

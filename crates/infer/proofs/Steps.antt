@@ -1,16 +1,16 @@
 -- Words of a table replaced one after the other, and a row opened. Assumes nothing.
-use Prim.Native.Nat.{ℕ, _+_, _-_, _*_, _≤_, _<_}
+use Prim.Native.Nat.{ℕ, _+_, _-_, _*_, _≤_}
 use native.Mathlib.Nat.{add-zero}
 use native.Mathlib.Omega.{arith}
-use mathlib.Core.Path.{_≡_, refl, sym, ap, _∙_, subst}
+use mathlib.Core.Path.{_≡_, refl, sym, ap, _∙_}
 use mathlib.Core.List.{List, [], _∷_, _++_, append-assoc, append-nil}
-use lib.ListN.{length, getD, take, drop, length-append, length-drop, take-append-drop}
+use lib.ListN.{length, take, drop, length-append, length-drop, take-append-drop}
 use lib.Seq.{length-take-le, take-take, take-all, take-at, drop-at, drop-drop, drop-length, take-add}
-use Rattle.definitions.specs.Shape.{Shape, Fields, forms, forms-fields}
-use Rattle.shapes.specs.Shapes.{head-of, Shape-rows, Field-rows, Stands, Fields-stand}
+use Rattle.definitions.specs.Shape.{Fields, forms-fields}
+use Rattle.shapes.specs.Shapes.{Fields-stand}
 use Rattle.shapes.specs.ShapesLaws.{length-field-rows}
 use Rattle.join.specs.Replacing.{Opened, Replaced}
-use Rattle.join.specs.ReplacingLaws.{Split, split-used, split-front, split-behind, split-drop, replaced-split, split-replaced}
+use Rattle.join.specs.ReplacingLaws.{Split, replaced-split, split-replaced}
 
 -- ---- the same parts, otherwise counted
 

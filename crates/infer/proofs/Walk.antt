@@ -1,28 +1,27 @@
 -- Members joined into the members of a shape one after the other. Assumes nothing.
 use Prim.Native.Nat.{ℕ, _+_, _*_, _≤_, _<_}
-use native.Mathlib.Nat.{add-zero}
 use native.Mathlib.Omega.{arith}
 use mathlib.Core.Path.{_≡_, refl, sym, ap, subst, _∙_}
 use mathlib.Core.Bool.{Bool}
 use mathlib.Core.List.{List}
 use lib.ListN.{length, take, drop}
 use Rattle.definitions.specs.Bytes.{Bytes}
-use Rattle.definitions.specs.Value.{Value, Members, no-members, member, size}
+use Rattle.definitions.specs.Value.{Value, Members, member}
 use Rattle.definitions.specs.Shape.{Shape, Fields, forms-fields}
 use Rattle.nodes.specs.Nodes.{row-size}
-use Rattle.nodes.specs.Standing.{Value-stands, Members-stand, First-member}
+use Rattle.nodes.specs.Standing.{Members-stand, First-member}
 use Rattle.nodes.specs.StandingLaws.{size-some, value-size, value-within, first-member, no-member-left}
 use Rattle.plain.specs.Table.{Bounded-numbers, Bounded-members}
 use Rattle.shapes.specs.Shapes.{Field-rows, Fields-stand}
 use Rattle.shapes.specs.ShapesLaws.{length-field-rows, fields-end}
 use Rattle.join.specs.Replacing.{Put, Over}
-use Rattle.join.specs.ReplacingLaws.{Split, split-used, split-fields, replaced-split}
+use Rattle.join.specs.ReplacingLaws.{Split, split-fields, replaced-split}
 use Rattle.join.specs.declared.Joined.{Joined}
 use Rattle.join.specs.declared.Joined.the-variants.{Grown, Full}
 use Rattle.infer.specs.Infer.{member-start, place, infer-into, infer-members}
 use Rattle.infer.specs.InferForms.{forms-infer-members}
-use Rattle.infer.specs.Inferring.{Room, Meets-fields, Fields-become, Meets-member, Member-inferable, Infers-member, Meets-members, Members-inferable, Infers-members}
-use Rattle.infer.proofs.Steps.{split-as, replaced-then, fields-split}
+use Rattle.infer.specs.Inferring.{Room, Fields-become, Meets-member, Member-inferable, Infers-member, Meets-members, Members-inferable, Infers-members}
+use Rattle.infer.proofs.Steps.{replaced-then, fields-split}
 use Rattle.infer.proofs.Nulling.{nulls-none}
 
 pub record Members-going

@@ -1,6 +1,6 @@
 -- A value joined into a shape step by step, as the table's rows are changed: each part of the value is joined into the
 -- part of the shape where it belongs. `InferLaws` says that this is the join with the value's shape. Assumes nothing.
-use Prim.Native.Nat.{Ordering, Ordering·lt, Ordering·eq, Ordering·gt}
+use Prim.Native.Nat.{Ordering·lt, Ordering·eq, Ordering·gt}
 use mathlib.Core.Bool.{Bool, true, false}
 use Rattle.definitions.specs.Bytes.{Bytes, order}
 use Rattle.definitions.specs.Value.{Value, Items, no-items, item, Members, no-members, member, has-name}

@@ -1,7 +1,7 @@
 -- Joining a value into a shape takes no form away, at no step: where a table can't hold what a step leads to, it can't hold
 -- what is reached in the end. Assumes nothing.
-use Prim.Native.Nat.{ℕ, Ordering, Ordering·lt, Ordering·eq, Ordering·gt, _+_, _≤_}
-use mathlib.Core.Path.{_≡_, refl, sym, _∙_, ap, subst}
+use Prim.Native.Nat.{Ordering, Ordering·lt, Ordering·eq, Ordering·gt, _+_, _≤_}
+use mathlib.Core.Path.{_≡_, refl, ap}
 use mathlib.Core.Bool.{Bool, true, false}
 use native.Mathlib.Nat.{le-refl}
 use native.Mathlib.Omega.{arith}

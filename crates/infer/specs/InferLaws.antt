@@ -1,7 +1,7 @@
 -- A value joined into a shape step by step is the join with the value's shape, for a value with distinct names and a
 -- shape whose names ascend. Assumes nothing.
 use Prim.Native.Nat.{Ordering, Ordering·lt, Ordering·eq, Ordering·gt}
-use mathlib.Core.Path.{_≡_, refl, sym, _∙_, ap, subst}
+use mathlib.Core.Path.{_≡_, refl, sym, _∙_, ap}
 use mathlib.Core.Logic.{_⊎_, inl, inr}
 use mathlib.Core.Bool.{Bool, true, false, not, _&&_, or-true, or-false}
 use mathlib.Core.Option.{Option, none, some}
@@ -12,11 +12,11 @@ use Rattle.definitions.specs.Join.{with-null, join-numeric, add-null, insert, n
 use Rattle.laws.specs.Bools.{tell, and-left, and-right, not-true, clash}
 use Rattle.laws.specs.Distinct.{distinct, distinct-items, distinct-members}
 use Rattle.laws.specs.Names.{order-eq, same-eq, eq-same, before-lt, before-gt, before-other-sym}
-use Rattle.laws.specs.Fields.{find-here, find-there, find-first, find-behind, ascending-first, ascending-behind, ascending-rest, ascending-field, fields-ext}
+use Rattle.laws.specs.Fields.{find-here, find-there, find-behind, ascending-first, ascending-behind, ascending-rest, ascending-field, fields-ext}
 use Rattle.laws.specs.FieldsPut.{with-null-ascending, find-insert-here, find-insert-there, insert-ascending, add-null-ascending}
 use Rattle.laws.specs.OrderInduction.{InOption, Ascending, ascending-of-element, ascending-of-record, ascending-found}
 use Rattle.laws.specs.JoinParts.{join-option, find-join, join-fields-ascending}
-use Rattle.laws.specs.JoinLaws.{nothing-ascending, join-nothing-left, join-nothing-right, join-assoc, join-ascending, shape-of-ascending, join-items-ascending, fields-of-ascending}
+use Rattle.laws.specs.JoinLaws.{nothing-ascending, join-nothing-left, join-nothing-right, join-assoc, join-ascending, shape-of-ascending, fields-of-ascending}
 use Rattle.laws.specs.AdmitsParts.{find-shape-here, find-shape-there, found-shape}
 use Rattle.infer.specs.Infer.{with-bool, with-numeric, with-text, with-element, with-fields, element-start, fields-start, member-start, place, null-if-lacked, null-lacked, null-others, infer-into, infer-items, infer-members}
 

@@ -1,5 +1,5 @@
 -- What joining a value into a table's shape asks and answers, for the whole and for its parts. Assumes nothing.
-use Prim.Native.Nat.{ℕ, Ordering, Ordering·lt, Ordering·eq, Ordering·gt, _+_, _*_, _^_, _≤_, _<_}
+use Prim.Native.Nat.{ℕ, Ordering·eq, _+_, _*_, _^_, _≤_, _<_}
 use mathlib.Core.Path.{_≡_}
 use mathlib.Core.Bool.{Bool, true, false}
 use mathlib.Core.List.{List, [], _∷_, _++_}

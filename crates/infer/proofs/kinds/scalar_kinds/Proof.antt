@@ -5,11 +5,6 @@ use Rattle.infer.proofs.Scalars.{kind-told, bits-null, bits-number, bit
 use borrow.Author.Needs.{needs}
 use Rattle.infer.proofs.kinds.scalar_kinds.Statement.{statement}
 use Rattle.infer.proofs.kinds.scalar_kinds.Tie as tie
-use Rattle.infer.proofs.kinds.scalar_kinds.Reads as reads
-use Rattle.infer.proofs.kinds.scalar_kinds.Lts as lts
-use Rattle.infer.proofs.kinds.number_kinds.Reads as number-kinds-reads
-use Rattle.nodes.proofs.row_is_int.Reads as row-is-int-reads
-use Rattle.nodes.proofs.row_kind.Reads as row-kind-reads
 
 row-kind-requires : tie.Need-row-kind-requires
 row-kind-requires c κs = search needs

@@ -2,8 +2,6 @@
 use Rattle.infer.proofs.Scalars.{start-null, start-nothing}
 use Rattle.infer.proofs.kinds.start_kinds.Statement.{statement}
 use Rattle.infer.proofs.kinds.start_kinds.Tie as tie
-use Rattle.infer.proofs.kinds.start_kinds.Reads as reads
-use Rattle.infer.proofs.kinds.start_kinds.Lts as lts
 
 returns : tie.Need-returns
 returns c = start-null (c .if1 .taken)

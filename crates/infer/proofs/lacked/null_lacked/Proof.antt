@@ -1,7 +1,6 @@
 -- `infer::lacked::null_lacked` meets its contract. The loop's invariant is `Nulls-loop`. Assumes nothing.
 use Prim.Native.Nat.{_-_}
 use native.Mathlib.Omega.{arith}
-use mathlib.Core.Path.{_∙_}
 use borrow.Author.Needs.{needs}
 use Rattle.infer.proofs.Nulling.{Nulls-loop, loop-begins, loop-listed, loop-step, loop-on, loop-ends}
 use Rattle.infer.proofs.lacked.null_lacked.Statement.{statement}

@@ -3,11 +3,6 @@ use Rattle.infer.proofs.Scalars.{compared-as}
 use borrow.Author.Needs.{needs}
 use Rattle.infer.proofs.names.compare_names.Statement.{statement}
 use Rattle.infer.proofs.names.compare_names.Tie as tie
-use Rattle.infer.proofs.names.compare_names.Reads as reads
-use Rattle.infer.proofs.names.compare_names.Lts as lts
-use Rattle.nodes.proofs.text_bytes.Reads as text-bytes-reads
-use Rattle.nodes.proofs.text_word.Reads as text-word-reads
-use Rattle.pool.proofs.compare.Reads as compare-reads
 
 text-word-requires : tie.Need-text-word-requires
 text-word-requires c κs = search needs

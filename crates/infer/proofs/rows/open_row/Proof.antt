@@ -6,10 +6,6 @@ use Rattle.infer.proofs.Steps.{gap-filled}
 use borrow.Author.Needs.{needs}
 use Rattle.infer.proofs.rows.open_row.Statement.{statement}
 use Rattle.infer.proofs.rows.open_row.Tie as tie
-use Rattle.infer.proofs.rows.open_row.Reads as reads
-use Rattle.infer.proofs.rows.open_row.Lts as lts
-use Rattle.join.proofs.open_gap.Reads as open-gap-reads
-use Rattle.shapes.proofs.put_row.Reads as put-row-reads
 
 sub-if1 : tie.Need-sub-if1
 sub-if1 c = search needs

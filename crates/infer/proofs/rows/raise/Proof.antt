@@ -1,6 +1,7 @@
 -- `infer::rows::raise` meets its contract. Assumes nothing.
-use Prim.Native.Nat.{ℕ, _+_, _^_, _<_}
-use mathlib.Core.Path.{_≡_, sym, ap, subst, _∙_}
+use Prim.Native.Nat.{ℕ, _+_}
+use native.Mathlib.Omega.{arith}
+use mathlib.Core.Path.{ap, _∙_}
 use mathlib.Core.List.{_∷_, _++_}
 use denote.Ref.{now}
 use lib.ListN.{take, drop}
@@ -8,11 +9,6 @@ use Rattle.infer.proofs.Scalars.{head-as}
 use borrow.Author.Needs.{needs}
 use Rattle.infer.proofs.rows.raise.Statement.{statement}
 use Rattle.infer.proofs.rows.raise.Tie as tie
-use Rattle.infer.proofs.rows.raise.Reads as reads
-use Rattle.infer.proofs.rows.raise.Lts as lts
-use Rattle.shapes.proofs.kinds.Reads as kinds-reads
-use Rattle.shapes.proofs.put_head.Reads as put-head-reads
-use Rattle.shapes.proofs.size.Reads as size-reads
 
 kinds-requires : tie.Need-kinds-requires
 kinds-requires c κs = search needs
@@ -26,7 +22,7 @@ add-size c = search needs
 put-head-requires : tie.Need-put-head-requires
 put-head-requires c κs = (
   c .before .before .before .before .before .before .pre .0,
-  subst (λ (x : ℕ). x < 2 ^ 64) (sym (head-as _ _ (c .before .before .before .kinds .ensures) (c .before .size .ensures))) (c .before .before .before .before .before .before .pre .1),
+  omega (arith, head-as (c .before .before .before .before .before .before .args .kinds) (c .before .before .before .before .before .before .args .words) (c .before .before .before .kinds .ensures) (c .before .size .ensures), c .before .before .before .before .before .before .pre .1),
 )
 
 same-length : tie.Need-same-length
