@@ -3,8 +3,8 @@ use Prim.Native.Nat.{ℕ, _+_, _≤_, _<_}
 use native.Mathlib.Nat.{add-zero}
 use native.Mathlib.Omega.{arith}
 use mathlib.Core.Path.{_≡_, refl, sym, ap, _∙_}
-use mathlib.Core.List.{[], _++_}
-use lib.ListN.{length, length-append}
+use mathlib.Core.List.{[], _∷_, _++_}
+use lib.ListN.{length, getD, length-append}
 use Rattle.definitions.specs.Bytes.{Bytes}
 use Rattle.text.specs.Writes.{Writes}
 use Rattle.text.specs.WritesLaws.{writes-none, writes-then, writes-as, writes-length}
@@ -43,3 +43,14 @@ prints-as {at = at} e w =
       same = w .same;
       written = λ l. writes-as e (w .written l);
     }
+
+one-byte : (s : Bytes) (b : ℕ) → length s ≡ 1 → getD s 0 0 ≡ b → s ≡ b ∷ []
+one-byte [] b e f = absurd (let z : ⊥ = omega arith in z)
+one-byte (x ∷ []) b e f = ap (λ (y : ℕ). y ∷ []) f
+one-byte (x ∷ y ∷ s) b e f = absurd (let z : ⊥ = omega arith in z)
+
+-- a byte by its number
+pub prints-byte
+    : {o o₁ : Bytes} {at r : ℕ} {s : Bytes} (b : ℕ) → Prints o o₁ at s r → length s ≡ 1 → getD s 0 0 ≡ b
+    → Prints o o₁ at (b ∷ []) r
+prints-byte {s = s} b w e f = prints-as (one-byte s b e f) w

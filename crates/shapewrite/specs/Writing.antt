@@ -13,12 +13,12 @@ use Rattle.definitions.specs.Plain.{plain-text}
 use Rattle.definitions.specs.ShapeText.{write, write-fields, write-shape}
 use Rattle.definitions.specs.Operations.{passed, stopped, refusal, shape-out, finish}
 use Rattle.plain.specs.Parts.{Holds-text}
-use Rattle.shapes.specs.Shapes.{Stands}
+use Rattle.shapes.specs.Shapes.{has-bit, Stands}
 use Rattle.shapes.specs.Held.{Holds-shape, Holds-fields}
 use Rattle.shapewrite.specs.declared.Measured.{Measured}
 use Rattle.shapewrite.specs.declared.Measured.the-variants.{Over, Fits}
 use Rattle.shapewrite.specs.Prints.{Prints}
-use Rattle.shapewrite.specs.Layout.{label-text}
+use Rattle.shapewrite.specs.Layout.{word-of, label-text}
 
 -- ---- what a writer asks and answers
 
@@ -47,6 +47,12 @@ pub record Printable-fields (shapes pool : List ℕ) (row end at around : ℕ) :
 abbrev pub Prints-fields : (shapes pool : List ℕ) (row end around : ℕ) (out out′ : Bytes) (at r : ℕ) → Type 0
 Prints-fields shapes pool row end around out out′ at r =
     (fs : Fields) → Holds-fields shapes pool row end fs → Prints out out′ at (write-fields fs around ++ bytes ")") r
+
+-- ---- words
+
+-- the word of a kind is printed where a set of kinds has it
+pub record Prints-word (kinds kind : ℕ) (word out out′ : Bytes) (at r : ℕ) : Type 0 where
+  pub printed : Prints out out′ at (word-of (has-bit kinds kind) word) r
 
 -- ---- names
 

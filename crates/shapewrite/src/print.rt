@@ -6,7 +6,7 @@ ghost use Rattle.definitions.specs.ShapeText.{new-line};
 ghost use Rattle.shapes.specs.Shapes.{has-bit};
 ghost use Rattle.shapewrite.specs.Prints.{Prints};
 ghost use Rattle.shapewrite.specs.Layout.{word-of, head-text};
-ghost use Rattle.shapewrite.specs.Writing.{Printable-name, Prints-name, Printable-label, Prints-label};
+ghost use Rattle.shapewrite.specs.Writing.{Prints-word, Printable-name, Prints-name, Printable-label, Prints-label};
 use shapes::Shape;
 
 // Prints bytes from a place on, and answers the place behind them.
@@ -38,7 +38,7 @@ pub fn print_line(out: &mut [u8], at: usize, around: usize) -> usize
 // Prints the word of a kind where a set of kinds has it.
 fn print_word(out: &mut [u8], at: usize, kinds: u64, kind: u64, word: &[u8]) -> usize
     requires { ⌜ at + length (word-of (has-bit kinds kind) (now word)) < 2 ^ 64 ⌝ }
-    ensures printed { λ r. ⌜ Prints (now (out .entry)) (now (out .exit)) at (word-of (has-bit kinds kind) (now (word .entry))) r ⌝ }
+    ensures printed { λ r. ⌜ Prints-word kinds kind (now (word .entry)) (now (out .entry)) (now (out .exit)) at r ⌝ }
 {
     if shapes::has(kinds, kind) {
         return print(out, at, word);

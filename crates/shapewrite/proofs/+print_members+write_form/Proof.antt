@@ -13,7 +13,7 @@ use Rattle.shapes.specs.Shapes.{has-bit}
 use Rattle.shapes.specs.ShapesLaws.{forms-some}
 use Rattle.shapes.specs.HeldLaws.{held-kinds}
 use Rattle.shapewrite.specs.Layout.{head-text}
-use Rattle.shapewrite.specs.PrintsLaws.{prints-then, prints-as}
+use Rattle.shapewrite.specs.PrintsLaws.{prints-then, prints-as, prints-byte}
 use Rattle.shapewrite.proofs.Lines.{length-new-line}
 use Rattle.shapewrite.proofs.Forms.{holds-size, holds-within, listed, unlisted, length-listed, length-unlisted, head-short}
 use Rattle.shapewrite.proofs.Members.{Loop, loop-begins, close-room, printed-all, inner-room, label-printable, form-printable, bracket-room, loop-on, turn-some, turn-within}
@@ -151,7 +151,7 @@ print-members-loop-again t c =
     (c .before .before .before .before .before .before .before .before .before .before .before .before .before .name .ensures)
     (c .before .before .before .before .before .before .before .before .before .before .before .before .print-label .ensures)
     (c .before .before .before .before .before .before .before .before .write-form .ensures)
-    (c .before .before .before .print .ensures)
+    (prints-byte 41 (c .before .before .before .print .ensures) (omega arith) (omega arith))
     (c .size .ensures)
 
 print-members-slice-aggregate-print-2 : (t : ℕ) → print-members-lts.Need-slice-aggregate-print-2 (members-claims t) (print-members-at t) print-members.Post print-members-Inv-loop print-members-μ-loop
@@ -168,7 +168,7 @@ print-members-same-length t c =
 
 print-members-returns : (t : ℕ) → print-members-lts.Need-returns (members-claims t) (print-members-at t) print-members.Post print-members-Inv-loop print-members-μ-loop
 print-members-returns t c =
-    printed-all (c .before .before .before .before .before .before .before .before .before .before .pre .1) (c .before .before .before .before .before .before .loop .inv) (c .before .before .before .before .before .loop-test .left) (c .before .before .print2 .ensures)
+    printed-all (c .before .before .before .before .before .before .before .before .before .before .pre .1) (c .before .before .before .before .before .before .loop .inv) (c .before .before .before .before .before .loop-test .left) (prints-byte 41 (c .before .before .print2 .ensures) (omega arith) (omega arith))
 
 -- ---- write_form
 

@@ -2,6 +2,7 @@
 use native.Mathlib.Omega.{arith}
 use borrow.Author.Needs.{needs}
 use denote.Ref.{now}
+use Rattle.shapewrite.specs.PrintsLaws.{prints-byte}
 use Rattle.shapewrite.proofs.Bounds.{text-bound, printable}
 use Rattle.shapewrite.proofs.Delivery.{delivers-over, delivers-short, delivers-written}
 use Rattle.shapewrite.proofs.deliver.Statement.{statement}
@@ -56,7 +57,7 @@ returns-3 c =
     (c .before .before .before .before .before .before .before .before .before .before .before .before .length .given .1)
     (omega (arith, c .before .before .before .before .before .before .before .before .before .before .if1 .left))
     (c .before .before .before .before .before .before .before .before .write-form .ensures)
-    (c .before .before .before .print .ensures)
+    (prints-byte 0x0A (c .before .before .before .print .ensures) (omega arith) (omega arith))
     (c .answer3 .ensures)
 
 pub deliver-spec : {M : Type 1} → statement M

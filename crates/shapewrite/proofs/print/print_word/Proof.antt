@@ -26,15 +26,19 @@ same-length c = search needs
 
 returns : tie.Need-returns
 returns c =
-    prints-as
-    (word-there (has-bit (c .before .before .before .before .before .before .before .before .args .kinds) (c .before .before .before .before .before .before .before .before .args .kind)) (now (c .before .before .before .before .before .before .before .before .args .word)) (sym (c .before .before .before .before .before .has .ensures) ∙ c .before .before .before .before .if1 .taken))
-    (c .before .before .print .ensures)
+    record {
+      printed = prints-as
+          (word-there (has-bit (c .before .before .before .before .before .before .before .before .args .kinds) (c .before .before .before .before .before .before .before .before .args .kind)) (now (c .before .before .before .before .before .before .before .before .args .word)) (sym (c .before .before .before .before .before .has .ensures) ∙ c .before .before .before .before .if1 .taken))
+          (c .before .before .print .ensures);
+    }
 
 returns-2 : tie.Need-returns-2
 returns-2 c =
-    prints-as
-    (word-gone (has-bit (c .before .before .before .before .args .kinds) (c .before .before .before .before .args .kind)) (now (c .before .before .before .before .args .word)) (sym (c .before .has .ensures) ∙ c .if1 .left))
-    (prints-none _ _)
+    record {
+      printed = prints-as
+          (word-gone (has-bit (c .before .before .before .before .args .kinds) (c .before .before .before .before .args .kind)) (now (c .before .before .before .before .args .word)) (sym (c .before .has .ensures) ∙ c .if1 .left))
+          (prints-none _ _);
+    }
 
 pub print-word-spec : {M : Type 1} → statement M
 print-word-spec = tie.close (tie.spec has-requires print-requires same-length returns returns-2)
