@@ -37,6 +37,9 @@ std::vector<Peer> all_peers() {
         rapidjson_peer(),
         rapidjson_strings_peer(),
 #endif
+#ifdef WITH_rapidjson_second
+        rapidjson_second_peer(),
+#endif
 #ifdef WITH_yajl
         yajl_peer(),
 #endif

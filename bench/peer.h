@@ -19,6 +19,7 @@ constexpr std::size_t ROOM = 16384;
 
 Peer runvestol_peer();
 Peer rapidjson_peer();
+Peer rapidjson_second_peer();
 Peer rapidjson_strings_peer();
 Peer yajl_peer();
 Peer cjson_peer();
