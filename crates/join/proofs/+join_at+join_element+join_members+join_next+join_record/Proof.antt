@@ -470,7 +470,7 @@ join-members-join-next-requires t c κs =
         ours = m .ours;
         theirs = m .theirs;
         walks = g;
-        next = c .before .next-member .ensures (w .p) (m .ours) (m .theirs) (g .walk) (c .before .before .before .loop-test .taken);
+        next = c .before .next-member .ensures (w .p) (m .ours) (m .theirs) (g .walk) (omega (arith, c .before .before .before .loop-test .taken));
         small = omega (arith, m .same, w .small);
       },
     )
@@ -501,7 +501,7 @@ join-members-returns t c p fs gs v =
     let m = l .inv p fs gs v in
     let e = fields-end (v .walk .ours) in
     let g = merging-walks m (s .end) e in
-    let x = c .before .before .before .before .before .before .next-member .ensures p (m .ours) (m .theirs) (g .walk) (c .before .before .before .before .before .before .before .before .loop-test .taken) in
+    let x = c .before .before .before .before .before .before .next-member .ensures p (m .ours) (m .theirs) (g .walk) (omega (arith, c .before .before .before .before .before .before .before .before .loop-test .taken)) in
     merging-full m (x .turn)
     (full-of (l .shapes) (c .before .before .before .before .join-next .last .0) (s .used + l .words) (l .i) (x .old) (2 * forms (x .shape)) (Member-rows p (x .name) (x .shape)) (c .enum-told .given .1) (c .before .before .before .before .join-next .ensures p (s .end + l .words) (s .to) (m .ours) (m .theirs) (x .name) (x .shape) (x .old) (x .ours) (x .theirs) g (x .turn)))
 
@@ -519,7 +519,7 @@ join-members-add-i t c =
     let m = l .inv (w .p) (w .ours) (w .theirs) (w .walks) in
     let e = fields-end (v .walk .ours) in
     let g = merging-walks m (s .end) e in
-    let x = c .before .before .before .before .before .before .before .before .before .next-member .ensures p (m .ours) (m .theirs) (g .walk) (c .before .before .before .before .before .before .before .before .before .before .before .loop-test .taken) in
+    let x = c .before .before .before .before .before .before .before .before .before .next-member .ensures p (m .ours) (m .theirs) (g .walk) (omega (arith, c .before .before .before .before .before .before .before .before .before .before .before .loop-test .taken)) in
     let q = grown-of (l .shapes) (c .before .before .before .before .before .before .before .join-next .last .0) (s .used + l .words) (l .i) (x .old) (2 * forms (x .shape)) (Member-rows p (x .name) (x .shape)) (c .before .before .before .r .given .1) (c .before .before .before .before .before .before .before .join-next .ensures p (s .end + l .words) (s .to) (m .ours) (m .theirs) (x .name) (x .shape) (x .old) (x .ours) (x .theirs) g (x .turn)) in
     omega (arith, merging-less m (x .turn) q (c .size .result) _ (c .size .ensures) refl .0, merging-less m (x .turn) q (c .size .result) _ (c .size .ensures) refl .2, e, v .within, q .replaced .within, m .same, w .small)
 
@@ -537,7 +537,7 @@ join-members-add-j t c =
     let m = l .inv (w .p) (w .ours) (w .theirs) (w .walks) in
     let e = fields-end (v .walk .ours) in
     let g = merging-walks m (s .end) e in
-    let x = c .before .before .before .before .before .before .before .before .before .before .next-member .ensures p (m .ours) (m .theirs) (g .walk) (c .before .before .before .before .before .before .before .before .before .before .before .before .loop-test .taken) in
+    let x = c .before .before .before .before .before .before .before .before .before .before .next-member .ensures p (m .ours) (m .theirs) (g .walk) (omega (arith, c .before .before .before .before .before .before .before .before .before .before .before .before .loop-test .taken)) in
     let q = grown-of (l .shapes) (c .before .before .before .before .before .before .before .before .join-next .last .0) (s .used + l .words) (l .i) (x .old) (2 * forms (x .shape)) (Member-rows p (x .name) (x .shape)) (c .before .before .before .before .r .given .1) (c .before .before .before .before .before .before .before .before .join-next .ensures p (s .end + l .words) (s .to) (m .ours) (m .theirs) (x .name) (x .shape) (x .old) (x .ours) (x .theirs) g (x .turn)) in
     omega (arith, merging-less m (x .turn) q (c .before .size .result) (c .passed .result) (c .before .size .ensures) (c .passed .ensures) .3, fields-within (v .walk .theirs) (v .there), c .before .before .before .before .before .before .before .before .before .before .before .before .before .before .before .before .before .good .1 .1 .1 .1 .0 .0)
 
@@ -551,7 +551,7 @@ join-members-add-words t c =
     let m = l .inv (w .p) (w .ours) (w .theirs) (w .walks) in
     let e = fields-end (v .walk .ours) in
     let g = merging-walks m (s .end) e in
-    let x = c .before .before .before .before .before .before .before .before .before .before .next-member .ensures p (m .ours) (m .theirs) (g .walk) (c .before .before .before .before .before .before .before .before .before .before .before .before .loop-test .taken) in
+    let x = c .before .before .before .before .before .before .before .before .before .before .next-member .ensures p (m .ours) (m .theirs) (g .walk) (omega (arith, c .before .before .before .before .before .before .before .before .before .before .before .before .loop-test .taken)) in
     let q = grown-of (l .shapes) (c .before .before .before .before .before .before .before .before .join-next .last .0) (s .used + l .words) (l .i) (x .old) (2 * forms (x .shape)) (Member-rows p (x .name) (x .shape)) (c .before .before .before .before .r .given .1) (c .before .before .before .before .before .before .before .before .join-next .ensures p (s .end + l .words) (s .to) (m .ours) (m .theirs) (x .name) (x .shape) (x .old) (x .ours) (x .theirs) g (x .turn)) in
     omega (arith, q .replaced .within, m .same, w .small)
 
@@ -565,7 +565,7 @@ join-members-loop-less t c =
     let m = l .inv (w .p) (w .ours) (w .theirs) (w .walks) in
     let e = fields-end (v .walk .ours) in
     let g = merging-walks m (s .end) e in
-    let x = c .before .before .before .before .before .before .before .before .before .before .next-member .ensures p (m .ours) (m .theirs) (g .walk) (c .before .before .before .before .before .before .before .before .before .before .before .before .loop-test .taken) in
+    let x = c .before .before .before .before .before .before .before .before .before .before .next-member .ensures p (m .ours) (m .theirs) (g .walk) (omega (arith, c .before .before .before .before .before .before .before .before .before .before .before .before .loop-test .taken)) in
     let q = grown-of (l .shapes) (c .before .before .before .before .before .before .before .before .join-next .last .0) (s .used + l .words) (l .i) (x .old) (2 * forms (x .shape)) (Member-rows p (x .name) (x .shape)) (c .before .before .before .before .r .given .1) (c .before .before .before .before .before .before .before .before .join-next .ensures p (s .end + l .words) (s .to) (m .ours) (m .theirs) (x .name) (x .shape) (x .old) (x .ours) (x .theirs) g (x .turn)) in
     let y = merging-less m (x .turn) q (c .before .size .result) (c .passed .result) (c .before .size .ensures) (c .passed .ensures) in
     omega (arith, y .0, y .1, y .2, y .3, e, c .before .before .before .before .before .before .before .before .before .before .before .before .loop-test .taken)
@@ -577,7 +577,7 @@ join-members-loop-again t c p fs gs v =
     let m = l .inv p fs gs v in
     let e = fields-end (v .walk .ours) in
     let g = merging-walks m (s .end) e in
-    let x = c .before .before .before .before .before .before .before .before .before .before .next-member .ensures p (m .ours) (m .theirs) (g .walk) (c .before .before .before .before .before .before .before .before .before .before .before .before .loop-test .taken) in
+    let x = c .before .before .before .before .before .before .before .before .before .before .next-member .ensures p (m .ours) (m .theirs) (g .walk) (omega (arith, c .before .before .before .before .before .before .before .before .before .before .before .before .loop-test .taken)) in
     let q = grown-of (l .shapes) (c .before .before .before .before .before .before .before .before .join-next .last .0) (s .used + l .words) (l .i) (x .old) (2 * forms (x .shape)) (Member-rows p (x .name) (x .shape)) (c .before .before .before .before .r .given .1) (c .before .before .before .before .before .before .before .before .join-next .ensures p (s .end + l .words) (s .to) (m .ours) (m .theirs) (x .name) (x .shape) (x .old) (x .ours) (x .theirs) g (x .turn)) in
     merging-on m (x .turn) q (c .before .size .result) (c .passed .result) (c .before .size .ensures) (c .passed .ensures)
     (omega (arith, merging-less m (x .turn) q (c .before .size .result) (c .passed .result) (c .before .size .ensures) (c .passed .ensures) .3, fields-within (v .walk .theirs) (v .there)))
