@@ -1,16 +1,15 @@
 -- The token behind white space. Assumes nothing.
-use Prim.Native.Nat.{ℕ, suc, _+_, _-_, _≤_, _<_}
-use mathlib.Core.Path.{_≡_, refl, sym, ap, ap₂, _∙_, subst}
+use Prim.Native.Nat.{ℕ, _+_, _-_, _≤_, _<_}
+use mathlib.Core.Path.{_≡_, sym, ap, _∙_, subst}
 use mathlib.Core.List.{List, [], _∷_, _++_}
 use native.Mathlib.Numerals.{add-one}
 use native.Mathlib.Decide.{decLt}
 use native.Mathlib.Omega.{arith}
-use lib.ListN.{length, take, drop, getD, length-take, length-drop, take-append-drop, drop-of-length-le}
+use lib.ListN.{length, take, drop, getD, length-drop, take-append-drop, drop-of-length-le}
 use lib.Seq.{drop-drop, length-take-le}
 use Rattle.definitions.specs.Bytes.{Bytes, look, between}
 use Rattle.definitions.specs.Text.{Inside}
-use Rattle.definitions.specs.Tokens.{opening, closing, quoted, word, broken, at-place, border-table, no-word, outside, inside, ended, lex}
-use Rattle.laws.specs.Rfc8259.{ws-char}
+use Rattle.definitions.specs.Tokens.{opening, closing, word, at-place, border-table, no-word, outside, inside, ended, lex}
 use Rattle.laws.specs.FormGrammar.{at}
 use Rattle.laws.specs.TokenGrammar.{Word-byte, Word-bytes, next-byte, Word, a-word, Word-end, at-the-end, at-a-border}
 use Rattle.laws.specs.TokenLexing.{lex-quote, lex-word-at}

@@ -3,7 +3,7 @@ use Prim.Native.Nat.{ℕ, _+_, _-_, _≤_, _<_}
 use mathlib.Core.Path.{_≡_, sym, ap, _∙_}
 use native.Mathlib.Decide.{decLt}
 use native.Mathlib.Omega.{arith}
-use lib.ListN.{length, getD}
+use lib.ListN.{getD}
 use Rattle.tokens.proofs.Words.{other-length, other-byte, same-bytes}
 use Rattle.tokens.proofs.is_word.Statement.{statement}
 use Rattle.tokens.proofs.is_word.Tie as tie
