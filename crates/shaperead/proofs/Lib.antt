@@ -1,0 +1,9 @@
+pub mod Steps
+pub mod KindSets
+pub mod KindWords
+pub mod KindReading
+pub mod Openings
+pub mod MemberReading
+pub mod Table
+pub mod WholeForms
+pub mod ShapeTexts
