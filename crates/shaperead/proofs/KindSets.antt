@@ -50,6 +50,16 @@ unfolding bit
 bit-le true = omega arith
 bit-le false = omega arith
 
+-- the bits of these kinds, where list and rec are there or not
+unfoldable pub with-parts : List Kind → (list rec : Bool) → ℕ
+with-parts ks x y =
+    bit (among Kind.null ks)
+    + 2 * bit (among Kind.bool ks)
+    + 4 * numeric-bits (numeric-from ks)
+    + 16 * bit (among Kind.text ks)
+    + 32 * bit x
+    + 64 * bit y
+
 -- what the numbers among the kinds say
 data Numbers (ks : List Kind) : ℕ → Type 0 where
   no-numbers : among Kind.int ks ≡ false → among Kind.dec ks ≡ false → Numbers ks 0
@@ -93,7 +103,7 @@ module _ {ks : List Kind} {kinds : ℕ} (h : Kinds-held ks kinds) where
       pick x e (no-numbers i d) =
           absurd
           (let z : ⊥ = omega
-          (arith, h .bits, e, bit-le (among Kind.null ks), bit-le (among Kind.bool ks), bit-le (among Kind.text ks), bit-le (among Kind.list ks), bit-le (among Kind.rec ks))
+          (arith, h .bits, e, bit-le (among Kind.null ks), bit-le (among Kind.bool ks))
           in z)
 
   no-int : kinds < 4 → among Kind.int ks ≡ false
@@ -178,10 +188,10 @@ module _ {ks : List Kind} {kinds : ℕ} (h : Kinds-held ks kinds) where
       (flag-record (among Kind.rec ks))
 
   flat-bits : kinds ≡ kind-bits flat
-  unfolding bits-of kind-bits flat
+  unfolding bits-of kind-bits flat with-parts
   flat-bits =
       h .bits
-      ∙ ap₂ (λ (x y : Bool). bit (among Kind.null ks) + 2 * bit (among Kind.bool ks) + 4 * numeric-bits (numeric-from ks) + 16 * bit (among Kind.text ks) + 32 * bit x + 64 * bit y)
+      ∙ ap₂ (with-parts ks)
       (sym (flagged-element (among Kind.list ks)))
       (sym (flagged-record (among Kind.rec ks)))
 
@@ -214,7 +224,9 @@ and-true : (b : Bool) → b ≡ b && true
 and-true true = refl
 and-true false = refl
 
-below-int : {ks : List Kind} {kinds kind : ℕ} → kind ≡ 8 → kinds < 4 → Kinds-held ks kinds → (k : Kind) → kind ≡ kind-bit k → false ≡ may-follow ks k
+below-int
+    : {ks : List Kind} {kinds kind : ℕ} → kind ≡ 8 → kinds < 4 → Kinds-held ks kinds
+    → (k : Kind) → kind ≡ kind-bit k → false ≡ may-follow ks k
 unfolding kind-bit may-follow rank
 below-int e l h Kind.null f = absurd (let z : ⊥ = omega arith in z)
 below-int e l h Kind.bool f = absurd (let z : ⊥ = omega arith in z)
@@ -233,7 +245,9 @@ dec-alone e l =
       higher = λ z. clash {b = true} refl (sym z);
     }
 
-with-int : {ks : List Kind} {kinds kind : ℕ} → kind ≡ 8 → 4 ≤ kinds → Kinds-held ks kinds → (k : Kind) → kind ≡ kind-bit k → ltb kinds kind ≡ may-follow ks k
+with-int
+    : {ks : List Kind} {kinds kind : ℕ} → kind ≡ 8 → 4 ≤ kinds → Kinds-held ks kinds
+    → (k : Kind) → kind ≡ kind-bit k → ltb kinds kind ≡ may-follow ks k
 unfolding kind-bit may-follow rank
 with-int e l h Kind.null f = absurd (let z : ⊥ = omega arith in z)
 with-int e l h Kind.bool f = absurd (let z : ⊥ = omega arith in z)
@@ -256,7 +270,9 @@ dec-behind {kinds} {kind} e l =
       higher = λ z. ltb-true kinds kind z;
     }
 
-no-dec-kind : {ks : List Kind} {kinds kind : ℕ} → (kind ≡ 8 → ⊥) → Kinds-held ks kinds → (k : Kind) → kind ≡ kind-bit k → ltb kinds kind ≡ may-follow ks k
+no-dec-kind
+    : {ks : List Kind} {kinds kind : ℕ} → (kind ≡ 8 → ⊥) → Kinds-held ks kinds
+    → (k : Kind) → kind ≡ kind-bit k → ltb kinds kind ≡ may-follow ks k
 unfolding kind-bit may-follow rank
 no-dec-kind {ks} {kinds} n h Kind.null f = ap (ltb kinds) f ∙ sym (h .order Kind.null) ∙ and-true (in-order ks Kind.null)
 no-dec-kind {ks} {kinds} n h Kind.bool f = ap (ltb kinds) f ∙ sym (h .order Kind.bool) ∙ and-true (in-order ks Kind.bool)

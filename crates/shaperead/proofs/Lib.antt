@@ -5,5 +5,8 @@ pub mod KindReading
 pub mod Openings
 pub mod MemberReading
 pub mod Table
+pub mod Going
+pub mod ElementForms
+pub mod MemberForms
 pub mod WholeForms
 pub mod ShapeTexts

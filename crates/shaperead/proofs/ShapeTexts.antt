@@ -25,7 +25,7 @@ use Rattle.shaperead.specs.declared.ShapeRead.the-variants as Shape-is
 use Rattle.shaperead.specs.ShapeParts.{reading, Limited, Ready, Form-done, Form-answer, Reads-form}
 use Rattle.shaperead.specs.ShapeReads.{Tables, Reads-shape}
 use Rattle.shaperead.proofs.Steps.{whole-read}
-use Rattle.shaperead.proofs.WholeForms.{ready-then}
+use Rattle.shaperead.proofs.Going.{ready-then}
 
 -- where a text begins
 pub start-ready

@@ -1,7 +1,6 @@
 -- The proof of the cycle of calls {read_element, read_form, read_members}. The nesting left falls: a shape's measure is twice what is left,
 -- its parts', whose shapes have one less, lies between. The loop's invariant says what has been read of the members, whatever the
 -- tables were before: `Turn-answer`. Assumes nothing.
-use Prim.Native.Nat.{ℕ, _<_}
 use Prim.Native.Nat.{ℕ, _+_, _-_, _*_, _<_}
 use mathlib.Core.Path.{sym, subst}
 use mathlib.Core.List.{List}
@@ -10,7 +9,9 @@ use borrow.Author.Needs.{needs}
 use Rattle.shaperead.specs.declared.reading.Cursor.{Cursor}
 use Rattle.shaperead.specs.declared.members.Turn.{Turn}
 use Rattle.shaperead.specs.ShapeParts.{Turn-answer}
-use Rattle.shaperead.proofs.WholeForms.{element-read, element-none, members-start, member-ready, member-refused, done, form-ready, member-read, to-read, reads-less, open-refused, opens, inner-ready, element-refused, members-ready, members-refused, row-bounds, form-read}
+use Rattle.shaperead.proofs.ElementForms.{element-read, element-none}
+use Rattle.shaperead.proofs.MemberForms.{members-start, member-ready, member-refused, done, form-ready, member-read, to-read, reads-less}
+use Rattle.shaperead.proofs.WholeForms.{open-refused, opens, inner-ready, element-refused, members-ready, members-refused, row-bounds, form-read}
 use borrow.Fn.Kinds.{In}
 use borrow.Fn.PlainCycle.{Measures, is, falls, and}
 use Rattle.shaperead.proofs.forms.read_element.Reads as read-element
