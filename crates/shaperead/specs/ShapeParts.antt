@@ -68,18 +68,21 @@ pub record Kept (p p′ : List ℕ) (top : ℕ) : Type 0 where
 
 -- ---- a fixed word
 
+-- the word w stands there up to an end; or what stands there is refused wherever only w may stand
 abbrev pub Expected-answer : Bytes → ℕ → Bytes → Expected → Type 0
 Expected-answer text at w (Expected-is.At end) =
     (place : ℕ) × Found text at (Tokens.word w) place end × (place + length w ≡ end)
 Expected-answer text at w (Expected-is.Missing place) =
     (l : Limits) (n : ℕ) (q : Want) → Only q (Tokens.word w) → reading l n text (want q) at ≡ refused 7 place
 
+-- the answer r where the word w must come, and the pool p′ that was p
 pub record Expects (text : Bytes) (p p′ : List ℕ) (at top : ℕ) (w : Bytes) (r : Expected) : Type 0 where
   pub answer : Expected-answer text at w r
   pub kept : Kept p p′ top
 
 -- ---- the bracket and the word of a shape
 
+-- reading goes on behind the word `shape`, and one shape more is begun
 pub record Begins (text : Bytes) (values left : ℕ) (c : Cursor) (at : ℕ) : Type 0 where
   pub run
       : (l : Limits) (o : Around) → Limited l o values left
@@ -95,10 +98,12 @@ Form-refused text values left c number place =
     (l : Limits) (o : Around) → Limited l o values left
     → reading l (c .begun) text (want (shape-open o)) (c .at) ≡ refused number place
 
+-- the bracket and the word of a shape, or a refusal
 abbrev pub Begun-answer : Bytes → (values left : ℕ) → Cursor → Begun → Type 0
 Begun-answer text values left c (Begun-is.Behind at) = Begins text values left c at
 Begun-answer text values left c (Begun-is.Refused number place) = Form-refused text values left c number place
 
+-- the answer r where a shape must begin, and the pool p′ that was p
 pub record Begins-shape (text : Bytes) (p p′ : List ℕ) (values left : ℕ) (c : Cursor) (r : Begun) : Type 0 where
   pub answer : Begun-answer text values left c r
   pub kept : Kept p p′ (c .top)
@@ -143,6 +148,7 @@ behind false p o = member-open p o
 abbrev pub behind-kinds : Parts → Around → Want
 behind-kinds p o = behind (among Kind.list (p .kinds)) p o
 
+-- kinds have been read, and what comes behind them must come
 pub record Kinds-read (text : Bytes) (at kinds to : ℕ) : Type 0 where
   pub listed : List Kind
   pub held : Kinds-held listed kinds
@@ -153,17 +159,20 @@ pub record Kinds-read (text : Bytes) (at kinds to : ℕ) : Type 0 where
   pub ahead : at ≤ to
   pub within : to ≤ length text
 
+-- the kinds, or refusal 7
 abbrev pub Kinds-answer : Bytes → ℕ → Kinds → Type 0
 Kinds-answer text at (Kinds-are.Read kinds to) = Kinds-read text at kinds to
 Kinds-answer text at (Kinds-are.Refused place) =
     (l : Limits) (n : ℕ) (o : Around) → reading l n text (want (kind-word no-parts o)) at ≡ refused 7 place
 
+-- the answer r behind the word `shape`, and the pool p′ that was p
 pub record Reads-kinds (text : Bytes) (p p′ : List ℕ) (at top : ℕ) (r : Kinds) : Type 0 where
   pub answer : Kinds-answer text at r
   pub kept : Kept p p′ top
 
 -- ---- a shape up to its kinds
 
+-- a shape of these kinds has been read up to them
 pub record Opens (text : Bytes) (values left : ℕ) (c : Cursor) (kinds at : ℕ) : Type 0 where
   pub listed : List Kind
   pub held : Kinds-held listed kinds
@@ -176,10 +185,12 @@ pub record Opens (text : Bytes) (values left : ℕ) (c : Cursor) (kinds at : ℕ
   pub begun : c .begun < values
   pub nested : 0 < left
 
+-- a shape up to its kinds, or a refusal
 abbrev pub Opened-answer : Bytes → (values left : ℕ) → Cursor → Opened → Type 0
 Opened-answer text values left c (Opened-is.Form kinds at) = Opens text values left c kinds at
 Opened-answer text values left c (Opened-is.Refused number place) = Form-refused text values left c number place
 
+-- the answer r where a shape must begin, and the pool p′ that was p
 pub record Opens-form (text : Bytes) (p p′ : List ℕ) (values left : ℕ) (c : Cursor) (r : Opened) : Type 0 where
   pub answer : Opened-answer text values left c r
   pub kept : Kept p p′ (c .top)
@@ -204,11 +215,13 @@ pub record Name-read (text : Bytes) (at : ℕ) (p : List ℕ) (w place end n : �
   pub longer : at + n + 8 ≤ end
   pub within : end ≤ length text
 
+-- a name, or refusal 7 whatever the parts before
 abbrev pub Named-answer : Bytes → ℕ → List ℕ → ℕ → Named → Type 0
 Named-answer text at p w (Named-is.Name place end n) = Name-read text at p w place end n
 Named-answer text at p w (Named-is.Refused place) =
     (l : Limits) (k : ℕ) (q : Parts) (o : Around) → reading l k text (want (member-word q o)) at ≡ refused 7 place
 
+-- the answer r behind the bracket of a member, and the pool p′ that was p
 pub record Reads-name (text : Bytes) (p p′ : List ℕ) (at top : ℕ) (r : Named) : Type 0 where
   pub answer : Named-answer text at p′ top r
   pub kept : Kept p p′ top
@@ -234,6 +247,7 @@ pub record Member-named
   pub moves : Moves text c to
   pub further : c .at < to .at
 
+-- the shape of a member, or a refusal
 abbrev pub Names-answer
     : (first : Bool) (latest : ℕ) (text : Bytes) (p p′ : List ℕ) (at : ℕ) (c : Cursor) → Turn → Type 0
 Names-answer first latest text p p′ at c (More to name) = Member-named first latest text p p′ at c to name
@@ -242,6 +256,7 @@ Names-answer first latest text p p′ at c (Stop (Refused number place)) =
     (q : Parts) → Latest (take (c .top) p) (q .fields) first latest → (l : Limits) (n : ℕ) (o : Around)
     → reading l n text (want (member-word q o)) at ≡ refused number place
 
+-- the answer r behind the bracket of a member, judged by the latest name, and the pool p′ that was p
 pub record Names-member
     (first : Bool) (latest : ℕ) (text : Bytes) (p p′ : List ℕ) (at : ℕ) (c : Cursor) (r : Turn) : Type 0 where
   pub answer : Names-answer first latest text p p′ at c r
@@ -275,6 +290,7 @@ pub record Members-end
   pub ahead : c .at ≤ to .at
   pub within : to .at ≤ length text
 
+-- the bracket that ends the shape, or a refusal
 abbrev pub Stopped
     : (w : Parts → Around → Want) (first : Bool) (latest : ℕ) (text : Bytes) (p : List ℕ) (kinds : ℕ) (c : Cursor) → Part → Type 0
 Stopped w first latest text p kinds c (Done to) = Members-end w first latest text p kinds c to
@@ -283,6 +299,7 @@ Stopped w first latest text p kinds c (Refused number place) =
     → (l : Limits) (n : ℕ) (o : Around)
     → reading l n text (want (w (parts ks e fs) o)) (c .at) ≡ refused number place
 
+-- a member, or the answer
 abbrev pub Turn-is
     : (w : Parts → Around → Want) (first : Bool) (latest : ℕ) (text : Bytes) (p p′ : List ℕ) (kinds : ℕ) (c : Cursor) → Turn → Type 0
 Turn-is w first latest text p p′ kinds c (More to name) = Member-next w first latest text p p′ kinds c to name
@@ -316,6 +333,7 @@ pub record Sized (shapes pool shapes′ pool′ : List ℕ) : Type 0 where
   pub shapes-kept : length shapes′ ≡ length shapes
   pub pool-kept : length pool′ ≡ length pool
 
+-- a shape has been read; its rows follow those before it
 pub record Form-done
     (left values : ℕ) (text : Bytes) (shapes pool shapes′ pool′ : List ℕ) (name : ℕ) (c to : Cursor) : Type 0 where
   pub form : Shape
@@ -326,6 +344,7 @@ pub record Form-done
   pub held : Shape-rows (take (to .top) pool′) name form rows
   pub goes : Goes values text shapes pool shapes′ pool′ c to rows
 
+-- a shape, or a refusal
 abbrev pub Form-answer
     : (left values : ℕ) (text : Bytes) (shapes pool shapes′ pool′ : List ℕ) (name : ℕ) (c : Cursor) → Part → Type 0
 Form-answer left values text shapes pool shapes′ pool′ name c (Done to) =
@@ -341,6 +360,7 @@ pub record Reads-form
 
 -- ---- elements
 
+-- an element has been read, or there is none
 pub record Element-done
     (left values : ℕ) (text : Bytes) (shapes pool shapes′ pool′ : List ℕ) (kinds : ℕ) (c to : Cursor) : Type 0 where
   pub element : Element
@@ -353,6 +373,7 @@ pub record Element-done
   pub is-list : has-list element ≡ has-bit kinds 32
   pub goes : Goes values text shapes pool shapes′ pool′ c to rows
 
+-- an element or none, or a refusal
 abbrev pub Element-answer
     : (left values : ℕ) (text : Bytes) (shapes pool shapes′ pool′ : List ℕ) (kinds : ℕ) (c : Cursor) → Part → Type 0
 Element-answer left values text shapes pool shapes′ pool′ kinds c (Done to) =
@@ -361,12 +382,13 @@ Element-answer left values text shapes pool shapes′ pool′ kinds c (Refused n
     (l : Limits) (o : Around) → Limited l o values (suc left) → (ks : List Kind) → Kinds-held ks kinds
     → reading l (c .begun) text (want (behind-kinds (parts ks no-list no-fields) o)) (c .at) ≡ refused number place
 
+-- the answer r behind the kinds, and the tables that were shapes and pool
 pub record Reads-element
     (left values : ℕ) (text : Bytes) (shapes pool shapes′ pool′ : List ℕ) (kinds : ℕ) (c : Cursor) (r : Part) : Type 0 where
   pub answer : Element-answer left values text shapes pool shapes′ pool′ kinds c r
   pub sized : Sized shapes pool shapes′ pool′
 
--- ---- members
+-- ---- the rows of members
 
 -- the rows of members that are being read, the latest first
 pub data Fields-before (p : List ℕ) : Fields → List ℕ → Type 0 where
@@ -396,6 +418,7 @@ pub record Members-done
   pub read
       : Fields-read (λ ks e fs o. put (build (parts ks e fs)) o) left values text shapes pool shapes′ pool′ kinds c to fields
 
+-- the members and the closing bracket, or a refusal
 abbrev pub Members-answer
     : (left values : ℕ) (text : Bytes) (shapes pool shapes′ pool′ : List ℕ) (kinds : ℕ) (c : Cursor) → Part → Type 0
 Members-answer left values text shapes pool shapes′ pool′ kinds c (Done to) =
@@ -404,6 +427,7 @@ Members-answer left values text shapes pool shapes′ pool′ kinds c (Refused n
     (l : Limits) (o : Around) → Limited l o values (suc left) → (ks : List Kind) → Kinds-held ks kinds → (e : Element)
     → reading l (c .begun) text (want (member-open (parts ks e no-fields) o)) (c .at) ≡ refused number place
 
+-- the answer r behind the element, and the tables that were shapes and pool
 pub record Reads-members
     (left values : ℕ) (text : Bytes) (shapes pool shapes′ pool′ : List ℕ) (kinds : ℕ) (c : Cursor) (r : Part) : Type 0 where
   pub answer : Members-answer left values text shapes pool shapes′ pool′ kinds c r
