@@ -62,7 +62,7 @@ members-start left {values} {kinds} {text} {s} {p} {p′} c {t} r x = pick t (x 
                     ∙ ap (λ (n : ℕ). reading l n text (want (shape-open (as-member (parts ks e no-fields) (z .bytes) o))) (to .at)) (sym (z .begun));
                 rows = [];
                 held = no-fields-before;
-                none = λ h. refl;
+                bare = λ h. refl;
                 goes = still (z .begun) (z .moves);
               };
           refers = z .refers;
@@ -81,7 +81,7 @@ members-start left {values} {kinds} {text} {s} {p} {p′} c {t} r x = pick t (x 
                           ∙ ap (λ (n : ℕ). reading l n text (put (build (parts ks e no-fields)) o) (to .at)) (sym (z .begun));
                       rows = [];
                       held = no-fields-before;
-                      none = λ h. refl;
+                      bare = λ h. refl;
                       goes =
                           still (z .begun)
                           (record { ahead = z .ahead; within = z .within; grows = omega (arith, z .top); room = omega (arith, z .top, z .ahead) });
@@ -134,7 +134,7 @@ module _
                 (subst (λ (q : List ℕ). Fields-before q (m .fields) (m .read .rows)) (sym more)
                 (fields-before-grow (drop (from .top) (take (to .top) p′)) (m .read .held)))
                 still-refers (done .held);
-            none = λ h. clash (m .has-rec) h;
+            bare = λ h. clash (m .has-rec) h;
             goes = goes-then (m .read .goes) (done .goes);
           }
         where
@@ -187,7 +187,7 @@ module _
                           (sym (z .begun));
                       rows = b .rows;
                       held = held-then u (z .moves .grows);
-                      none = b .none;
+                      bare = b .bare;
                       goes = on (z .begun) (z .moves);
                     };
                 refers = z .refers;
@@ -208,7 +208,7 @@ module _
                                 (sym (z .begun));
                             rows = b .rows;
                             held = held-then u (omega (arith, z .top));
-                            none = b .none;
+                            bare = b .bare;
                             goes =
                                 on (z .begun)
                                 (record { ahead = z .ahead; within = z .within; grows = omega (arith, z .top); room = omega (arith, z .top, z .ahead) });

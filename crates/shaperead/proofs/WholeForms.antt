@@ -161,7 +161,7 @@ module _
                 (subst (λ (q : List ℕ). Element-rows q (element .element) (element .rows))
                 (sym (grown p′ p″ (mid .top) (to .top) (members .read .goes .front) (members .read .goes .moves .grows)))
                 (element-rows-grow (drop (mid .top) (take (to .top) p″)) (element .held)))
-                (built-record (element .element) (opens .held) (members .read .held) (members .read .none))
+                (built-record (element .element) (opens .held) (members .read .held) (members .read .bare))
 
             head-is
                 : head-word (build (parts (opens .listed) (element .element) (members .fields))) ≡ head-of kinds (2 * (to .begun - c .begun))

@@ -408,7 +408,7 @@ pub record Fields-read
       ≡ reading l (to .begun) text (w ks e fields o) (to .at)
   pub rows : List ℕ
   pub held : Fields-before (take (to .top) pool′) fields rows
-  pub none : has-bit kinds 64 ≡ false → fields ≡ no-fields
+  pub bare : has-bit kinds 64 ≡ false → fields ≡ no-fields
   pub goes : Goes values text shapes pool shapes′ pool′ c to rows
 
 -- the closing bracket has been read
