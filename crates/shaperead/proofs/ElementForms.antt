@@ -16,8 +16,6 @@ use Rattle.shaperead.specs.ShapeParts.{reading, Kinds-held, parts, behin
 use Rattle.shaperead.proofs.KindSets.{has-list-kind}
 use Rattle.shaperead.proofs.Going.{goes-alone, in-element}
 
-
-
 module _ {left values kinds : ℕ} {text : Bytes} {s p s′ p′ : List ℕ} (c : Cursor) where
   pub element-read
       : {b : Bool} {r : Part} → b ≡ has-bit kinds 32 → b ≡ true → Reads-form left values text s p s′ p′ 0 c r
