@@ -1,0 +1,12 @@
+pub mod Steps
+pub mod KindSets
+pub mod KindWords
+pub mod KindReading
+pub mod Openings
+pub mod MemberReading
+pub mod Table
+pub mod Going
+pub mod ElementForms
+pub mod MemberForms
+pub mod WholeForms
+pub mod ShapeTexts

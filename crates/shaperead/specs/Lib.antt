@@ -1,0 +1,2 @@
+pub mod ShapeParts
+pub mod ShapeReads

@@ -1,0 +1,3 @@
+pub mod Borders
+pub mod Lexing
+pub mod Words
