@@ -43,7 +43,7 @@ extern "C" {
 
 /*
  * The bytes of stack that a call needs below its caller's frame. Measured: 46,440 at the deepest, a document of 32
- * levels, of which 32,760 are the work slices; published with some 3,000 to spare. tests/c measures it anew.
+ * levels, of which 32,760 are the work slices; published with some 2,700 to spare. tests/c measures it anew.
  */
 #define RUNVESTOL_STACK_BYTES 49152
 
