@@ -8,7 +8,8 @@ use native.Mathlib.Numerals.{add-one}
 use native.Mathlib.Omega.{arith}
 use lib.ListN.{length, getD, drop, drop-of-length-le}
 use lib.Seq.{drop-cons}
-use lib.Dec.{isEq}
+use lib.Dec.{isEq, eqb}
+use borrow.Author.Tests.{eqb-true, eqb-false}
 use Rattle.definitions.specs.Bytes.{Bytes, order, same}
 use Rattle.pool.specs.Pool.{pool-bytes, text-in}
 use Rattle.pool.specs.PoolLaws.{length-text-in-min, getD-text-in}
@@ -89,29 +90,45 @@ module _
       : x ≡ y → order (drop i (text-in p w n)) (drop i (text-in p v m)) ≡ order (drop (i + 1) (text-in p w n)) (drop (i + 1) (text-in p v m))
   texts-next e = order-next (text-in p w n) (text-in p v m) i hs ht (left-byte ∙ e ∙ sym right-byte)
 
--- ---- texts of one length
+-- ---- the same texts
+
+order-refl : (s : Bytes) → order s s ≡ Ordering·eq
+unfolding order
+order-refl [] = refl
+order-refl (x ∷ xs) = ap (λ (o : Ordering). by-first o (order xs xs)) (compare-refl x) ∙ order-refl xs
 
 head-first : (x : ℕ) (xs : Bytes) (y : ℕ) (ys : Bytes) {o : Ordering} → compare x y ≡ o → order (x ∷ xs) (y ∷ ys) ≡ by-first o (order xs ys)
 unfolding order
 head-first x xs y ys e = ap (λ (o : Ordering). by-first o (order xs ys)) e
 
-order-length : (s t : Bytes) → isEq (order s t) ≡ true → length s ≡ length t
+order-eq : (s t : Bytes) → isEq (order s t) ≡ true → s ≡ t
 unfolding order
-order-length [] [] e = refl
-order-length [] (y ∷ ys) e = absurd (false≢true e)
-order-length (x ∷ xs) [] e = absurd (false≢true e)
-order-length (x ∷ xs) (y ∷ ys) e = go (compare x y) refl (order-length xs ys)
+order-eq [] [] e = refl
+order-eq [] (y ∷ ys) e = absurd (false≢true e)
+order-eq (x ∷ xs) [] e = absurd (false≢true e)
+order-eq (x ∷ xs) (y ∷ ys) e = go (compare x y) refl (order-eq xs ys)
   where
-    go : (o : Ordering) → compare x y ≡ o → (isEq (order xs ys) ≡ true → length xs ≡ length ys) → suc (length xs) ≡ suc (length ys)
+    go : (o : Ordering) → compare x y ≡ o → (isEq (order xs ys) ≡ true → xs ≡ ys) → x ∷ xs ≡ y ∷ ys
     go Ordering·lt h f = absurd (false≢true (sym (ap isEq (head-first x xs y ys h)) ∙ e))
-    go Ordering·eq h f = ap suc (f (sym (ap isEq (head-first x xs y ys h)) ∙ e))
+    go Ordering·eq h f = ap₂ _∷_ (eqb-true x y (ap isEq h)) (f (sym (ap isEq (head-first x xs y ys h)) ∙ e))
     go Ordering·gt h f = absurd (false≢true (sym (ap isEq (head-first x xs y ys h)) ∙ e))
 
--- texts of different lengths differ
-pub lengths-differ : (s t : Bytes) → (length s ≡ length t → ⊥) → false ≡ same s t
+pub same-true : {s t : Bytes} → s ≡ t → true ≡ same s t
 unfolding same
-lengths-differ s t h = go (isEq (order s t)) refl
+same-true {s} e = sym (ap isEq (ap (λ (t : Bytes). order s t) (sym e) ∙ order-refl s))
+
+pub same-false : {s t : Bytes} → (s ≡ t → ⊥) → false ≡ same s t
+unfolding same
+same-false {s} {t} h = go (isEq (order s t)) refl
   where
     go : (b : Bool) → isEq (order s t) ≡ b → false ≡ isEq (order s t)
-    go true e = absurd (h (order-length s t e))
+    go true e = absurd (h (order-eq s t e))
     go false e = sym e
+
+-- a test of two numbers that are the same exactly where the texts are
+pub same-eqb : {s t : Bytes} (x y : ℕ) → (x ≡ y → s ≡ t) → (s ≡ t → x ≡ y) → eqb x y ≡ same s t
+same-eqb {s} {t} x y f g = go (eqb x y) refl
+  where
+    go : (b : Bool) → eqb x y ≡ b → eqb x y ≡ same s t
+    go true e = e ∙ same-true (f (eqb-true x y e))
+    go false e = e ∙ same-false (λ q. eqb-false x y e (g q))

@@ -1,3 +1,4 @@
 pub mod Word
 pub mod Store
 pub mod ByteOrder
+pub mod WordOrder

@@ -89,17 +89,35 @@ pub fn compare(pool: &[u64], w: usize, n: usize, v: usize, m: usize) -> Comparis
     Comparison::Equal
 }
 
-// Whether two texts have the same bytes.
+// Whether two texts of n bytes, which the pool has whole, are the same: their whole words, then the first bytes of the words behind.
+fn same_words(pool: &[u64], w: usize, v: usize, n: usize) -> bool
+    requires { ⌜ (length (text-in (now pool) w n) ≡ n) × (length (text-in (now pool) v n) ≡ n) ⌝ }
+    ensures compared { λ r. ⌜ r ≡ same (text-in (now (pool .entry)) w n) (text-in (now (pool .entry)) v n) ⌝ }
+{
+    let whole = n / 8;
+    let mut i: usize = 0;
+    while i < whole {
+        if pool[w + i] != pool[v + i] {
+            return false;
+        }
+        i += 1;
+    }
+    let rest = n % 8;
+    if rest == 0 {
+        return true;
+    }
+    let s = 64 - 8 * rest;
+    pool[w + whole] >> s == pool[v + whole] >> s
+}
+
+// Whether two texts have the same bytes. Where a text runs past the pool's end it is what the pool has of it.
 pub fn same_text(pool: &[u64], w: usize, n: usize, v: usize, m: usize) -> bool
     ensures compared { λ r. ⌜ r ≡ same (text-in (now (pool .entry)) w n) (text-in (now (pool .entry)) v m) ⌝ }
 {
+    let s = held(pool, w, n);
     // most texts that differ differ in length
-    if held(pool, w, n) != held(pool, v, m) {
+    if s != held(pool, v, m) {
         return false;
     }
-    match compare(pool, w, n, v, m) {
-        Comparison::Equal => true,
-        Comparison::Less => false,
-        Comparison::Greater => false,
-    }
+    same_words(pool, w, v, s)
 }

@@ -1,71 +1,7 @@
-// The C calls: each holds its work slices, runs an operation and writes its answer as five little-endian words.
+// The C calls: each runs an operation with work slices of its own and writes its answer as five little-endian words. None
+// asks for anything, and no function beside them stands here.
 ghost use mathlib.Core.Path.{_≡_};
-ghost use mathlib.Core.List.{[], _++_};
-ghost use Prim.Native.Nat.{_+_, _≤_, _<_};
-ghost use lib.ListN.{length, take, drop};
-ghost use Rattle.definitions.specs.Limits.{standard};
-ghost use Rattle.definitions.specs.Json.{read-json};
-ghost use Rattle.definitions.specs.Operations.{plain-operation};
-ghost use Rattle.definitions.specs.Calls.{little-endian, answer-words, plain-call};
-use definitions::Answer;
-
-// Writes a word at a place, its lowest byte first.
-fn put_word(buffer: &mut [u8], at: usize, word: u64)
-    requires { ⌜ at + 8 ≤ length (now buffer) ⌝ }
-    ensures written { λ _. ⌜ now (buffer .exit) ≡ take at (now (buffer .entry)) ++ little-endian 8 word ++ drop (at + 8) (now (buffer .entry)) ⌝ }
-{
-    let mut rest = word;
-    let mut i: usize = 0;
-    while i < 8 {
-        buffer[at + i] = (rest % 256) as u8;
-        rest /= 256;
-        i += 1;
-    }
-}
-
-// Writes an answer's five words.
-fn put_answer(buffer: &mut [u8], answer: Answer)
-    requires { ⌜ 40 ≤ length (now buffer) ⌝ }
-    ensures written { λ _. ⌜ now (buffer .exit) ≡ answer-words answer ++ drop 40 (now (buffer .entry)) ⌝ }
-{
-    put_word(buffer, 0, answer.text);
-    put_word(buffer, 8, answer.place as u64);
-    put_word(buffer, 16, answer.length as u64);
-    put_word(buffer, 24, answer.steps as u64);
-    put_word(buffer, 32, answer.yes as u64);
-}
-
-// `plain` on a document of at most 255 bytes, which asks for short work slices: clearing long ones would show in its time.
-fn short_plain(document: &[u8], output: &mut [u8]) -> Answer
-    requires { ⌜ length (now document) < 256 ⌝ }
-    ensures answered { λ r. ⌜ r ≡ plain-operation read-json [] [] standard (now (document .entry)) (now (output .entry)) .answer ⌝ }
-    ensures written { λ _. ⌜ now (output .exit) ≡ plain-operation read-json [] [] standard (now (document .entry)) (now (output .entry)) .output ⌝ }
-{
-    let mut nodes = [0u64; 768];
-    let mut pool = [0u64; 287];
-    operations::plain_within(document, output, &mut nodes, &mut pool)
-}
-
-// `plain` on a document of any length.
-fn long_plain(document: &[u8], output: &mut [u8]) -> Answer
-    ensures answered { λ r. ⌜ r ≡ plain-operation read-json [] [] standard (now (document .entry)) (now (output .entry)) .answer ⌝ }
-    ensures written { λ _. ⌜ now (output .exit) ≡ plain-operation read-json [] [] standard (now (document .entry)) (now (output .entry)) .output ⌝ }
-{
-    let mut nodes = [0u64; 1536];
-    let mut pool = [0u64; 2559];
-    operations::plain_within(document, output, &mut nodes, &mut pool)
-}
-
-// `plain` with work slices of its own.
-fn plain(document: &[u8], output: &mut [u8]) -> Answer
-    ensures answered { λ r. ⌜ r ≡ plain-operation read-json [] [] standard (now (document .entry)) (now (output .entry)) .answer ⌝ }
-    ensures written { λ _. ⌜ now (output .exit) ≡ plain-operation read-json [] [] standard (now (document .entry)) (now (output .entry)) .output ⌝ }
-{
-    if document.len() < 256 {
-        return short_plain(document, output);
-    }
-    long_plain(document, output)
-}
+ghost use Rattle.definitions.specs.Calls.{plain-call, infer-call, join-call, below-call, admits-call};
 
 // Writes a document as plain JSON. Returns the answer's number.
 #[no_mangle]
@@ -74,10 +10,78 @@ pub extern "C" fn runvestol_plain(document: &[u8], output: &mut [u8], answer: &m
     ensures answered { λ _. ⌜ now (answer .exit) ≡ plain-call (now (document .entry)) (now (output .entry)) (now (answer .entry)) .answer ⌝ }
     ensures written { λ _. ⌜ now (output .exit) ≡ plain-call (now (document .entry)) (now (output .entry)) (now (answer .entry)) .output ⌝ }
 {
+    if answer.len() < 40 { // five words
+        return 1;
+    }
+    let done = held::plain(document, output);
+    answers::put_answer(answer, done);
+    done.number // the other values are in the buffer
+}
+
+// Joins the shape of a document into a shape, and writes it. Returns the answer's number.
+#[no_mangle]
+pub extern "C" fn runvestol_infer(
+    shape: &[u8],
+    document: &[u8],
+    output: &mut [u8],
+    answer: &mut [u8],
+) -> u64
+    ensures number { λ r. ⌜ r ≡ infer-call (now (shape .entry)) (now (document .entry)) (now (output .entry)) (now (answer .entry)) .number ⌝ }
+    ensures answered { λ _. ⌜ now (answer .exit) ≡ infer-call (now (shape .entry)) (now (document .entry)) (now (output .entry)) (now (answer .entry)) .answer ⌝ }
+    ensures written { λ _. ⌜ now (output .exit) ≡ infer-call (now (shape .entry)) (now (document .entry)) (now (output .entry)) (now (answer .entry)) .output ⌝ }
+{
     if answer.len() < 40 {
         return 1;
     }
-    let done = plain(document, output);
-    put_answer(answer, done);
+    let done = held::infer(shape, document, output);
+    answers::put_answer(answer, done);
+    done.number
+}
+
+// Joins two shapes, and writes the result. Returns the answer's number.
+#[no_mangle]
+pub extern "C" fn runvestol_join(
+    first: &[u8],
+    second: &[u8],
+    output: &mut [u8],
+    answer: &mut [u8],
+) -> u64
+    ensures number { λ r. ⌜ r ≡ join-call (now (first .entry)) (now (second .entry)) (now (output .entry)) (now (answer .entry)) .number ⌝ }
+    ensures answered { λ _. ⌜ now (answer .exit) ≡ join-call (now (first .entry)) (now (second .entry)) (now (output .entry)) (now (answer .entry)) .answer ⌝ }
+    ensures written { λ _. ⌜ now (output .exit) ≡ join-call (now (first .entry)) (now (second .entry)) (now (output .entry)) (now (answer .entry)) .output ⌝ }
+{
+    if answer.len() < 40 {
+        return 1;
+    }
+    let done = held::join(first, second, output);
+    answers::put_answer(answer, done);
+    done.number
+}
+
+// Tells whether a shape is below another. Returns the answer's number.
+#[no_mangle]
+pub extern "C" fn runvestol_below(first: &[u8], second: &[u8], answer: &mut [u8]) -> u64
+    ensures number { λ r. ⌜ r ≡ below-call (now (first .entry)) (now (second .entry)) (now (answer .entry)) .number ⌝ }
+    ensures answered { λ _. ⌜ now (answer .exit) ≡ below-call (now (first .entry)) (now (second .entry)) (now (answer .entry)) .answer ⌝ }
+{
+    if answer.len() < 40 {
+        return 1;
+    }
+    let done = held::below(first, second);
+    answers::put_answer(answer, done);
+    done.number
+}
+
+// Tells whether a shape admits a document. Returns the answer's number.
+#[no_mangle]
+pub extern "C" fn runvestol_admits(shape: &[u8], document: &[u8], answer: &mut [u8]) -> u64
+    ensures number { λ r. ⌜ r ≡ admits-call (now (shape .entry)) (now (document .entry)) (now (answer .entry)) .number ⌝ }
+    ensures answered { λ _. ⌜ now (answer .exit) ≡ admits-call (now (shape .entry)) (now (document .entry)) (now (answer .entry)) .answer ⌝ }
+{
+    if answer.len() < 40 {
+        return 1;
+    }
+    let done = held::admits(shape, document);
+    answers::put_answer(answer, done);
     done.number
 }
