@@ -38,6 +38,8 @@ static struct meaning meaning_of(const struct text *text, uint64_t number, size_
         return (struct meaning){false, "a number that this program does not know"};
     if (number == RUNVESTOL_JSON_SYNTAX && place == text->length)
         return (struct meaning){true, "the text ends where JSON has to go on"};
+    if (number == RUNVESTOL_FORM_SYNTAX && place == text->length)
+        return (struct meaning){true, "the text ends where a shape or reader has to go on"};
     return meanings[number];
 }
 

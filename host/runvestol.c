@@ -1,47 +1,48 @@
 /* The program `runvestol` over the library: reads files, calls an operation, shows what came out. */
-#define _POSIX_C_SOURCE 200809L
-
-#include <errno.h>
 #include <stdio.h>
 #include <stdlib.h>
 #include <string.h>
-#include <unistd.h>
 
+#include "call.h"
 #include "refusal.h"
 #include "runvestol.h"
+#include "samples.h"
+#include "status.h"
 #include "text.h"
 
-enum status { DONE = 0, REFUSED = 1, FAILED = 2 };
-
-enum { MOST_TEXTS = 2 };
-
-/* Where a call writes, as long as it asks for. */
-struct output {
-    uint8_t *bytes;
-    size_t length;
-};
-
-/* What came of a call. */
-struct outcome {
-    uint64_t number, text, place, length;
+/* The files of a command line. */
+struct files {
+    const char *from; /* of --from, or NULL */
+    char **names;
+    int count;
 };
 
 struct command {
     const char *name;
     const char *operands;
     const char *effect;
-    int texts;
-    uint64_t (*call)(const struct text *texts, struct output output, uint8_t *answer);
+    int least, most; /* files, --from apart; most is 0 for any number */
+    bool has_from;
+    enum status (*run)(const struct command *command, const struct files *files);
+    /* of a command that is one call: that call, and how its success is shown */
+    library_call *call;
+    enum status (*show)(const struct output *output, const struct outcome *o);
 };
 
-static uint64_t call_plain(const struct text *texts, struct output output, uint8_t *answer)
-{
-    return runvestol_plain(texts[0].bytes, texts[0].length, output.bytes, output.length, answer,
-                           RUNVESTOL_ANSWER_BYTES);
-}
+static enum status run_once(const struct command *command, const struct files *files);
+static enum status run_infer(const struct command *command, const struct files *files);
+static enum status show_written(const struct output *output, const struct outcome *o);
+static enum status show_verdict(const struct output *output, const struct outcome *o);
+
+#define ONE_CALL(texts, call, show) texts, texts, false, run_once, call, show
 
 static const struct command commands[] = {
-    {"plain", "FILE", "write the JSON document of FILE as plain JSON", 1, call_plain},
+    {"plain", "FILE", "write the JSON document of FILE as plain JSON", ONE_CALL(1, call_plain, show_written)},
+    {"infer", "[--from SHAPE] DOCUMENT...", "write the shape that the documents reach, from (shape) or from SHAPE on",
+     1, 0, true, run_infer, NULL, NULL},
+    {"join", "A B", "write the join of the shapes of A and B", ONE_CALL(2, call_join, show_written)},
+    {"below", "A B", "say whether the shape of A is below that of B", ONE_CALL(2, call_below, show_verdict)},
+    {"admits", "SHAPE DOCUMENT", "say whether the shape admits the document", ONE_CALL(2, call_admits, show_verdict)},
 };
 
 enum { COMMANDS = sizeof commands / sizeof *commands };
@@ -62,8 +63,9 @@ static void help(FILE *to)
     for (int i = 0; i < COMMANDS; i++)
         fprintf(to, "  %-8s %s\n", commands[i].name, commands[i].effect);
     fputs("\n"
-          "FILE - is standard input; a file whose name begins with - is ./-name. What an operation writes goes to\n"
-          "standard output byte for byte, with a line feed behind it only where that is a terminal.\n"
+          "Each operand is a file; - is standard input, once, and a file whose name begins with - is ./-name. What an\n"
+          "operation writes goes to standard output byte for byte, with a line feed behind it only where that is a\n"
+          "terminal and it ends without one. below and admits write yes or no and a line feed.\n"
           "\n"
           "A refusal goes to standard error as\n"
           "\n"
@@ -71,17 +73,13 @@ static void help(FILE *to)
           "\n"
           "with the line and a caret under the place. P counts bytes from 0. LINE and COLUMN count from 1: lines end at\n"
           "line feeds, and a column is a character, as a tab is one; a byte that is not UTF-8 is one too. In the line\n"
-          "shown, such bytes and control characters are ?, and a long line is cut. Where a refusal has no place (a text\n"
-          "that is too long) it is 1:1 at 0, without a line.\n"
+          "shown, such bytes and control characters are ?, and a long line is cut. Where a refusal has no place it is\n"
+          "1:1 at 0, without a line: of a text that is too long, and of the last file where the join is too large.\n"
           "\n"
-          "Status: 0 done; 1 refused; 2 wrong usage, or a file that cannot be read or written.\n",
+          "infer leaves out the documents that are refused, and writes the shape that the others reach.\n"
+          "\n"
+          "Status: 0 done, or yes; 1 refused, or no; 2 wrong usage, or a file that cannot be read or written.\n",
           to);
-}
-
-static enum status fail(const char *what)
-{
-    fprintf(stderr, "runvestol: %s: %s\n", what, strerror(errno));
-    return FAILED;
 }
 
 static enum status misused(const char *what, const char *word)
@@ -91,36 +89,17 @@ static enum status misused(const char *what, const char *word)
     return FAILED;
 }
 
-/* Standard output is complete only once it is closed: a full disk may show no earlier. */
-static enum status close_output(enum status status)
+/* ---- a command that is one call */
+
+static enum status show_written(const struct output *output, const struct outcome *o)
 {
-    bool written = !ferror(stdout);
-    return fclose(stdout) == 0 && written ? status : fail("standard output");
+    return write_output(output->bytes, o->length);
 }
 
-static enum status write_output(const uint8_t *bytes, size_t length)
+static enum status show_verdict(const struct output *output, const struct outcome *o)
 {
-    if (fwrite(bytes, 1, length, stdout) == length && isatty(STDOUT_FILENO))
-        putchar('\n');
-    return close_output(DONE);
-}
-
-/* ---- a command */
-
-static uint64_t word(const uint8_t *bytes)
-{
-    uint64_t value = 0;
-    for (int i = 7; i >= 0; i--)
-        value = value << 8 | bytes[i];
-    return value;
-}
-
-static struct outcome call_once(const struct command *command, const struct text *texts, struct output output)
-{
-    uint8_t answer[RUNVESTOL_ANSWER_BYTES] = {0};
-    uint64_t number = command->call(texts, output, answer);
-    return (struct outcome){number, word(answer + RUNVESTOL_TEXT_AT), word(answer + RUNVESTOL_PLACE_AT),
-                            word(answer + RUNVESTOL_LENGTH_AT)};
+    (void)output;
+    return write_verdict(o->yes);
 }
 
 static bool make_room(struct output *output, size_t length)
@@ -137,16 +116,17 @@ static bool call(const struct command *command, const struct text *texts, struct
 {
     if (!make_room(output, RUNVESTOL_TEXT_BYTES))
         return false;
-    *o = call_once(command, texts, *output);
+    *o = make_call(command->call, texts, *output);
     if (o->number != RUNVESTOL_OUTPUT_TOO_SHORT)
         return true;
     if (!make_room(output, o->length))
         return false;
-    *o = call_once(command, texts, *output);
+    *o = make_call(command->call, texts, *output);
     return true;
 }
 
-static enum status operate(const struct command *command, const struct text *texts)
+/* A refusal that is of no text, as that of too large a join, is shown of the last one. */
+static enum status operate(const struct command *command, const struct text *texts, int count)
 {
     struct output output = {NULL, 0};
     struct outcome o;
@@ -154,26 +134,36 @@ static enum status operate(const struct command *command, const struct text *tex
     if (!call(command, texts, &output, &o))
         status = fail("the output");
     else if (o.number == RUNVESTOL_OK)
-        status = write_output(output.bytes, o.length);
+        status = command->show(&output, &o);
     else
-        refusal_show(stderr, &texts[o.text == 2 ? 1 : 0], o.number, o.place);
+        refusal_show(stderr, &texts[o.text == 1 ? 0 : count - 1], o.number, o.place);
     free(output.bytes);
     return status;
 }
 
-static enum status run_command(const struct command *command, char **names)
+static enum status run_once(const struct command *command, const struct files *files)
 {
     struct text texts[MOST_TEXTS];
     int loaded = 0;
-    while (loaded < command->texts && text_load(&texts[loaded], names[loaded]))
+    while (loaded < files->count && text_load(&texts[loaded], files->names[loaded]))
         loaded++;
-    enum status status = loaded < command->texts ? fail(names[loaded]) : operate(command, texts);
+    enum status status = loaded < files->count ? fail(files->names[loaded]) : operate(command, texts, loaded);
     while (loaded > 0)
         text_free(&texts[--loaded]);
     return status;
 }
 
+/* ---- a command of many calls */
+
+static enum status run_infer(const struct command *command, const struct files *files)
+{
+    (void)command;
+    return infer_samples(files->from, files->names, files->count);
+}
+
 /* ---- the words of the command line */
+
+static const char from_option[] = "--from";
 
 static const struct command *command_named(const char *name)
 {
@@ -194,6 +184,8 @@ static const char *option_of(int count, char **words)
 
 static enum status run_option(const char *option)
 {
+    if (strcmp(option, from_option) == 0)
+        return misused("--from SHAPE stands right behind infer", NULL);
     if (strcmp(option, "--help") == 0)
         help(stdout);
     else if (strcmp(option, "--version") == 0)
@@ -203,17 +195,38 @@ static enum status run_option(const char *option)
     return close_output(DONE);
 }
 
+static int standard_inputs(const struct files *files)
+{
+    int count = files->from != NULL && strcmp(files->from, "-") == 0;
+    for (int i = 0; i < files->count; i++)
+        count += strcmp(files->names[i], "-") == 0;
+    return count;
+}
+
+static enum status run_command(const struct command *command, const struct files *files)
+{
+    if (files->count < command->least)
+        return misused("a FILE is missing", command->name);
+    if (command->most > 0 && files->count > command->most)
+        return misused("too many words", command->name);
+    if (standard_inputs(files) > 1)
+        return misused("standard input is named twice", command->name);
+    return command->run(command, files);
+}
+
 int main(int count, char **words)
 {
-    const char *option = option_of(count - 1, words + 1);
+    const struct command *command = count < 2 ? NULL : command_named(words[1]);
+    bool has_from = command != NULL && command->has_from && count > 3 && strcmp(words[2], from_option) == 0;
+    int behind = has_from ? 3 : 1;
+    const char *option = option_of(count - behind, words + behind);
     if (option != NULL)
         return run_option(option);
     if (count < 2)
         return misused("a command is missing", NULL);
-    const struct command *command = command_named(words[1]);
     if (command == NULL)
         return misused("unknown command", words[1]);
-    if (count - 2 != command->texts)
-        return misused(count - 2 < command->texts ? "a FILE is missing" : "too many words", words[1]);
-    return run_command(command, words + 2);
+    int first = has_from ? 4 : 2;
+    const struct files files = {has_from ? words[3] : NULL, words + first, count - first};
+    return run_command(command, &files);
 }

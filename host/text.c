@@ -41,6 +41,15 @@ bool text_load(struct text *text, const char *name)
     return read;
 }
 
+bool text_put(struct text *text, const uint8_t *bytes, size_t length)
+{
+    if (!grow(text, length))
+        return false;
+    memcpy(text->bytes, bytes, length);
+    text->length = length;
+    return true;
+}
+
 void text_free(struct text *text)
 {
     free(text->bytes);

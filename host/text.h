@@ -15,6 +15,9 @@ struct text {
 /* Reads the file of that name, or standard input for "-". Where it cannot be read: false, and errno says why. */
 bool text_load(struct text *text, const char *name);
 
+/* Has the text hold a copy of these bytes in place of its own. Where there is no memory: false, and errno says why. */
+bool text_put(struct text *text, const uint8_t *bytes, size_t length);
+
 void text_free(struct text *text);
 
 #endif

@@ -1,16 +1,31 @@
 /*
  * runvestol.h: console records in JSON, their shapes, and readers over them.
  *
- * What the library does so far: it checks a JSON document and rewrites it as plain JSON (runvestol_plain). JSON is that
- * of RFC 8259 in the UTF-8 of RFC 3629; docs/CONFORMANCE.md goes through both, section by section, and docs/LIMITS.md
- * has every limit. Stricter than the RFCs:
+ * What the library does so far: it checks a JSON document and rewrites it as plain JSON (runvestol_plain); it infers
+ * the shape of documents, sample by sample (runvestol_infer), joins two shapes (runvestol_join), and tells whether one
+ * shape is below another (runvestol_below) and whether a shape admits a document (runvestol_admits).
+ *
+ * JSON is that of RFC 8259 in the UTF-8 of RFC 3629; docs/CONFORMANCE.md goes through both, section by section, and
+ * docs/LIMITS.md has every limit. Stricter than the RFCs:
  *   - a document has at most 16,384 bytes and 512 values, nested at most 32 deep, the root being 1;
  *   - a number has a coefficient of at most 18 digits, at most 9 of them behind the point, and no exponent;
  *   - a name stands once in a record, compared after escapes are decoded;
  *   - there is no leading byte order mark and no lone surrogate escape.
  *
+ * A shape says which kinds of value may stand at each place of a document, and is handed over as a text:
+ *   (shape rec
+ *    (member "bay"
+ *     (shape null int dec))
+ *    (member "due"
+ *     (shape null text)))
+ * A form is (shape KINDS ELEMENT MEMBERS). KINDS are words of null bool int dec text list rec, in this order; dec
+ * stands only behind int. With list there is one ELEMENT, a shape; with rec there are MEMBERS, each
+ * (member "name" SHAPE), the decoded names strictly ascending by bytes. JSON's white space may stand between tokens. A
+ * shape has at most 16,384 bytes and 512 shape forms, nested at most 32 deep; members count for neither. `(shape)` has
+ * no kind and is the shape to begin with. Written, a shape has one form a line, as above, and a line feed at its end.
+ *
  * What it does not do: it allocates nothing, opens nothing, keeps nothing from one call to the next, and touches no
- * memory of the host but what is lent to the call. It has no floating point numbers and no streams: a document is
+ * memory of the host but what is lent to the call. It has no floating point numbers and no streams: a text is
  * handed over whole.
  *
  * What the host must keep to:
@@ -18,8 +33,8 @@
  *     call runs; where the length is 0 nothing is read or written through the pointer, and it may be null;
  *   - what a call writes to (output, answer) overlaps nothing else lent to that call;
  *   - one call at a time;
- *   - RUNVESTOL_STACK_BYTES of stack are free where a call is made.
- * Nothing else is asked: every document, of any bytes and any length, and every length of a buffer has its answer.
+ *   - the call's bytes of stack, RUNVESTOL_STACK_BYTES for any call, are free where it is made.
+ * Nothing else is asked: every text, of any bytes and any length, and every length of a buffer has its answer.
  *
  * Link with librunvestol.a, which `rt staticlib runvestol` writes to target/staticlib/. It is x86-64 code for Linux.
  */
@@ -35,17 +50,27 @@ extern "C" {
 
 #define RUNVESTOL_VERSION "0.1.0"
 
-/* The most bytes of a text that is read: a document, and later a shape or a reader. */
+/* The most bytes of a text that is read, a document or a shape, and of a shape that is written. */
 #define RUNVESTOL_TEXT_BYTES 16384
 
 /* The bytes of an answer. */
 #define RUNVESTOL_ANSWER_BYTES 40
 
 /*
- * The bytes of stack that a call needs below its caller's frame. Measured: 46,440 at the deepest, a document of 32
- * levels, of which 32,760 are the work slices; published with some 2,700 to spare. tests/c measures it anew.
+ * The bytes of stack that each call needs below its caller's frame, most of them its work slices
+ * (docs/WORK-SLICES.md), and the most of these. tests/c measures each anew, on texts of 32 levels:
+ *   plain     46,456 at the deepest
+ *   infer     71,280
+ *   join      63,152
+ *   below     62,976
+ *   admits    71,184
  */
-#define RUNVESTOL_STACK_BYTES 49152
+#define RUNVESTOL_PLAIN_STACK_BYTES 49152
+#define RUNVESTOL_INFER_STACK_BYTES 73728
+#define RUNVESTOL_JOIN_STACK_BYTES 65536
+#define RUNVESTOL_BELOW_STACK_BYTES 65536
+#define RUNVESTOL_ADMITS_STACK_BYTES 73728
+#define RUNVESTOL_STACK_BYTES 73728
 
 /*
  * What a call returns: 0, or why it refused. These numbers never change; new ones are added behind the last. Each call's
@@ -106,6 +131,113 @@ enum runvestol_answer {
 uint64_t runvestol_plain(const uint8_t *document, size_t document_length,
                          uint8_t *output, size_t output_length,
                          uint8_t *answer, size_t answer_length);
+
+/*
+ * The rules that the calls on shapes have in common.
+ *
+ * Two texts are judged one behind the other: whatever there is to refuse in text 1 goes before anything in text 2.
+ * Within one text RUNVESTOL_TEXT_TOO_LONG goes first, then the smallest place, and at one place the smallest number.
+ * `text` is the one refused, 1 or 2 in the order of the parameters, and `place` stands in that text; with
+ * RUNVESTOL_TEXT_TOO_LONG it is 0.
+ *
+ * Only read, and right at any length: the two texts. A text over RUNVESTOL_TEXT_BYTES is refused unread.
+ * Whatever is refused, every byte of the output is as before the call.
+ */
+
+/*
+ * Joins a shape with the shape of a document, a sample: the least shape that the first is below and that admits the
+ * document. To infer the shape of many samples, begin with the text "(shape)" and hand on what the call before wrote; a
+ * sample that is refused leaves it. In whatever order the samples come, the same bytes are reached, unless one is
+ * refused.
+ *
+ * The shape of a value: a scalar has its kind, a number with a fraction int and dec; a list has the join of its
+ * elements' shapes, (shape) where it is empty; a record has its members. Where two records meet, a member of only one
+ * of them gets null.
+ *
+ *   shape, shape_length         text 1, the shape reached so far.
+ *   document, document_length   text 2, the sample.
+ *   output, output_length       where the shape text goes. RUNVESTOL_TEXT_BYTES are always enough.
+ *   answer, answer_length       where the answer goes, RUNVESTOL_ANSWER_BYTES or more. Bytes behind those are kept.
+ *
+ * Returns
+ *   RUNVESTOL_OK                 The first `length` bytes of the output are the shape's text; the others are as before.
+ *   RUNVESTOL_ANSWER_TOO_SHORT   The answer is not written either: this is judged before all else.
+ *   RUNVESTOL_TEXT_TOO_LONG      text is 1 or 2.
+ *   RUNVESTOL_FORM_SYNTAX, RUNVESTOL_FORM_LIMIT
+ *                                text is 1, place is where.
+ *   RUNVESTOL_JSON_SYNTAX, RUNVESTOL_NUMBER_LIMIT, RUNVESTOL_DUPLICATE_NAME, RUNVESTOL_VALUE_LIMIT
+ *                                text is 2, place is where.
+ *   RUNVESTOL_SHAPE_LIMIT        Both texts are right, and their join is too large to be written; all words are 0.
+ *   RUNVESTOL_OUTPUT_TOO_SHORT   length is what the output needs.
+ */
+uint64_t runvestol_infer(const uint8_t *shape, size_t shape_length,
+                         const uint8_t *document, size_t document_length,
+                         uint8_t *output, size_t output_length,
+                         uint8_t *answer, size_t answer_length);
+
+/*
+ * Joins two shapes: the least shape that both are below. Kinds are united, elements and members of one name joined;
+ * where both have rec, a member of only one of them gets null, and where one has, its members are kept as they are.
+ *
+ *   first, first_length     text 1, a shape.
+ *   second, second_length   text 2, a shape.
+ *   output, output_length   where the shape text goes. RUNVESTOL_TEXT_BYTES are always enough.
+ *   answer, answer_length   where the answer goes, RUNVESTOL_ANSWER_BYTES or more. Bytes behind those are kept.
+ *
+ * Returns
+ *   RUNVESTOL_OK                 The first `length` bytes of the output are the shape's text; the others are as before.
+ *   RUNVESTOL_ANSWER_TOO_SHORT   The answer is not written either: this is judged before all else.
+ *   RUNVESTOL_TEXT_TOO_LONG      text is 1 or 2.
+ *   RUNVESTOL_FORM_SYNTAX, RUNVESTOL_FORM_LIMIT
+ *                                text is 1 or 2, place is where.
+ *   RUNVESTOL_SHAPE_LIMIT        Both texts are right, and their join is too large to be written; all words are 0.
+ *   RUNVESTOL_OUTPUT_TOO_SHORT   length is what the output needs.
+ */
+uint64_t runvestol_join(const uint8_t *first, size_t first_length,
+                        const uint8_t *second, size_t second_length,
+                        uint8_t *output, size_t output_length,
+                        uint8_t *answer, size_t answer_length);
+
+/*
+ * Tells whether the first shape is below the second, so that whatever the first admits, the second does: the second
+ * has the first's kinds; the element is below the other's; and where the first has rec, each of its members is one of
+ * the second's with a shape below that one's, and those of the second that the first lacks have null.
+ *
+ *   first, first_length     text 1, a shape.
+ *   second, second_length   text 2, a shape.
+ *   answer, answer_length   where the answer goes, RUNVESTOL_ANSWER_BYTES or more. Bytes behind those are kept.
+ *
+ * Returns
+ *   RUNVESTOL_OK                 yes is 1 where the first is below the second, else 0. length is 0.
+ *   RUNVESTOL_ANSWER_TOO_SHORT   The answer is not written: this is judged before all else.
+ *   RUNVESTOL_TEXT_TOO_LONG      text is 1 or 2.
+ *   RUNVESTOL_FORM_SYNTAX, RUNVESTOL_FORM_LIMIT
+ *                                text is 1 or 2, place is where.
+ */
+uint64_t runvestol_below(const uint8_t *first, size_t first_length,
+                         const uint8_t *second, size_t second_length,
+                         uint8_t *answer, size_t answer_length);
+
+/*
+ * Tells whether a shape admits a document: each value's kind is listed where it stands, a number with a fraction
+ * needing dec; every member is listed; and every member listed that a record lacks has null.
+ *
+ *   shape, shape_length         text 1, the shape.
+ *   document, document_length   text 2, the document.
+ *   answer, answer_length       where the answer goes, RUNVESTOL_ANSWER_BYTES or more. Bytes behind those are kept.
+ *
+ * Returns
+ *   RUNVESTOL_OK                 yes is 1 where the shape admits the document, else 0. length is 0.
+ *   RUNVESTOL_ANSWER_TOO_SHORT   The answer is not written: this is judged before all else.
+ *   RUNVESTOL_TEXT_TOO_LONG      text is 1 or 2.
+ *   RUNVESTOL_FORM_SYNTAX, RUNVESTOL_FORM_LIMIT
+ *                                text is 1, place is where.
+ *   RUNVESTOL_JSON_SYNTAX, RUNVESTOL_NUMBER_LIMIT, RUNVESTOL_DUPLICATE_NAME, RUNVESTOL_VALUE_LIMIT
+ *                                text is 2, place is where.
+ */
+uint64_t runvestol_admits(const uint8_t *shape, size_t shape_length,
+                          const uint8_t *document, size_t document_length,
+                          uint8_t *answer, size_t answer_length);
 
 #ifdef __cplusplus
 }

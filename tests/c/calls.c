@@ -7,22 +7,60 @@
 #include "check.h"
 #include "runvestol.h"
 
+/* a lent buffer as the two parameters that it is */
+#define LEND(lent) (lent).bytes, (lent).length
+
 static uint64_t call_plain(const struct loan *loan)
 {
-    return runvestol_plain(loan->texts[0].bytes, loan->texts[0].length, loan->output.bytes, loan->output.length,
-                           loan->answer.bytes, loan->answer.length);
+    return runvestol_plain(LEND(loan->texts[0]), LEND(loan->output), LEND(loan->answer));
 }
 
-static const struct operation operations[] = {
-    {"plain", 1, call_plain},
+static uint64_t call_infer(const struct loan *loan)
+{
+    return runvestol_infer(LEND(loan->texts[0]), LEND(loan->texts[1]), LEND(loan->output), LEND(loan->answer));
+}
+
+static uint64_t call_join(const struct loan *loan)
+{
+    return runvestol_join(LEND(loan->texts[0]), LEND(loan->texts[1]), LEND(loan->output), LEND(loan->answer));
+}
+
+static uint64_t call_below(const struct loan *loan)
+{
+    return runvestol_below(LEND(loan->texts[0]), LEND(loan->texts[1]), LEND(loan->answer));
+}
+
+static uint64_t call_admits(const struct loan *loan)
+{
+    return runvestol_admits(LEND(loan->texts[0]), LEND(loan->texts[1]), LEND(loan->answer));
+}
+
+const struct operation operations[] = {
+    {"plain", {DOCUMENT, NO_TEXT}, true, RUNVESTOL_PLAIN_STACK_BYTES, call_plain},
+    {"infer", {SHAPE, DOCUMENT}, true, RUNVESTOL_INFER_STACK_BYTES, call_infer},
+    {"join", {SHAPE, SHAPE}, true, RUNVESTOL_JOIN_STACK_BYTES, call_join},
+    {"below", {SHAPE, SHAPE}, false, RUNVESTOL_BELOW_STACK_BYTES, call_below},
+    {"admits", {SHAPE, DOCUMENT}, false, RUNVESTOL_ADMITS_STACK_BYTES, call_admits},
 };
+
+const size_t operation_count = sizeof operations / sizeof *operations;
 
 const struct operation *operation_named(const char *name)
 {
-    for (size_t i = 0; i < sizeof operations / sizeof *operations; i++)
+    for (size_t i = 0; i < operation_count; i++)
         if (strcmp(name, operations[i].name) == 0)
             return &operations[i];
     return NULL;
+}
+
+int text_count(const struct operation *operation)
+{
+    return operation->texts[1] == NO_TEXT ? 1 : 2;
+}
+
+struct bytes bytes_of(const char *text)
+{
+    return (struct bytes){(const uint8_t *)text, strlen(text)};
 }
 
 /* Writes the words by the header's places, the low byte first. */
@@ -57,6 +95,7 @@ void expect_outcome(const struct operation *operation, struct loan *loan, const 
     bool is_answered = number == expected->number && changed_only(&loan->answer, answer, answered);
     EXPECT(is_answered);
     if (!is_answered) {
+        printf("  of %s\n", operation->name);
         print_answer("expected", expected->number, answer, answered);
         print_answer("here    ", number, loan->answer.bytes, loan->answer.length);
     }
@@ -65,7 +104,7 @@ void expect_outcome(const struct operation *operation, struct loan *loan, const 
     EXPECT(changed_only(&loan->texts[1], NULL, 0));
 }
 
-static void take_all_back(struct loan *loan)
+void take_all_back(struct loan *loan)
 {
     take_back(&loan->texts[0]);
     take_back(&loan->texts[1]);
@@ -81,7 +120,7 @@ void expect_of_texts(const struct operation *operation, const struct bytes *text
             .output = lend(NULL, output, side),
             .answer = lend(NULL, RUNVESTOL_ANSWER_BYTES, side),
         };
-        for (int i = 0; i < operation->texts; i++)
+        for (int i = 0; i < text_count(operation); i++)
             loan.texts[i] = lend(texts[i].at, texts[i].length, side);
         expect_outcome(operation, &loan, expected);
         take_all_back(&loan);

@@ -9,19 +9,35 @@ struct loan {
     struct lent texts[2], output, answer;
 };
 
+enum text_kind { NO_TEXT, DOCUMENT, SHAPE };
+
 struct operation {
     const char *name;
-    int texts;
+    enum text_kind texts[2];
+    bool writes;
+    size_t stack; /* what the header asks for */
     uint64_t (*call)(const struct loan *loan);
 };
 
+/* The library's calls. */
+extern const struct operation operations[];
+extern const size_t operation_count;
+
 /* The operation of that name, or NULL where the library has no call for it yet. */
 const struct operation *operation_named(const char *name);
+
+/* How many texts an operation has. */
+int text_count(const struct operation *operation);
 
 struct bytes {
     const uint8_t *at;
     size_t length;
 };
+
+/* A literal's bytes, as an initializer. */
+#define BYTES(literal) {(const uint8_t *)(literal), sizeof(literal) - 1}
+
+struct bytes bytes_of(const char *text);
 
 /* What comes of a call: the number, the answer's words, and what is written. */
 struct outcome {
@@ -32,8 +48,11 @@ struct outcome {
 /* Expects that outcome of the call, with every byte kept that it does not write. */
 void expect_outcome(const struct operation *operation, struct loan *loan, const struct outcome *expected);
 
-/* The same for texts and an output of a length, each buffer once on every side, the answer buffer of 40 bytes. */
+/* Expects it of texts with an output of a length, each buffer once on every side, the answer buffer of 40 bytes. */
 void expect_of_texts(const struct operation *operation, const struct bytes *texts, size_t output,
                      const struct outcome *expected);
+
+/* Takes back all that was lent. */
+void take_all_back(struct loan *loan);
 
 #endif

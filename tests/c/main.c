@@ -15,8 +15,11 @@ int main(int count, char **words)
     catch_walls();
     seed_with(strtoull(words[1], NULL, 10));
     plain_suite();
+    shapes_suite();
+    chain_suite();
     buffers_suite();
     sizes_suite();
+    limits_suite();
     stack_suite();
     for (int i = 2; i < count; i++)
         run_vectors(words[i]);

@@ -61,10 +61,10 @@ static const struct plain_case cases[] = {
 
 static void run_plain_case(const struct plain_case *c)
 {
-    const struct bytes document = {(const uint8_t *)c->document, strlen(c->document)};
+    const struct bytes document = bytes_of(c->document);
     struct outcome expected = {.number = c->number, .text = c->written == NULL ? 1 : 0, .place = c->place};
     if (c->written != NULL) {
-        expected.written = (struct bytes){(const uint8_t *)c->written, strlen(c->written)};
+        expected.written = bytes_of(c->written);
         expected.length = expected.written.length;
     }
     case_begin(c->name);
@@ -74,7 +74,7 @@ static void run_plain_case(const struct plain_case *c)
 
 static void plain_refuses_a_zero_byte(void)
 {
-    const struct bytes document = {(const uint8_t *)"[1\0]", 4};
+    const struct bytes document = BYTES("[1\0]");
     const struct outcome expected = {.number = RUNVESTOL_JSON_SYNTAX, .text = 1, .place = 2};
     expect_of_texts(operation_named("plain"), &document, 4, &expected);
 }

@@ -1,4 +1,4 @@
-/* The stack that a call takes, measured, and a call where no more is left than the header asks for. */
+/* The stack that each call takes, measured, and a call where no more is left than the header asks for. */
 #define _GNU_SOURCE
 #include <alloca.h>
 #include <limits.h>
@@ -9,6 +9,7 @@
 
 #include "calls.h"
 #include "check.h"
+#include "draft.h"
 #include "runvestol.h"
 #include "suites.h"
 
@@ -16,37 +17,84 @@
 enum { THREAD_BYTES = 128 * 1024 };
 enum { PAINT = 0xA5, DEPTH = 32 };
 
-static uint8_t document[RUNVESTOL_TEXT_BYTES];
-static size_t document_length;
+/* The call under way, its texts, and the deepest that was seen of its operation. */
+static const struct operation *operation;
+static struct draft texts[2];
 static size_t deepest;
 
-/* ---- documents that go deep: each nests to the limit, and then has what its last value is */
+/* ---- texts that go deep: each nests to the limit as a pattern says, [ or { a level, taken round and round */
 
-static void put(const char *text)
+static bool is_list(const char *pattern, size_t level)
 {
-    size_t length = strlen(text);
-    memcpy(document + document_length, text, length);
-    document_length += length;
+    return pattern[level % strlen(pattern)] == '[';
 }
 
-/* Nests as a pattern says, [ or { a level, taken round and round. */
-static void put_nested(const char *pattern, const char *innermost)
+static void put_document(struct draft *to, const char *pattern, const char *innermost)
 {
-    size_t kinds = strlen(pattern);
-    document_length = 0;
     for (size_t i = 0; i + 1 < DEPTH; i++)
-        put(pattern[i % kinds] == '[' ? "[1, " : "{\"\\u0061\": 1, \"name\\n\": ");
-    put(innermost);
+        put(to, is_list(pattern, i) ? "[1, " : "{\"\\u0061\": 1, \"name\\n\": ");
+    put(to, innermost);
     for (size_t i = DEPTH - 1; i-- > 0;)
-        put(pattern[i % kinds] == '[' ? " ]" : " }");
+        put(to, is_list(pattern, i) ? " ]" : " }");
+}
+
+/* The shape of such a document, so that a call goes down both together. */
+static void put_shape(struct draft *to, const char *pattern, const char *innermost)
+{
+    for (size_t i = 0; i + 1 < DEPTH; i++) {
+        put(to, i > 0 && is_list(pattern, i - 1) ? "(shape int " : "(shape ");
+        put(to, is_list(pattern, i) ? "list " : "rec (member \"\\u0061\" (shape int)) (member \"name\\n\" ");
+    }
+    put(to, innermost);
+    for (size_t i = DEPTH - 1; i-- > 0;)
+        put(to, is_list(pattern, i) ? " )" : " ) )");
 }
 
 static const char *const patterns[] = {"[", "{", "[{", "{[", "[[{", "{{["};
 
-static const char *const innermost[] = {
-    "null", "-123456789.123456789", "\"\\ud83d\\ude00\\u0000\xE2\x82\xAC\"", "[]", "{}", "1e5", "\"\\ud83d\\u0041\"", "[1]",
-    "{\"\\ud83d\\ude00\": 1}",
+enum { PATTERNS = sizeof patterns / sizeof *patterns };
+
+/* what a document's and a shape's last value is, right and wrong */
+static const char *const innermost[][9] = {
+    [DOCUMENT] = {"null", "-123456789.123456789", "\"\\ud83d\\ude00\\u0000\xE2\x82\xAC\"", "[]", "{}", "1e5",
+                  "\"\\ud83d\\u0041\"", "[1]", "{\"\\ud83d\\ude00\": 1}"},
+    [SHAPE] = {"(shape)", "(shape null bool int dec text rec)", "(shape rec (member \"\\ud83d\\ude00\" (shape)))",
+               "(shape list (shape))", "(shape dec)", "(shape \"", "(", "(shape int)", "(shape int dec)"},
 };
+
+enum { INNERMOST = sizeof *innermost / sizeof **innermost };
+
+static void put_text(int text, const char *pattern, size_t last)
+{
+    enum text_kind kind = operation->texts[text];
+    texts[text].length = 0;
+    if (kind == DOCUMENT)
+        put_document(&texts[text], pattern, innermost[kind][last]);
+    if (kind == SHAPE)
+        put_shape(&texts[text], pattern, innermost[kind][last]);
+}
+
+/* With the texts as they are, and as long as may be: a call may take less stack for short ones. */
+static void run_short_and_long(void (*run)(void))
+{
+    run();
+    for (int i = 0; i < text_count(operation); i++)
+        put_times(&texts[i], " ", RUNVESTOL_TEXT_BYTES - texts[i].length);
+    run();
+}
+
+/* Texts of one pattern, and of two, with every last value of the one beside every one of the other. */
+static void for_each_deep_call(void (*run)(void))
+{
+    size_t seconds = text_count(operation) < 2 ? 1 : INNERMOST;
+    for (size_t i = 0; i < PATTERNS * INNERMOST; i++) {
+        for (size_t j = 0; j < seconds; j++) {
+            put_text(0, patterns[i % PATTERNS], i / PATTERNS);
+            put_text(1, patterns[(i + (j == INNERMOST - 1)) % PATTERNS], j);
+            run_short_and_long(run);
+        }
+    }
+}
 
 /* ---- a call on a thread whose stack ends at a wall */
 
@@ -64,12 +112,27 @@ struct place {
 
 static struct left left_here, left_there;
 
-static void __attribute__((noinline)) call_plain_below(struct place *place)
+/* What is lent, outside the stack that is measured. */
+static struct loan loan;
+
+static struct lent lent_text(struct draft *draft)
 {
-    struct left *left = place->left;
+    return (struct lent){.bytes = draft->bytes, .length = draft->length};
+}
+
+static void lend_all(struct left *left)
+{
+    loan = (struct loan){
+        .texts = {lent_text(&texts[0]), lent_text(&texts[1])},
+        .output = {.bytes = left->output, .length = sizeof left->output},
+        .answer = {.bytes = left->answer, .length = sizeof left->answer},
+    };
+}
+
+static void __attribute__((noinline)) call_from_here(struct place *place)
+{
     place->top = __builtin_frame_address(0);
-    left->number = runvestol_plain(document, document_length, left->output, sizeof left->output, left->answer,
-                                   sizeof left->answer);
+    place->left->number = operation->call(&loan);
 }
 
 /* Uses up the stack until what is left is just what the header asks for. */
@@ -79,21 +142,21 @@ static void *__attribute__((noinline)) call_where_little_is_left(void *argument)
     catch_walls();
     uint8_t *here = __builtin_frame_address(0);
     size_t free_bytes = (size_t)(here - place->stack);
-    volatile uint8_t *used_up = alloca(free_bytes - RUNVESTOL_STACK_BYTES);
+    volatile uint8_t *used_up = alloca(free_bytes - operation->stack);
     used_up[0] = 1;
-    call_plain_below(place);
+    call_from_here(place);
     return NULL;
 }
 
 static void *call_freely(void *argument)
 {
-    call_plain_below(argument);
+    call_from_here(argument);
     return NULL;
 }
 
 static size_t stack_size(void)
 {
-    size_t size = RUNVESTOL_STACK_BYTES + THREAD_BYTES;
+    size_t size = operation->stack + THREAD_BYTES;
     return whole_pages(size < (size_t)PTHREAD_STACK_MIN ? (size_t)PTHREAD_STACK_MIN : size);
 }
 
@@ -116,6 +179,7 @@ static size_t depth_of_call(void)
     size_t size = stack_size();
     struct place place = {map_walled(size), NULL, &left_there};
     memset(place.stack, PAINT, size);
+    lend_all(place.left);
     run_thread(call_freely, &place, size);
     const uint8_t *lowest = place.stack;
     while (lowest < place.top && *lowest == PAINT)
@@ -125,32 +189,20 @@ static size_t depth_of_call(void)
     return depth;
 }
 
-static void for_each_deep_document(void (*run)(void))
-{
-    for (size_t i = 0; i < sizeof patterns / sizeof *patterns; i++) {
-        for (size_t j = 0; j < sizeof innermost / sizeof *innermost; j++) {
-            put_nested(patterns[i], innermost[j]);
-            run();
-        }
-    }
-}
-
 static void measure(void)
 {
     size_t depth = depth_of_call();
     deepest = depth > deepest ? depth : deepest;
 }
 
-static void a_call_takes_no_more_stack_than_the_header_says(void)
+/* The header asks for enough, and for no more than twice what the call takes. */
+static void a_call_takes_about_the_stack_that_the_header_says(void)
 {
-    for_each_deep_document(measure);
-    printf("the deepest stack of a call: %zu bytes; the header asks for %d\n", deepest, RUNVESTOL_STACK_BYTES);
-    EXPECT(deepest <= RUNVESTOL_STACK_BYTES);
-}
-
-static void the_header_asks_for_no_more_than_twice_what_a_call_takes(void)
-{
-    EXPECT(2 * deepest >= RUNVESTOL_STACK_BYTES);
+    deepest = 0;
+    for_each_deep_call(measure);
+    printf("the deepest stack of %s: %zu bytes; the header asks for %zu\n", operation->name, deepest, operation->stack);
+    EXPECT(deepest <= operation->stack);
+    EXPECT(2 * deepest >= operation->stack);
 }
 
 static void call_with_little_stack(void)
@@ -160,21 +212,34 @@ static void call_with_little_stack(void)
     struct place there = {map_walled(size), NULL, &left_there};
     memset(&left_here, PAINT, sizeof left_here);
     memset(&left_there, PAINT, sizeof left_there);
-    call_plain_below(&here);
+    lend_all(here.left);
+    call_from_here(&here);
+    lend_all(there.left);
     run_thread(call_where_little_is_left, &there, size);
     EXPECT(memcmp(&left_here, &left_there, sizeof left_here) == 0);
-    EXPECT(left_there.number != PAINT && left_there.answer[RUNVESTOL_YES_AT] == 0);
+    EXPECT(left_there.number != PAINT && left_there.answer[RUNVESTOL_YES_AT] <= 1);
     unmap_walled(there.stack, size);
 }
 
 static void a_call_runs_on_a_thread_that_has_just_the_stack_that_the_header_asks_for(void)
 {
-    for_each_deep_document(call_with_little_stack);
+    for_each_deep_call(call_with_little_stack);
+}
+
+static void the_header_asks_for_the_most_of_all_calls(void)
+{
+    size_t most = 0;
+    for (size_t i = 0; i < operation_count; i++)
+        most = operations[i].stack > most ? operations[i].stack : most;
+    EXPECT(most == RUNVESTOL_STACK_BYTES);
 }
 
 void stack_suite(void)
 {
-    RUN(a_call_takes_no_more_stack_than_the_header_says);
-    RUN(the_header_asks_for_no_more_than_twice_what_a_call_takes);
-    RUN(a_call_runs_on_a_thread_that_has_just_the_stack_that_the_header_asks_for);
+    RUN(the_header_asks_for_the_most_of_all_calls);
+    for (size_t i = 0; i < operation_count; i++) {
+        operation = &operations[i];
+        RUN(a_call_takes_about_the_stack_that_the_header_says);
+        RUN(a_call_runs_on_a_thread_that_has_just_the_stack_that_the_header_asks_for);
+    }
 }

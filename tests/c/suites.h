@@ -3,8 +3,11 @@
 #define SUITES_H
 
 void plain_suite(void);
+void shapes_suite(void);
+void chain_suite(void);
 void buffers_suite(void);
 void sizes_suite(void);
+void limits_suite(void);
 void stack_suite(void);
 
 #endif

@@ -3,8 +3,14 @@
 
 int main()
 {
-    const uint8_t document[] = {'7'};
+    const uint8_t document[] = {'7'}, shape[] = {'(', 's', 'h', 'a', 'p', 'e', ')'};
     uint8_t output[1], answer[RUNVESTOL_ANSWER_BYTES];
     const uint64_t number = runvestol_plain(document, sizeof document, output, sizeof output, answer, sizeof answer);
-    return number == RUNVESTOL_OK && output[0] == '7' ? 0 : 1;
+    const size_t length = sizeof shape;
+    const uint64_t short_output = RUNVESTOL_OUTPUT_TOO_SHORT;
+    const bool known = runvestol_infer(shape, length, document, 1, 0, 0, answer, sizeof answer) == short_output
+        && runvestol_join(shape, length, shape, length, 0, 0, answer, sizeof answer) == short_output
+        && runvestol_below(shape, length, shape, length, answer, sizeof answer) == RUNVESTOL_OK
+        && runvestol_admits(shape, length, document, 1, answer, sizeof answer) == RUNVESTOL_OK;
+    return known && number == RUNVESTOL_OK && output[0] == '7' ? 0 : 1;
 }

@@ -1,6 +1,5 @@
 //! The library's calls, as `include/runvestol.h` declares them. A further
-//! operation is a declaration, an entry of `OPERATIONS`, and an arm of `numbers`
-//! and of `call`.
+//! operation is a declaration and an entry of `OPERATIONS`.
 
 use oracle::operations::Operation;
 
@@ -13,16 +12,114 @@ extern "C" {
         answer: *mut u8,
         answer_length: usize,
     ) -> u64;
+
+    fn runvestol_infer(
+        shape: *const u8,
+        shape_length: usize,
+        document: *const u8,
+        document_length: usize,
+        output: *mut u8,
+        output_length: usize,
+        answer: *mut u8,
+        answer_length: usize,
+    ) -> u64;
+
+    fn runvestol_join(
+        first: *const u8,
+        first_length: usize,
+        second: *const u8,
+        second_length: usize,
+        output: *mut u8,
+        output_length: usize,
+        answer: *mut u8,
+        answer_length: usize,
+    ) -> u64;
+
+    fn runvestol_below(
+        first: *const u8,
+        first_length: usize,
+        second: *const u8,
+        second_length: usize,
+        answer: *mut u8,
+        answer_length: usize,
+    ) -> u64;
+
+    fn runvestol_admits(
+        shape: *const u8,
+        shape_length: usize,
+        document: *const u8,
+        document_length: usize,
+        answer: *mut u8,
+        answer_length: usize,
+    ) -> u64;
 }
 
-/// The operations that the library has.
-pub const OPERATIONS: [Operation; 1] = [Operation::Plain];
+/// A call by what it is lent: a text and an output, two texts and an output,
+/// or two texts; always an answer buffer.
+enum Call {
+    Rewrites(unsafe extern "C" fn(*const u8, usize, *mut u8, usize, *mut u8, usize) -> u64),
+    Writes(
+        unsafe extern "C" fn(
+            *const u8,
+            usize,
+            *const u8,
+            usize,
+            *mut u8,
+            usize,
+            *mut u8,
+            usize,
+        ) -> u64,
+    ),
+    Says(unsafe extern "C" fn(*const u8, usize, *const u8, usize, *mut u8, usize) -> u64),
+}
 
-/// The numbers that an operation's call gives.
-pub fn numbers(operation: Operation) -> &'static [usize] {
-    match operation {
-        Operation::Plain => &[0, 1, 2, 3, 4, 5, 6, 15],
-        other => unreachable!("the library has no {}", other.name()),
+/// An operation that the library has.
+pub struct Known {
+    pub operation: Operation,
+    /// how many calls are made of it where no count is given
+    pub calls: u64,
+    /// the numbers that its call gives
+    pub numbers: &'static [usize],
+    call: Call,
+}
+
+pub const OPERATIONS: [Known; 5] = [
+    Known {
+        operation: Operation::Plain,
+        calls: 200_000,
+        numbers: &[0, 1, 2, 3, 4, 5, 6, 15],
+        call: Call::Rewrites(runvestol_plain),
+    },
+    Known {
+        operation: Operation::Infer,
+        calls: 60_000,
+        numbers: &[0, 1, 2, 3, 4, 5, 6, 7, 8, 11, 15],
+        call: Call::Writes(runvestol_infer),
+    },
+    Known {
+        operation: Operation::Join,
+        calls: 60_000,
+        numbers: &[0, 1, 2, 7, 8, 11, 15],
+        call: Call::Writes(runvestol_join),
+    },
+    Known {
+        operation: Operation::Below,
+        calls: 60_000,
+        numbers: &[0, 1, 2, 7, 8],
+        call: Call::Says(runvestol_below),
+    },
+    Known {
+        operation: Operation::Admits,
+        calls: 60_000,
+        numbers: &[0, 1, 2, 3, 4, 5, 6, 7, 8],
+        call: Call::Says(runvestol_admits),
+    },
+];
+
+impl Known {
+    /// Whether it answers yes or no, and writes nothing.
+    pub fn says(&self) -> bool {
+        matches!(self.call, Call::Says(_))
     }
 }
 
@@ -40,16 +137,22 @@ pub struct Lent<'a> {
 pub type Callee = fn(Operation, Lent) -> u64;
 
 pub fn call(operation: Operation, lent: Lent) -> u64 {
-    let first = read(lent.first, lent.null);
-    let output = written(lent.output, lent.null);
+    let mut known = OPERATIONS.iter();
+    let Some(known) = known.find(|known| known.operation == operation) else {
+        unreachable!("the library has no {}", operation.name());
+    };
+    let a = read(lent.first, lent.null);
+    let b = read(lent.second, lent.null);
+    let out = written(lent.output, lent.null);
     let answer = written(lent.answer, lent.null);
-    match operation {
-        // SAFETY: each pointer and length is a slice's, or null and 0, the
-        // slices that are written overlap nothing, and there is one thread.
-        Operation::Plain => unsafe {
-            runvestol_plain(first.0, first.1, output.0, output.1, answer.0, answer.1)
-        },
-        other => unreachable!("the library has no {}", other.name()),
+    // SAFETY: each pointer and length is a slice's, or null and 0, the slices
+    // that are written overlap nothing, and there is one thread.
+    unsafe {
+        match known.call {
+            Call::Rewrites(call) => call(a.0, a.1, out.0, out.1, answer.0, answer.1),
+            Call::Writes(call) => call(a.0, a.1, b.0, b.1, out.0, out.1, answer.0, answer.1),
+            Call::Says(call) => call(a.0, a.1, b.0, b.1, answer.0, answer.1),
+        }
     }
 }
 

@@ -3,11 +3,13 @@
 
 mod buffer;
 mod case;
+mod chain;
 mod library;
 mod report;
 mod wrong;
 
 use case::Case;
+use library::{Callee, Known};
 use oracle::generate::{self, Call, Random};
 use oracle::limits::Limits;
 use oracle::operations::Operation;
@@ -20,11 +22,16 @@ const USAGE: &str = "run [SEED [COUNT [FIRST]]]: SEED is a number or `clock`";
 const PRINTED: u64 = 20;
 /// Each number that an operation gives has to come once in so many calls.
 const SELDOM: u64 = 100;
+/// Yes and no each have to come once in so many answers.
+const RARE: u64 = 10;
+/// How many rows of samples are chained.
+const CHAINS: u64 = 4_000;
 
 /// Which calls to make.
 struct Plan {
     seed: u64,
-    count: u64,
+    /// of each operation; its own count where there is none
+    count: Option<u64>,
     /// the index that the first call is generated from
     first: u64,
 }
@@ -46,6 +53,7 @@ impl Verdict {
 #[derive(Default)]
 struct Tally {
     numbers: [u64; 16],
+    yes: u64,
     calls: u64,
     bytes: usize,
     longest: usize,
@@ -60,9 +68,10 @@ fn main() -> ExitCode {
     println!("seed {}", plan.seed);
     let mut verdict = Verdict::default();
     find_wrong(&plan, &mut verdict);
-    for operation in library::OPERATIONS {
-        compare(&plan, operation, &mut verdict);
+    for known in &library::OPERATIONS {
+        compare(&plan, known, &mut verdict);
     }
+    chains(&plan, &mut verdict);
     println!("{} passed, {} failed", verdict.passed, verdict.failed);
     ExitCode::from(u8::from(verdict.failed > 0))
 }
@@ -75,7 +84,7 @@ fn parse(words: &[String]) -> Option<Plan> {
     };
     let plan = Plan {
         seed: number(0, 1)?,
-        count: number(1, 200_000)?,
+        count: Some(number(1, 0)?).filter(|count| *count > 0),
         first: number(2, 0)?,
     };
     Some(plan).filter(|_| words.len() <= 3)
@@ -97,9 +106,9 @@ fn cases(plan: &Plan, index: u64, operation: Operation) -> Vec<Case> {
 
 /// Holds the comparison to finding every callee that is wrong.
 fn find_wrong(plan: &Plan, verdict: &mut Verdict) {
-    for (what, callee) in wrong::WRONG {
+    for (what, operation, callee) in wrong::WRONG {
         let differs = |index| {
-            let cases = cases(plan, index, Operation::Plain);
+            let cases = cases(plan, index, operation);
             let mut differing = cases
                 .iter()
                 .filter(|case| case.left_by(callee) != case.stated());
@@ -113,11 +122,12 @@ fn find_wrong(plan: &Plan, verdict: &mut Verdict) {
     }
 }
 
-fn compare(plan: &Plan, operation: Operation, verdict: &mut Verdict) {
+fn compare(plan: &Plan, known: &Known, verdict: &mut Verdict) {
+    let operation = known.operation;
     let start = Instant::now();
     let mut tally = Tally::default();
     let mut index = plan.first;
-    while tally.calls < plan.count {
+    while tally.calls < plan.count.unwrap_or(known.calls) {
         for case in cases(plan, index, operation) {
             compare_one(&case, &mut tally, verdict, || {
                 format!("tests/compare/run {} 1 {index}", plan.seed)
@@ -133,7 +143,7 @@ fn compare(plan: &Plan, operation: Operation, verdict: &mut Verdict) {
         tally.longest,
         start.elapsed().as_secs_f64()
     );
-    show_numbers(operation, &tally, verdict);
+    show_numbers(known, &tally, verdict);
 }
 
 fn compare_one(case: &Case, tally: &mut Tally, verdict: &mut Verdict, again: impl Fn() -> String) {
@@ -146,6 +156,7 @@ fn compare_one(case: &Case, tally: &mut Tally, verdict: &mut Verdict, again: imp
     }
     let length = case.buffers.first.inside().len() + case.buffers.second.inside().len();
     tally.numbers[stated.number as usize] += 1;
+    tally.yes += u64::from(stated.number == 0 && stated.buffers.answer.inside()[32] == 1);
     tally.calls += 1;
     tally.bytes += length;
     tally.longest = tally.longest.max(length);
@@ -153,12 +164,52 @@ fn compare_one(case: &Case, tally: &mut Tally, verdict: &mut Verdict, again: imp
 
 /// Prints how often each number came, and fails on one that came seldom: then
 /// the calls say little of it. A few calls say nothing of that.
-fn show_numbers(operation: Operation, tally: &Tally, verdict: &mut Verdict) {
-    for number in library::numbers(operation) {
+fn show_numbers(known: &Known, tally: &Tally, verdict: &mut Verdict) {
+    let name = known.operation.name();
+    let often = tally.calls >= 100 * SELDOM;
+    for number in known.numbers {
         let count = tally.numbers[*number];
-        println!("{:8}{number:2}: {count}", operation.name());
-        if tally.calls >= 100 * SELDOM {
+        println!("{name:8}{number:2}: {count}");
+        if often {
             verdict.count(count >= tally.calls / SELDOM);
         }
     }
+    if known.says() {
+        let answers = tally.numbers[0];
+        let (yes, no) = (tally.yes, answers - tally.yes);
+        println!("{name:8}yes: {yes}, no: {no}");
+        if often {
+            verdict.count(yes.min(no) >= answers / RARE);
+        }
+    }
+}
+
+/// Infers the shapes of rows of samples, in several orders. A callee that is
+/// wrong has to be found first.
+fn chains(plan: &Plan, verdict: &mut Verdict) {
+    let start = Instant::now();
+    let count = plan.count.unwrap_or(CHAINS).min(CHAINS);
+    let samples = |index| generate::samples(plan.seed, index, &Limits::PAPER);
+    let is_fine = |callee: Callee, index: u64, tally: &mut chain::Tally| {
+        let random = Random::at(!plan.seed, index);
+        chain::is_fine(callee, &samples(index), random, tally)
+    };
+    let mut ignored = chain::Tally::default();
+    verdict.count((0..100).any(|index| !is_fine(wrong::FORGETFUL, index, &mut ignored)));
+    let mut tally = chain::Tally::default();
+    for index in plan.first..plan.first + count {
+        let fine = is_fine(library::call, index, &mut tally);
+        verdict.count(fine);
+        if !fine && verdict.failed <= PRINTED {
+            let again = format!("tests/compare/run {} 1 {index}", plan.seed);
+            report::print_chain(&samples(index), &again);
+        }
+    }
+    println!(
+        "chains: {count}, {} samples accepted, {} refused, {} orders, {:.1} s",
+        tally.accepted,
+        tally.refused,
+        tally.orders,
+        start.elapsed().as_secs_f64()
+    );
 }

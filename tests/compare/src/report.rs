@@ -23,6 +23,14 @@ pub fn print(case: &Case, stated: &Left, left: &Left, again: &str) {
     }
 }
 
+/// Samples that do not reach what they have to.
+pub fn print_chain(samples: &[Vec<u8>], again: &str) {
+    println!("differs: a chain of samples; again: {again}");
+    for sample in samples {
+        show_text("sample", sample);
+    }
+}
+
 /// Whether what differs lies in a text or in a guard.
 fn outside(stated: &Left, left: &Left) -> [(&'static str, bool); 4] {
     let (stated, left) = (&stated.buffers, &left.buffers);

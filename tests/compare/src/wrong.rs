@@ -2,13 +2,28 @@
 
 use crate::case::{words, ANSWER};
 use crate::library::{Callee, Lent};
+use oracle::json;
 use oracle::limits::Limits;
 use oracle::operations::{outcome, Answer, Operation, Texts};
+use oracle::shape::{admits, below, Kinds, Shape};
+use oracle::text_forms::{read_shape, write_shape};
+use oracle::value::Value;
+use std::rc::Rc;
 
-/// A callee, and what is wrong with it.
-pub const WRONG: [(&str, Callee); 9] = [
+/// An infer that leaves each sample's own shape, so that a chain comes to the
+/// last one's.
+pub const FORGETFUL: Callee = |o, lent| {
+    instead(o, lent, |lent| {
+        lent.first = b"(shape)";
+        right(Operation::Infer, lent)
+    })
+};
+
+/// What is wrong with a callee, of which operation, and the callee.
+pub const WRONG: [(&str, Operation, Callee); 29] = [
     (
         "a byte of the output is changed on a refusal",
+        Operation::Plain,
         |o, mut lent| {
             let number = right(o, &mut lent);
             if number > 1 {
@@ -17,41 +32,61 @@ pub const WRONG: [(&str, Callee); 9] = [
             number
         },
     ),
-    ("the byte behind the length is changed", |o, mut lent| {
-        let number = right(o, &mut lent);
-        let length = length(&lent);
-        if number == 0 {
-            flip(lent.output.get_mut(length));
-        }
-        number
-    }),
-    ("the last byte written is another", |o, mut lent| {
-        let number = right(o, &mut lent);
-        let length = length(&lent);
-        if number == 0 {
-            flip(lent.output[..length].last_mut());
-        }
-        number
-    }),
-    ("an answer buffer of 39 bytes is written", |o, mut lent| {
-        if lent.answer.len() == ANSWER - 1 {
-            lent.answer.fill(0);
-        }
-        right(o, &mut lent)
-    }),
-    ("an answer's 41st byte is changed", |o, mut lent| {
-        let number = right(o, &mut lent);
-        flip(lent.answer.get_mut(ANSWER));
-        number
-    }),
-    ("place and length are exchanged", |o, mut lent| {
-        let number = right(o, &mut lent);
-        if number > 1 {
-            lent.answer[8..24].rotate_left(8);
-        }
-        number
-    }),
-    ("a place is one too far", |o, mut lent| {
+    (
+        "the byte behind the length is changed",
+        Operation::Plain,
+        |o, mut lent| {
+            let number = right(o, &mut lent);
+            let length = length(&lent);
+            if number == 0 {
+                flip(lent.output.get_mut(length));
+            }
+            number
+        },
+    ),
+    (
+        "the last byte written is another",
+        Operation::Plain,
+        |o, mut lent| {
+            let number = right(o, &mut lent);
+            let length = length(&lent);
+            if number == 0 {
+                flip(lent.output[..length].last_mut());
+            }
+            number
+        },
+    ),
+    (
+        "an answer buffer of 39 bytes is written",
+        Operation::Plain,
+        |o, mut lent| {
+            if lent.answer.len() == ANSWER - 1 {
+                lent.answer.fill(0);
+            }
+            right(o, &mut lent)
+        },
+    ),
+    (
+        "an answer's 41st byte is changed",
+        Operation::Plain,
+        |o, mut lent| {
+            let number = right(o, &mut lent);
+            flip(lent.answer.get_mut(ANSWER));
+            number
+        },
+    ),
+    (
+        "place and length are exchanged",
+        Operation::Plain,
+        |o, mut lent| {
+            let number = right(o, &mut lent);
+            if number > 1 {
+                lent.answer[8..24].rotate_left(8);
+            }
+            number
+        },
+    ),
+    ("a place is one too far", Operation::Plain, |o, mut lent| {
         let number = right(o, &mut lent);
         if number == 3 {
             flip(lent.answer.get_mut(8));
@@ -60,6 +95,7 @@ pub const WRONG: [(&str, Callee); 9] = [
     }),
     (
         "an output one short is refused with another length",
+        Operation::Plain,
         |o, mut lent| {
             let number = right(o, &mut lent);
             if number == 15 {
@@ -68,11 +104,326 @@ pub const WRONG: [(&str, Callee); 9] = [
             number
         },
     ),
-    ("6 is 4", |o, mut lent| match right(o, &mut lent) {
-        6 => 4,
-        number => number,
+    ("6 is 4", Operation::Plain, |o, mut lent| {
+        match right(o, &mut lent) {
+            6 => 4,
+            number => number,
+        }
     }),
+    ("infer hands its shape back", Operation::Infer, |o, lent| {
+        instead(o, lent, |lent| {
+            lent.second = b"(shape)";
+            right(Operation::Join, lent)
+        })
+    }),
+    ("infer forgets its shape", Operation::Infer, FORGETFUL),
+    ("infer adds null", Operation::Infer, |o, lent| {
+        instead(o, lent, |lent| {
+            let shape = lent.output[..length(lent)].to_vec();
+            again(lent, Operation::Join, &shape, b"(shape null)")
+        })
+    }),
+    (
+        "infer has a null element for an empty list",
+        Operation::Infer,
+        |o, lent| {
+            instead(o, lent, |lent| {
+                write(lent, |shape| everywhere(shape, with_null_for_no_element))
+            })
+        },
+    ),
+    (
+        "infer adds null where the first record meets nothing",
+        Operation::Infer,
+        |o, lent| {
+            instead(o, lent, |lent| {
+                match shape_in(lent.first).kinds.has(Kinds::REC) {
+                    true => 0,
+                    false => write(lent, with_null_members),
+                }
+            })
+        },
+    ),
+    ("11 comes one form early", Operation::Infer, |o, lent| {
+        instead(o, lent, |lent| {
+            let shape = shape_in(&lent.output[..length(lent)]);
+            match forms(&shape) == Limits::PAPER.values {
+                true => 11,
+                false => 0,
+            }
+        })
+    }),
+    (
+        "the text refused is the other one",
+        Operation::Infer,
+        |o, mut lent| {
+            let number = right(o, &mut lent);
+            if (3..=8).contains(&number) {
+                lent.answer[0] ^= 3;
+            }
+            number
+        },
+    ),
+    (
+        "the second text is judged first",
+        Operation::Infer,
+        |o, mut lent| {
+            let number = right(o, &mut lent);
+            let mut judged = [0; ANSWER];
+            let mut second = Lent {
+                first: lent.second,
+                second: b"",
+                output: &mut [],
+                answer: &mut judged,
+                null: false,
+            };
+            if number == 1 || right(Operation::Plain, &mut second) != 3 {
+                return number;
+            }
+            judged[0] = 2;
+            lent.answer[..ANSWER].copy_from_slice(&judged);
+            3
+        },
+    ),
+    ("join is its first shape", Operation::Join, |o, lent| {
+        instead(o, lent, |lent| {
+            lent.second = b"(shape)";
+            right(Operation::Join, lent)
+        })
+    }),
+    (
+        "join keeps only the first shape's members",
+        Operation::Join,
+        |o, lent| {
+            instead(o, lent, |lent| {
+                let first = shape_in(lent.first);
+                write(lent, |shape| within(shape, &first))
+            })
+        },
+    ),
+    (
+        "a byte of the output is changed on 15",
+        Operation::Join,
+        |o, mut lent| {
+            let number = right(o, &mut lent);
+            if number == 15 {
+                flip(lent.output.first_mut());
+            }
+            number
+        },
+    ),
+    ("11 is 15", Operation::Join, |o, mut lent| {
+        match right(o, &mut lent) {
+            11 => 15,
+            number => number,
+        }
+    }),
+    (
+        "a byte of the output is changed on 11",
+        Operation::Join,
+        |o, mut lent| {
+            let number = right(o, &mut lent);
+            if number == 11 {
+                flip(lent.output.first_mut());
+            }
+            number
+        },
+    ),
+    ("below is reversed", Operation::Below, |o, lent| {
+        instead(o, lent, |lent| {
+            (lent.first, lent.second) = (lent.second, lent.first);
+            right(Operation::Below, lent)
+        })
+    }),
+    ("below says yes always", Operation::Below, |o, lent| {
+        instead(o, lent, |lent| {
+            lent.answer[32] = 1;
+            0
+        })
+    }),
+    (
+        "below lets an unlisted member through",
+        Operation::Below,
+        |o, lent| {
+            instead(o, lent, |lent| {
+                say_of_shapes(lent, |a, b| below(&within(a, &b), &b))
+            })
+        },
+    ),
+    ("admits says no always", Operation::Admits, |o, lent| {
+        instead(o, lent, |lent| {
+            lent.answer[32] = 0;
+            0
+        })
+    }),
+    (
+        "admits lets a missing member through",
+        Operation::Admits,
+        |o, lent| {
+            instead(o, lent, |lent| {
+                say_of_document(lent, |shape, value| {
+                    admits(&everywhere(shape, with_null_members), value)
+                })
+            })
+        },
+    ),
+    (
+        "admits lets an unlisted member through",
+        Operation::Admits,
+        |o, lent| {
+            instead(o, lent, |lent| {
+                say_of_document(lent, |shape, value| {
+                    admits(&shape, &listed_in(value, &shape))
+                })
+            })
+        },
+    ),
+    (
+        "admits takes a decimal for an int",
+        Operation::Admits,
+        |o, lent| {
+            instead(o, lent, |lent| {
+                say_of_document(lent, |shape, value| {
+                    admits(&everywhere(shape, with_dec_beside_int), value)
+                })
+            })
+        },
+    ),
 ];
+
+/// The right call, and where that is done, another in its place.
+fn instead(operation: Operation, mut lent: Lent, wrong: fn(&mut Lent) -> u64) -> u64 {
+    match right(operation, &mut lent) {
+        0 => wrong(&mut lent),
+        number => number,
+    }
+}
+
+/// Writes another shape in the place of the one written.
+fn write(lent: &mut Lent, change: impl FnOnce(Shape) -> Shape) -> u64 {
+    let shape = change(shape_in(&lent.output[..length(lent)]));
+    match write_shape(&shape, &Limits::PAPER) {
+        Some(text) => again(lent, Operation::Join, &text, b"(shape)"),
+        None => 11,
+    }
+}
+
+/// The shape of a text that is right.
+fn shape_in(text: &[u8]) -> Shape {
+    read_shape(text, &Limits::PAPER).unwrap_or_default()
+}
+
+/// Answers whether the shapes of two right texts stand so.
+fn say_of_shapes(lent: &mut Lent, holds: fn(Shape, Shape) -> bool) -> u64 {
+    let yes = holds(shape_in(lent.first), shape_in(lent.second));
+    lent.answer[32] = u8::from(yes);
+    0
+}
+
+/// Answers whether a right shape and document stand so.
+fn say_of_document(lent: &mut Lent, holds: fn(Shape, &Value) -> bool) -> u64 {
+    let document = json::read(lent.second, &Limits::PAPER).unwrap_or(Value::Null);
+    lent.answer[32] = u8::from(holds(shape_in(lent.first), &document));
+    0
+}
+
+/// Changes every shape within a shape, the innermost first.
+fn everywhere(mut shape: Shape, change: fn(Shape) -> Shape) -> Shape {
+    let inner = shape.element.take();
+    shape.element = inner.map(|element| Box::new(everywhere(*element, change)));
+    for member in &mut shape.members {
+        member.shape = everywhere(std::mem::take(&mut member.shape), change);
+    }
+    change(shape)
+}
+
+fn with_null(mut shape: Shape) -> Shape {
+    shape.kinds = shape.kinds.and(Kinds::NULL);
+    shape
+}
+
+fn with_null_members(mut shape: Shape) -> Shape {
+    for member in &mut shape.members {
+        member.shape = with_null(std::mem::take(&mut member.shape));
+    }
+    shape
+}
+
+fn with_null_for_no_element(mut shape: Shape) -> Shape {
+    let element = shape.element.take();
+    shape.element = element.map(|element| match *element == Shape::default() {
+        true => Box::new(with_null(*element)),
+        false => element,
+    });
+    shape
+}
+
+fn with_dec_beside_int(mut shape: Shape) -> Shape {
+    if shape.kinds.has(Kinds::INT) {
+        shape.kinds = shape.kinds.and(Kinds::DEC);
+    }
+    shape
+}
+
+/// Without the members that a record's shape does not list.
+fn within(mut shape: Shape, listed: &Shape) -> Shape {
+    if listed.kinds.has(Kinds::REC) {
+        shape
+            .members
+            .retain(|member| listed.member(&member.name).is_some());
+    }
+    shape
+}
+
+/// Without the members that the shape does not list, at every level.
+fn listed_in(value: &Value, shape: &Shape) -> Value {
+    let kept = |inner: Option<&Shape>, part: &Rc<Value>| match inner {
+        Some(inner) => Rc::new(listed_in(part, inner)),
+        None => part.clone(),
+    };
+    match value {
+        Value::List(parts) => {
+            let parts = parts.iter();
+            Value::List(
+                parts
+                    .map(|part| kept(shape.element.as_deref(), part))
+                    .collect(),
+            )
+        }
+        Value::Record(members) => {
+            let listed = members
+                .iter()
+                .filter(|(name, _)| shape.member(name).is_some());
+            let kept = |(name, part): &(Vec<u8>, Rc<Value>)| {
+                (name.clone(), kept(shape.member(name), part))
+            };
+            Value::Record(listed.map(kept).collect())
+        }
+        scalar => scalar.clone(),
+    }
+}
+
+fn forms(shape: &Shape) -> usize {
+    let element = shape.element.as_deref().map_or(0, forms);
+    let members: usize = shape
+        .members
+        .iter()
+        .map(|member| forms(&member.shape))
+        .sum();
+    1 + element + members
+}
+
+/// A further call that writes to the same buffers.
+fn again(lent: &mut Lent, operation: Operation, first: &[u8], second: &[u8]) -> u64 {
+    let mut lent = Lent {
+        first,
+        second,
+        output: lent.output,
+        answer: lent.answer,
+        null: lent.null,
+    };
+    right(operation, &mut lent)
+}
 
 fn flip(byte: Option<&mut u8>) {
     if let Some(byte) = byte {

@@ -7,6 +7,7 @@ mod damage;
 mod documents;
 mod forms;
 mod large;
+mod merges;
 mod numbers;
 mod pieces;
 mod random;
@@ -53,6 +54,12 @@ pub fn calls(seed: u64, index: u64, operation: Operation, limits: &Limits) -> Ve
     calls
         .map(|(first, second)| source.call(operation, first, second))
         .collect()
+}
+
+/// The samples at an index of a seed: documents to infer a shape from, one
+/// behind the other.
+pub fn samples(seed: u64, index: u64, limits: &Limits) -> Vec<Vec<u8>> {
+    Source::at(seed, index, limits).row_of_samples()
 }
 
 /// Each first text with each second one.
@@ -127,7 +134,20 @@ impl Source {
             40..=44 => (self.right_shape(), self.right_document()),
             45..=51 => self.shape_and_witness(),
             52..=55 => (self.any_shape(), self.any_document()),
+            56..=58 => self.shape_and_merging_document(),
+            59..=64 => self.shape_and_document_at_a_limit(),
             _ => self.related(),
+        }
+    }
+
+    /// Two texts of which one is at a limit of its own.
+    fn shape_and_document_at_a_limit(&mut self) -> (Vec<u8>, Vec<u8>) {
+        match self.random.below(6) {
+            0 | 1 => (self.right_shape(), self.number_document()),
+            2 => (self.right_shape(), self.deep_document()),
+            3 => (self.right_shape(), self.many_values()),
+            4 => (self.deep_shape_text(), self.right_document()),
+            _ => (self.many_forms_shape(), self.right_document()),
         }
     }
 
@@ -166,6 +186,7 @@ impl Source {
             30..=39 => (self.right_shape(), self.right_shape()),
             40..=44 => (self.any_shape(), self.any_shape()),
             45..=69 => self.two_near_shapes(),
+            70..=72 => self.two_merging_shapes(),
             _ => self.two_ordered_shapes(),
         }
     }

@@ -54,7 +54,7 @@ impl Source {
         [before, piece, behind].concat()
     }
 
-    fn number_document(&mut self) -> Vec<u8> {
+    pub fn number_document(&mut self) -> Vec<u8> {
         let number = match self.random.below(5) {
             0 => self.digits().into_bytes(),
             1..=2 => self.any_number(),
@@ -183,7 +183,7 @@ impl Source {
     }
 
     /// About as many values as may be, the last one of any sort.
-    fn many_values(&mut self) -> Vec<u8> {
+    pub fn many_values(&mut self) -> Vec<u8> {
         let count = self.random.near(self.limits.values, 2).saturating_sub(2);
         let record = self.random.once_in(3);
         let mut out = if record { b"{".to_vec() } else { b"[".to_vec() };

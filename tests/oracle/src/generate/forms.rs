@@ -154,7 +154,7 @@ impl Source {
 
     /// Lists and members inside each other, about as deep as may be; broken
     /// or cut past that now and then.
-    fn deep_shape_text(&mut self) -> Vec<u8> {
+    pub fn deep_shape_text(&mut self) -> Vec<u8> {
         let depth = self.random.near(self.limits.nesting, 1);
         let shape = self.deep_shape(depth);
         let mut tokens = self.shape_tokens(&shape);
@@ -165,7 +165,7 @@ impl Source {
         self.spell_tokens(&tokens)
     }
 
-    fn many_forms_shape(&mut self) -> Vec<u8> {
+    pub fn many_forms_shape(&mut self) -> Vec<u8> {
         let count = self.random.near(self.limits.values, 2);
         let shape = self.wide_shape(count, 1);
         let mut tokens = self.shape_tokens(&shape);

@@ -1,0 +1,32 @@
+/* The library's calls, on texts in memory. */
+#ifndef HOST_CALL_H
+#define HOST_CALL_H
+
+#include <stdbool.h>
+#include <stddef.h>
+#include <stdint.h>
+
+#include "text.h"
+
+enum { MOST_TEXTS = 2 };
+
+/* Where a call writes. */
+struct output {
+    uint8_t *bytes;
+    size_t length;
+};
+
+/* What came of a call. */
+struct outcome {
+    uint64_t number, text, place, length;
+    bool yes;
+};
+
+/* A call on its texts, in the order of its parameters; one that has no output leaves that alone. */
+typedef uint64_t library_call(const struct text *texts, struct output output, uint8_t *answer);
+
+library_call call_plain, call_infer, call_join, call_below, call_admits;
+
+struct outcome make_call(library_call *call, const struct text *texts, struct output output);
+
+#endif

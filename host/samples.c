@@ -1,0 +1,66 @@
+#include "samples.h"
+
+#include <stdio.h>
+#include <string.h>
+
+#include "call.h"
+#include "refusal.h"
+#include "runvestol.h"
+#include "text.h"
+
+static const char nothing[] = "(shape)\n";
+
+/* What becomes of a sample; behind the last two no further one is taken. */
+enum fate { JOINED, LEFT_OUT, SHAPE_REFUSED, UNREADABLE };
+
+static bool load_start(struct text *shape, const char *from)
+{
+    if (from != NULL)
+        return text_load(shape, from);
+    *shape = (struct text){"(shape)", NULL, 0};
+    return text_put(shape, (const uint8_t *)nothing, strlen(nothing));
+}
+
+/* Joins a sample into the shape. A shape that is written is never longer than a text may be. */
+static enum fate join_sample(struct text *shape, const struct text *sample)
+{
+    uint8_t written[RUNVESTOL_TEXT_BYTES];
+    const struct text texts[] = {*shape, *sample};
+    struct outcome o = make_call(call_infer, texts, (struct output){written, sizeof written});
+    if (o.number != RUNVESTOL_OK) {
+        refusal_show(stderr, o.text == 1 ? shape : sample, o.number, o.place);
+        return o.text == 1 ? SHAPE_REFUSED : LEFT_OUT;
+    }
+    if (text_put(shape, written, o.length))
+        return JOINED;
+    fail("the shape");
+    return UNREADABLE;
+}
+
+static enum fate join_file(struct text *shape, const char *name)
+{
+    struct text sample;
+    if (!text_load(&sample, name)) {
+        fail(name);
+        return UNREADABLE;
+    }
+    enum fate fate = join_sample(shape, &sample);
+    text_free(&sample);
+    return fate;
+}
+
+enum status infer_samples(const char *from, char **names, int count)
+{
+    static const enum status statuses[] = {DONE, REFUSED, REFUSED, FAILED};
+    struct text shape;
+    if (!load_start(&shape, from))
+        return fail(from == NULL ? "the shape" : from);
+    enum fate worst = JOINED;
+    for (int i = 0; i < count && worst < SHAPE_REFUSED; i++) {
+        enum fate fate = join_file(&shape, names[i]);
+        worst = fate > worst ? fate : worst;
+    }
+    enum status written = worst < SHAPE_REFUSED ? write_output(shape.bytes, shape.length) : DONE;
+    text_free(&shape);
+    return written == FAILED ? FAILED : statuses[worst];
+}
