@@ -1,34 +1,20 @@
-// Measures the peers on the documents named, in rounds: in each, every peer rewrites a document a few times in turn. What
-// counts is a peer's fastest round. Prints a table, and the peers' names to standard error, and leaves what each peer made of
-// each document in a folder.
+// Measures the peers on the documents named, each of them rewriting every document. Prints a table, and the peers' names to
+// standard error, and leaves what each peer made of each document in a folder.
 #include "peer.h"
+#include "rounds.h"
 
-#include <algorithm>
-#include <chrono>
-#include <cmath>
 #include <cstdio>
 #include <cstdlib>
 #include <fstream>
-#include <iterator>
-#include <vector>
 
 namespace {
 
-struct Document {
-    std::string name;
-    std::string bytes;  // with zeros behind them
-    std::size_t length;
+struct Rewriting {
+    const Peer *peer;
+    const Document *document;
+
+    void operator()() const { peer->rewrite(document->bytes.data(), document->length); }
 };
-
-double nanoseconds() {
-    auto now = std::chrono::steady_clock::now().time_since_epoch();
-    return std::chrono::duration<double, std::nano>(now).count();
-}
-
-[[noreturn]] void fail(const std::string &what) {
-    std::fprintf(stderr, "bench: %s\n", what.c_str());
-    std::exit(1);
-}
 
 std::vector<Peer> all_peers() {
     return {
@@ -56,62 +42,19 @@ std::vector<Peer> all_peers() {
     };
 }
 
-Document load(const std::string &path) {
-    std::ifstream in(path, std::ios::binary);
-    if (!in) fail("cannot read " + path);
-    std::string bytes((std::istreambuf_iterator<char>(in)), {});
-    std::size_t length = bytes.size();
-    if (ROOM < length) fail(path + " is too long");
-    bytes.append(64, '\0');
-    std::size_t name = path.rfind('/') + 1;
-    return {path.substr(name, path.rfind('.') - name), bytes, length};
-}
-
 void keep_output(const std::string &folder, const Document &d, std::size_t peer, std::string_view made) {
     std::ofstream out(folder + "/" + d.name + "." + std::to_string(peer), std::ios::binary);
     out.write(made.data(), static_cast<std::streamsize>(made.size()));
     if (!out) fail("cannot write to " + folder);
 }
 
-// The time of one rewriting, over so many of them.
-double timed(const Peer &peer, const Document &d, int times) {
-    double start = nanoseconds();
-    for (int i = 0; i < times; i++) peer.rewrite(d.bytes.data(), d.length);
-    return (nanoseconds() - start) / times;
-}
-
-// How often a peer rewrites a document in its turn, for the turn to take long enough to be timed.
-int times_for(const Peer &peer, const Document &d) { return std::max(1, static_cast<int>(40000 / timed(peer, d, 20))); }
-
-// The fastest round of each peer on each document, in nanoseconds a document.
-std::vector<std::vector<double>> measure(const std::vector<Peer> &peers, const std::vector<Document> &documents, int rounds) {
-    std::vector<std::vector<int>> times(documents.size());
-    for (std::size_t i = 0; i < documents.size(); i++)
-        for (const Peer &peer : peers) times[i].push_back(times_for(peer, documents[i]));
-    std::vector<std::vector<double>> least(documents.size(), std::vector<double>(peers.size(), INFINITY));
-    for (int round = 0; round < rounds; round++)
-        for (std::size_t i = 0; i < documents.size(); i++)
-            for (std::size_t p = 0; p < peers.size(); p++)
-                least[i][p] = std::min(least[i][p], timed(peers[p], documents[i], times[i][p]));
-    return least;
-}
-
-void print_table(const std::vector<Peer> &peers, const std::vector<Document> &documents,
-                 const std::vector<std::vector<double>> &least) {
-    std::printf("| ns a document, MB/s, time relative to ours |");
-    for (const Document &d : documents) std::printf(" %s, %zu B |", d.name.c_str(), d.length);
-    std::printf("\n|---|");
-    for (std::size_t i = 0; i < documents.size(); i++) std::printf("---|");
-    std::printf("\n");
-    for (std::size_t p = 0; p < peers.size(); p++) {
-        std::printf("| %s%s%s |", peers[p].name.c_str(), peers[p].version.empty() ? "" : ", ", peers[p].version.c_str());
-        for (std::size_t i = 0; i < documents.size(); i++) {
-            double ns = least[i][p];
-            std::printf(" %.0f ns, %.0f MB/s, %.2f |", ns, 1000.0 * static_cast<double>(documents[i].length) / ns,
-                        ns / least[i][0]);
-        }
-        std::printf("\n");
+std::vector<std::vector<Rewriting>> all_rewritings(const std::vector<Peer> &peers, const std::vector<Document> &documents) {
+    std::vector<std::vector<Rewriting>> calls;
+    for (const Document &d : documents) {
+        calls.emplace_back();
+        for (const Peer &peer : peers) calls.back().push_back({&peer, &d});
     }
+    return calls;
 }
 
 }  // namespace
@@ -129,6 +72,11 @@ int main(int count, char **words) {
             keep_output(words[2], d, p, made);
         }
     }
-    print_table(peers, documents, measure(peers, documents, rounds));
+    std::vector<std::vector<double>> least = measure(all_rewritings(peers, documents), rounds);
+    print_head("ns a document, MB/s, time relative to ours", documents);
+    for (std::size_t p = 0; p < peers.size(); p++) {
+        const std::string version = peers[p].version.empty() ? "" : ", " + peers[p].version;
+        print_row(peers[p].name + version, documents, column(least, p), column(least, 0));
+    }
     for (const Peer &peer : peers) std::fprintf(stderr, "%s\n", peer.name.c_str());
 }
