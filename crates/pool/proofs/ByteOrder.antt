@@ -1,18 +1,15 @@
 -- Byte order of two texts that are read from their first bytes on: where they agree before place i, their rests decide. Assumes nothing.
-use Prim.Native.Nat.{ℕ, zero, suc, _+_, _*_, _≤_, _<_, compare, Ordering, Ordering·lt, Ordering·eq, Ordering·gt, compare·zero-zero, compare·zero-suc, compare·suc-zero, compare·suc-suc}
+use Prim.Native.Nat.{ℕ, zero, suc, _+_, _≤_, _<_, compare, Ordering, Ordering·lt, Ordering·eq, Ordering·gt, compare·zero-zero, compare·zero-suc, compare·suc-zero, compare·suc-suc}
 use mathlib.Core.Path.{_≡_, refl, sym, ap, ap₂, _∙_}
 use mathlib.Core.Bool.{Bool, true, false, false≢true}
-use mathlib.Core.List.{List, [], _∷_}
+use mathlib.Core.List.{[], _∷_}
 use native.Mathlib.Nat.{not-suc-le-zero, le-of-suc-le-suc}
 use native.Mathlib.Numerals.{add-one}
-use native.Mathlib.Omega.{arith}
 use lib.ListN.{length, getD, drop, drop-of-length-le}
 use lib.Seq.{drop-cons}
 use lib.Dec.{isEq, eqb}
 use borrow.Author.Tests.{eqb-true, eqb-false}
 use Rattle.definitions.specs.Bytes.{Bytes, order, same}
-use Rattle.pool.specs.Pool.{pool-bytes, text-in}
-use Rattle.pool.specs.PoolLaws.{length-text-in-min, getD-text-in}
 
 -- ---- two numbers
 
@@ -67,28 +64,6 @@ longer-greater s t i hs ht = ap₂ order (drop-cons s i 0 hs) (drop-of-length-le
 pub both-equal : (s t : Bytes) (i : ℕ) → length s ≤ i → length t ≤ i → order (drop i s) (drop i t) ≡ Ordering·eq
 unfolding order
 both-equal s t i hs ht = ap₂ order (drop-of-length-le s hs) (drop-of-length-le t ht)
-
--- ---- two texts of a pool, whose bytes x and y at place i were read
-
-module _
-    (p : List ℕ) (w n v m i x y : ℕ)
-    (hs : i < length (text-in p w n)) (ht : i < length (text-in p v m))
-    (ex : x ≡ getD (pool-bytes p) (8 * w + i) 0) (ey : y ≡ getD (pool-bytes p) (8 * v + i) 0) where
-  left-byte : getD (text-in p w n) i 0 ≡ x
-  left-byte = getD-text-in p w n i (omega (arith, length-text-in-min p w n)) ∙ sym ex
-
-  right-byte : getD (text-in p v m) i 0 ≡ y
-  right-byte = getD-text-in p v m i (omega (arith, length-text-in-min p v m)) ∙ sym ey
-
-  pub texts-less : x < y → order (drop i (text-in p w n)) (drop i (text-in p v m)) ≡ Ordering·lt
-  texts-less h = order-less (text-in p w n) (text-in p v m) i hs ht (omega (arith, left-byte, right-byte))
-
-  pub texts-greater : y < x → order (drop i (text-in p w n)) (drop i (text-in p v m)) ≡ Ordering·gt
-  texts-greater h = order-greater (text-in p w n) (text-in p v m) i hs ht (omega (arith, left-byte, right-byte))
-
-  pub texts-next
-      : x ≡ y → order (drop i (text-in p w n)) (drop i (text-in p v m)) ≡ order (drop (i + 1) (text-in p w n)) (drop (i + 1) (text-in p v m))
-  texts-next e = order-next (text-in p w n) (text-in p v m) i hs ht (left-byte ∙ e ∙ sym right-byte)
 
 -- ---- the same texts
 

@@ -2,7 +2,7 @@
 use Prim.Native.Nat.{ℕ, zero, suc, _+_, _-_, _*_, _/_, _%_, _^_, _≤_, _<_, min}
 use mathlib.Core.Path.{_≡_, refl, sym, ap, ap₂, _∙_}
 use mathlib.Core.List.{List, [], _∷_, _++_, append-assoc}
-use native.Mathlib.Nat.{div-one, zero-div, zero-mod, zero-add, suc-add, div-add-mod}
+use native.Mathlib.Nat.{div-one, zero-div, zero-mod, zero-add, suc-add}
 use native.Mathlib.Omega.{arith}
 use lib.ListN.{length, getD, take, drop, replicate, length-append, length-take, length-drop, length-replicate, List·getD-append}
 use lib.Seq.{take-nil, drop-nil, take-append-le, take-append-add, drop-append-add, getD-append-add, getD-take, getD-drop, take-add, take-at, drop-at, length-take-le, take-take, drop-drop}
@@ -78,10 +78,6 @@ getD-pool-word (x ∷ p) (suc i) j h =
     (let e : 8 * suc i + j ≡ length (unpacked x) + (8 * i + j) = omega (arith, length-unpacked x) in e)
     ∙ getD-append-add (unpacked x) (pool-bytes p) (8 * i + j) 0
     ∙ getD-pool-word p i j h
-
-pub getD-pool-bytes : (p : List ℕ) (k : ℕ) → getD (pool-bytes p) k 0 ≡ getD p (k / 8) 0 / 2 ^ (56 - 8 * (k % 8)) % 256
-getD-pool-bytes p k =
-    ap (λ (n : ℕ). getD (pool-bytes p) n 0) (sym (div-add-mod k 8)) ∙ getD-pool-word p (k / 8) (k % 8) (omega arith)
 
 -- ---- words
 

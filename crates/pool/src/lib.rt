@@ -19,19 +19,6 @@ fn shift(k: usize) -> usize
     56 - 8 * (k % 8)
 }
 
-// The byte at place k; past the end, 0.
-pub fn byte_at(pool: &[u64], k: usize) -> u8
-    ensures read { λ r. ⌜ r ≡ getD (pool-bytes (now (pool .entry))) k 0 ⌝ }
-{
-    let i = k / 8;
-    if i < pool.len() {
-        let x = pool[i];
-        ((x >> shift(k)) % 256) as u8
-    } else {
-        0
-    }
-}
-
 // Puts b at place k, and zeros behind it in its word: a text is put byte by byte and is padded at each.
 pub fn put_byte(pool: &mut [u64], k: usize, b: u8)
     requires { ⌜ k / 8 < length (now pool) ⌝ }
@@ -61,7 +48,8 @@ fn held(pool: &[u64], w: usize, n: usize) -> usize
     }
 }
 
-// Two texts in byte order. Where a text runs past the pool's end it is what the pool has of it.
+// Two texts in byte order, as far as both have bytes of a word by what they have of it. Where a text runs past the pool's end it is
+// what the pool has of it.
 pub fn compare(pool: &[u64], w: usize, n: usize, v: usize, m: usize) -> Comparison
     ensures compared { λ r. ⌜ ordering-of r ≡ order (text-in (now (pool .entry)) w n) (text-in (now (pool .entry)) v m) ⌝ }
 {
@@ -69,9 +57,10 @@ pub fn compare(pool: &[u64], w: usize, n: usize, v: usize, m: usize) -> Comparis
     let t = held(pool, v, m);
     let end = least(s, t);
     let mut i: usize = 0;
-    while i < end {
-        let x = byte_at(pool, 8 * w + i);
-        let y = byte_at(pool, 8 * v + i);
+    while 8 * i < end {
+        let down = 64 - 8 * least(8, end - 8 * i);
+        let x = pool[w + i] >> down;
+        let y = pool[v + i] >> down;
         if x < y {
             return Comparison::Less;
         }

@@ -1,6 +1,7 @@
 // The parts of a shape text, printed: written where the output has room for the whole part, and measured either way.
 ghost use mathlib.Core.Path.{_≡_};
-ghost use Prim.Native.Nat.{_+_, _^_, _<_};
+ghost use mathlib.Core.Bool.{true};
+ghost use Prim.Native.Nat.{_+_, _*_, _^_, _≤_, _<_};
 ghost use lib.ListN.{length};
 ghost use Rattle.definitions.specs.ShapeText.{new-line};
 ghost use Rattle.shapes.specs.Shapes.{has-bit};
@@ -61,6 +62,20 @@ pub fn print_head(out: &mut [u8], at: usize, kinds: u64) -> usize
     print_word(out, j, kinds, Shape::REC, b" rec")
 }
 
+// Whether every text of n bytes has room from a place on, since no byte is written in more than six. It spares measuring the text.
+fn has_room(size: usize, at: usize, n: usize) -> bool
+    requires { ⌜ n < 2 ^ 48 ⌝ }
+    ensures told { λ r. ⌜ (r ≡ true → at + (2 + 6 * n) ≤ size) ⌝ }
+{
+    if size < at {
+        return false;
+    }
+    if size - at < 2 + 6 * n {
+        return false;
+    }
+    true
+}
+
 // Prints the text of the pool at a reference as plain JSON.
 fn print_name(out: &mut [u8], at: usize, pool: &[u64], k: u64) -> usize
     requires { ⌜ Printable-name (now pool) k at ⌝ }
@@ -68,6 +83,9 @@ fn print_name(out: &mut [u8], at: usize, pool: &[u64], k: u64) -> usize
 {
     let w = nodes::text_word(k);
     let n = nodes::text_bytes(k);
+    if has_room(out.len(), at, n) {
+        return text::write_text(out, at, pool, w, n);
+    }
     let end = at + text::text_length(pool, w, n);
     if end <= out.len() {
         return text::write_text(out, at, pool, w, n);

@@ -80,6 +80,11 @@ word-next word i b l e =
     ∙ ap (λ (x : ℕ). take i (unpacked word) ++ (x ∷ [])) (sym e))
     ∙ escaped-snoc (take i (unpacked word)) b
 
+pub word-count
+    : (word i b : ℕ) → i < 8 → b ≡ getD (unpacked word) i 0
+    → length (escaped-all (take (i + 1) (unpacked word))) ≡ length (escaped-all (take i (unpacked word))) + length (escaped b)
+word-count word i b l e = ap length (word-next word i b l e) ∙ length-append (escaped-all (take i (unpacked word))) (escaped b)
+
 pub word-part : (word i n : ℕ) → i ≤ n → length (escaped-all (take i (unpacked word))) ≤ length (escaped-all (take n (unpacked word)))
 word-part word i n h =
     omega (
@@ -102,8 +107,7 @@ module _ {out out′ : Bytes} {at j : ℕ} (word n i : ℕ) (h : Writes out out�
         h .end,
         word-length (omega arith),
         word-part word (i + 1) n (omega arith),
-        ap length (word-next word i b (omega arith) e),
-        length-append (escaped-all (take i (unpacked word))) (escaped b),
+        word-count word i b (omega arith) e,
       )
 
   pub word-written
@@ -143,6 +147,13 @@ module _ (p : List ℕ) (w n : ℕ) (room : w + words n ≤ length p) (k : ℕ) 
       ∙ ap (λ (t : Bytes). take (8 * k) (text-in p w n) ++ t) word-bytes)
       ∙ escaped-append (take (8 * k) (text-in p w n)) (take (min 8 (n - 8 * k)) (unpacked (getD p (w + k) 0)))
 
+  pub text-word-count
+      : length (escaped-all (take (8 * (k + 1)) (text-in p w n)))
+      ≡ length (escaped-all (take (8 * k) (text-in p w n))) + length (escaped-all (take (min 8 (n - 8 * k)) (unpacked (getD p (w + k) 0))))
+  text-word-count =
+      ap length text-word
+      ∙ length-append (escaped-all (take (8 * k) (text-in p w n))) (escaped-all (take (min 8 (n - 8 * k)) (unpacked (getD p (w + k) 0))))
+
   -- the bytes of the first k words stand from place at up to place j
   module _ {out out′ : Bytes} {at j : ℕ} (f : Writes out out′ at (escaped-all (take (8 * k) (text-in p w n))) j)
       (l : at + length (plain-text (text-in p w n)) ≤ length out + 1) where
@@ -154,8 +165,7 @@ module _ (p : List ℕ) (w n : ℕ) (room : w + words n ≤ length p) (k : ℕ) 
           f .end,
           written-length p w n room (8 * k) f l,
           text-bound p w n room (8 * (k + 1)),
-          ap length text-word,
-          length-append (escaped-all (take (8 * k) (text-in p w n))) (escaped-all (take (min 8 (n - 8 * k)) (unpacked (getD p (w + k) 0)))),
+          text-word-count,
           ap₂ (λ (y z : ℕ). length (escaped-all (take z (unpacked y)))) e g,
         )
 

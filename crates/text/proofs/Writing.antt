@@ -1,18 +1,17 @@
 -- Bytes written into a slice one after the other, and a text of the pool byte by byte. Assumes nothing.
-use Prim.Native.Nat.{ℕ, zero, suc, _+_, _-_, _*_, _≤_, _<_, _^_}
-use mathlib.Core.Path.{_≡_, refl, sym, ap, ap₂, _∙_, subst, subst₂}
-use mathlib.Core.List.{List, [], _∷_, _++_, append-assoc, append-nil}
-use lib.ListN.{length, getD, take, drop, set, length-append, length-take, length-drop, length-set, take-append-drop}
-use lib.Seq.{length-take-le, take-suc, take-all, set-split, take-at, drop-at, drop-append-add, drop-drop}
-use native.Mathlib.Numerals.{add-one}
+use Prim.Native.Nat.{ℕ, _+_, _*_, _≤_, _<_}
+use mathlib.Core.Path.{_≡_, refl, sym, ap}
+use mathlib.Core.List.{List, [], _∷_, _++_}
+use lib.ListN.{length, take, drop, set, length-append, take-append-drop}
+use lib.Seq.{take-all}
 use native.Mathlib.Omega.{arith}
 use Rattle.definitions.specs.Bytes.{Bytes, bytes}
-use Rattle.definitions.specs.Plain.{escaped, escaped-all, plain-text}
-use Rattle.pool.specs.Pool.{pool-bytes, words, text-in}
-use Rattle.pool.specs.PoolLaws.{words-bytes, length-text-in, getD-text-in}
+use Rattle.definitions.specs.Plain.{escaped-all, plain-text}
+use Rattle.pool.specs.Pool.{words, text-in}
+use Rattle.pool.specs.PoolLaws.{words-bytes, length-text-in}
 use Rattle.text.specs.Writes.{Writes}
 pub use Rattle.text.specs.WritesLaws.{writes-none, writes-length, writes-then, writes-next, writes-same}
-use Rattle.text.proofs.Escaped.{escaped-append, escaped-none, escaped-snoc, length-plain}
+use Rattle.text.proofs.Escaped.{escaped-append, escaped-none, length-plain}
 
 -- ---- the bytes of a text
 
@@ -32,26 +31,10 @@ module _ (p : List ℕ) (w n : ℕ) (room : w + words n ≤ length p) where
   pub text-place : 8 * w + n ≤ 8 * length p
   text-place = words-bytes w n (length p) room
 
-  -- the first bytes, and one more
-  pub text-next
-      : (i b : ℕ) → i < n → b ≡ getD (pool-bytes p) (8 * w + i) 0
-      → escaped-all (take (i + 1) (text-in p w n)) ≡ escaped-all (take i (text-in p w n)) ++ escaped b
-  text-next i b l e =
-      ap escaped-all
-      (ap (λ (k : ℕ). take k (text-in p w n)) (add-one i)
-      ∙ take-suc (text-in p w n) i 0 (omega (arith, size))
-      ∙ ap (λ (x : ℕ). take i (text-in p w n) ++ (x ∷ [])) (getD-text-in p w n i l ∙ sym e))
-      ∙ escaped-snoc (take i (text-in p w n)) b
-
-  pub text-count
-      : (i b : ℕ) → i < n → b ≡ getD (pool-bytes p) (8 * w + i) 0
-      → length (escaped-all (take (i + 1) (text-in p w n))) ≡ length (escaped-all (take i (text-in p w n))) + length (escaped b)
-  text-count i b l e = ap length (text-next i b l e) ∙ length-append (escaped-all (take i (text-in p w n))) (escaped b)
-
   pub text-all : (i : ℕ) → n ≤ i → escaped-all (take i (text-in p w n)) ≡ escaped-all (text-in p w n)
   text-all i l = ap escaped-all (take-all i (text-in p w n) (omega (arith, size)))
 
-  -- what is written so far, and with one byte more, is no longer than the whole
+  -- what is written so far is no longer than the whole
   pub text-bound : (i : ℕ) → 2 + length (escaped-all (take i (text-in p w n))) ≤ length (plain-text (text-in p w n))
   text-bound i = omega (arith, escaped-part i (text-in p w n), length-plain (text-in p w n))
 
@@ -68,17 +51,6 @@ module _ (p : List ℕ) (w n : ℕ) (room : w + words n ≤ length p) where
 
     pub written-length : length out′ ≡ length out
     written-length = writes-length out out′ at (escaped-all (take i (text-in p w n))) j (omega (arith, written-place)) h
-
-    pub written-room : (b : ℕ) → i < n → b ≡ getD (pool-bytes p) (8 * w + i) 0 → j + length (escaped b) ≤ length out′
-    written-room b m e =
-        omega
-        (arith, h .end, written-length, text-bound (i + 1), text-count i b m e)
-
-    pub written-next
-        : (out″ : Bytes) (b q : ℕ) → i < n → b ≡ getD (pool-bytes p) (8 * w + i) 0 → Writes out′ out″ j (escaped b) q
-        → Writes out out″ at (escaped-all (take (i + 1) (text-in p w n))) q
-    written-next out″ b q m e k =
-        writes-same (escaped-all (take (i + 1) (text-in p w n))) q (writes-then (omega (arith, text-bound i)) h k) (sym (text-next i b m e)) refl
 
   -- all between the quotes
   pub written-done

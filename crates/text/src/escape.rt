@@ -40,10 +40,26 @@ fn short_form(b: u8) -> u8
     }
 }
 
+// Whether b is written as it is.
+fn is_itself(b: u8) -> bool
+    ensures told { λ r. ⌜ (r ≡ true → escaped b ≡ b ∷ []) ⌝ }
+{
+    if b < 0x20 {
+        return false;
+    }
+    if b == 0x22 {
+        return false;
+    }
+    b != 0x5C
+}
+
 // How many bytes b is written in.
 pub fn cost(b: u8) -> usize
     ensures counted { λ r. ⌜ r ≡ length (escaped b) ⌝ }
 {
+    if is_itself(b) {
+        return 1;
+    }
     if short_form(b) != 0 {
         return 2;
     }
@@ -70,19 +86,6 @@ fn write_hex(out: &mut [u8], at: usize, b: u8) -> usize
     out[at + 4] = hex_digit(b / 16);
     out[at + 5] = hex_digit(b % 16);
     at + 6
-}
-
-// Whether b is written as it is.
-fn is_itself(b: u8) -> bool
-    ensures told { λ r. ⌜ (r ≡ true → escaped b ≡ b ∷ []) ⌝ }
-{
-    if b < 0x20 {
-        return false;
-    }
-    if b == 0x22 {
-        return false;
-    }
-    b != 0x5C
 }
 
 // Writes b by its escape, or as it is.

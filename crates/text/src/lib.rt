@@ -74,25 +74,41 @@ pub fn read_text(doc: &[u8], at: usize, pool: &mut [u64], w: usize) -> TextRead
     TextRead::Broken { place: i }
 }
 
-// How long a text of the pool is in plain JSON.
-pub fn text_length(pool: &[u64], w: usize, n: usize) -> usize
-    requires { ⌜ (w + words n ≤ length (now pool)) × (length (plain-text (text-in (now pool) w n)) < 2 ^ 64) ⌝ }
-    ensures counted { λ r. ⌜ r ≡ length (plain-text (text-in (now (pool .entry)) w n)) ⌝ }
-{
-    let mut i: usize = 0;
-    let mut written: usize = 2;
-    while i < n {
-        written += escape::cost(pool::byte_at(pool, 8 * w + i));
-        i += 1;
-    }
-    written
-}
-
 // At most eight.
 fn eight_of(n: usize) -> usize
     ensures chosen { λ r. ⌜ r ≡ min 8 n ⌝ }
 {
     if n < 8 { n } else { 8 }
+}
+
+// How long the first n bytes of a word are in plain JSON.
+fn word_length(word: u64, n: usize) -> usize
+    requires { ⌜ (n ≤ 8) × (length (escaped-all (take n (unpacked word))) < 2 ^ 64) ⌝ }
+    ensures counted { λ r. ⌜ r ≡ length (escaped-all (take n (unpacked word))) ⌝ }
+{
+    let mut x = word;
+    let mut written: usize = 0;
+    let mut i: usize = 0;
+    while i < n {
+        written += escape::cost((x >> 56) as u8);
+        x = x << 8;
+        i += 1;
+    }
+    written
+}
+
+// How long a text of the pool is in plain JSON.
+pub fn text_length(pool: &[u64], w: usize, n: usize) -> usize
+    requires { ⌜ (w + words n ≤ length (now pool)) × (length (plain-text (text-in (now pool) w n)) < 2 ^ 64) ⌝ }
+    ensures counted { λ r. ⌜ r ≡ length (plain-text (text-in (now (pool .entry)) w n)) ⌝ }
+{
+    let mut written: usize = 2;
+    let mut i: usize = 0;
+    while 8 * i < n {
+        written += word_length(pool[w + i], eight_of(n - 8 * i));
+        i += 1;
+    }
+    written
 }
 
 // Writes the first n bytes of a word as plain JSON has them, and answers the place behind them.

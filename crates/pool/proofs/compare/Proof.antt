@@ -1,23 +1,25 @@
--- `pool::compare` meets its contract. The loop's invariant: place i is within both texts, and how the texts stand is how their rests from i on
--- stand. The measure is what is left of the shorter. Assumes nothing.
-use Prim.Native.Nat.{_≤_, _-_}
-use mathlib.Core.Path.{_≡_, refl, sym, _∙_}
+-- `pool::compare` meets its contract. The loop's invariant: how the texts stand is how their rests from word i on stand. The measure is what is
+-- left of the shorter. Assumes nothing.
+use Prim.Native.Nat.{_+_, _-_, _*_, _≤_, min}
+use mathlib.Core.Path.{_≡_, sym, _∙_}
 use lib.ListN.{drop}
 use native.Mathlib.Omega.{arith}
 use borrow.Author.Needs.{needs}
 use Rattle.definitions.specs.Bytes.{order}
 use Rattle.pool.specs.Pool.{text-in, ordering-of}
 use Rattle.pool.specs.PoolLaws.{length-text-in-min}
-use Rattle.pool.proofs.ByteOrder.{texts-less, texts-greater, texts-next, shorter-less, longer-greater, both-equal}
+use Rattle.pool.proofs.ByteOrder.{shorter-less, longer-greater, both-equal}
+use Rattle.pool.proofs.WordOrder.{words-start, words-less, words-greater, words-next}
 use Rattle.pool.proofs.compare.Statement.{statement}
 use Rattle.pool.proofs.compare.Tie as tie
 
 abbrev Inv-loop : tie.InvT-loop
 Inv-loop pool w n v m s t end i₀ i =
-    (i ≤ end) × (order (text-in pool w n) (text-in pool v m) ≡ order (drop i (text-in pool w n)) (drop i (text-in pool v m)))
+    (8 * i ≤ end + 7)
+    × (order (text-in pool w n) (text-in pool v m) ≡ order (drop (min (8 * i) end) (text-in pool w n)) (drop (min (8 * i) end) (text-in pool v m)))
 
 abbrev μ-loop : tie.MeasureT-loop
-μ-loop pool w n v m s t end i₀ i = end - i
+μ-loop pool w n v m s t end i₀ i = end - 8 * i
 
 held-requires : tie.Need-held-requires Inv-loop μ-loop
 held-requires c κs = search needs
@@ -29,53 +31,97 @@ least-requires : tie.Need-least-requires Inv-loop μ-loop
 least-requires c κs = search needs
 
 loop-holds : tie.Need-loop-holds Inv-loop μ-loop
-loop-holds c = (omega arith, refl)
+loop-holds c =
+    let a = c .before .before .before .before .args in
+    (omega arith, words-start (a .pool .now) (a .w) (a .n) (a .v) (a .m) (c .least .result))
 
-mul-byte-at : tie.Need-mul-byte-at Inv-loop μ-loop
-mul-byte-at c =
+mul-loop : tie.Need-mul-loop Inv-loop μ-loop
+mul-loop c =
+    let l = c .loop in
+    let a = c .before .before .before .before .before .args in
+    omega (arith, l .inv .0, length-text-in-min (a .pool .now) (a .w) (a .n), c .before .before .before .before .before .good)
+
+mul-least : tie.Need-mul-least Inv-loop μ-loop
+mul-least c =
+    let l = c .before .loop in
     let a = c .before .before .before .before .before .before .args in
+    omega (arith, l .inv .0, length-text-in-min (a .pool .now) (a .w) (a .n), c .before .before .before .before .before .before .good)
+
+sub-least : tie.Need-sub-least Inv-loop μ-loop
+sub-least c = omega arith
+
+least-requires-2 : tie.Need-least-requires-2 Inv-loop μ-loop
+least-requires-2 c κs = search needs
+
+mul-down : tie.Need-mul-down Inv-loop μ-loop
+mul-down c = omega (arith, c .least2 .ensures)
+
+sub-down : tie.Need-sub-down Inv-loop μ-loop
+sub-down c = omega (arith, c .least2 .ensures)
+
+add-x : tie.Need-add-x Inv-loop μ-loop
+add-x c =
+    let l = c .before .before .loop in
+    let a = c .before .before .before .before .before .before .before .args in
     omega (arith, length-text-in-min (a .pool .now) (a .w) (a .n))
 
-add-byte-at : tie.Need-add-byte-at Inv-loop μ-loop
-add-byte-at c =
-    let a = c .before .before .before .before .before .before .args in
+mul-x : tie.Need-mul-x Inv-loop μ-loop
+mul-x c =
+    let l = c .before .before .loop in
+    let a = c .before .before .before .before .before .before .before .args in
     omega (arith, length-text-in-min (a .pool .now) (a .w) (a .n))
 
-byte-at-requires : tie.Need-byte-at-requires Inv-loop μ-loop
-byte-at-requires c κs = search needs
+shared-slice-read-x : tie.Need-shared-slice-read-x Inv-loop μ-loop
+shared-slice-read-x c =
+    let l = c .before .before .before .loop in
+    let a = c .before .before .before .before .before .before .before .before .args in
+    omega (arith, length-text-in-min (a .pool .now) (a .w) (a .n))
 
-mul-byte-at-2 : tie.Need-mul-byte-at-2 Inv-loop μ-loop
-mul-byte-at-2 c =
-    let a = c .before .before .before .before .before .before .before .args in
+shr-x : tie.Need-shr-x Inv-loop μ-loop
+shr-x c = omega (arith, c .before .least2 .ensures)
+
+add-y : tie.Need-add-y Inv-loop μ-loop
+add-y c =
+    let l = c .before .before .before .loop in
+    let a = c .before .before .before .before .before .before .before .before .args in
     omega (arith, length-text-in-min (a .pool .now) (a .v) (a .m))
 
-add-byte-at-2 : tie.Need-add-byte-at-2 Inv-loop μ-loop
-add-byte-at-2 c =
-    let a = c .before .before .before .before .before .before .before .args in
+mul-y : tie.Need-mul-y Inv-loop μ-loop
+mul-y c =
+    let l = c .before .before .before .loop in
+    let a = c .before .before .before .before .before .before .before .before .args in
     omega (arith, length-text-in-min (a .pool .now) (a .v) (a .m))
 
-byte-at-requires-2 : tie.Need-byte-at-requires-2 Inv-loop μ-loop
-byte-at-requires-2 c κs = search needs
+shared-slice-read-y : tie.Need-shared-slice-read-y Inv-loop μ-loop
+shared-slice-read-y c =
+    let l = c .before .before .before .before .loop in
+    let a = c .before .before .before .before .before .before .before .before .before .args in
+    omega (arith, length-text-in-min (a .pool .now) (a .v) (a .m))
+
+shr-y : tie.Need-shr-y Inv-loop μ-loop
+shr-y c = omega (arith, c .before .before .least2 .ensures)
 
 returns : tie.Need-returns Inv-loop μ-loop
 unfolding ordering-of
 returns c =
-    let d = c .before in
-    let a = d .before .before .before .before .before .before .before .before .args in
+    let l = c .before .before .before .before .before .loop in
+    let a = c .before .before .before .before .before .before .before .before .before .before .args in
     sym
-    (d .before .before .before .loop .inv .1
-    ∙ texts-less (a .pool .now) (a .w) (a .n) (a .v) (a .m) (d .before .before .before .loop .i) (d .before .byte-at .result) (d .byte-at2 .result)
-    (omega arith) (omega arith) (d .before .byte-at .ensures) (d .byte-at2 .ensures) (c .if1 .taken))
+    (l .inv .1
+    ∙ words-less (a .pool .now) (a .w) (a .n) (a .v) (a .m) (l .i) (c .before .before .before .before .before .before .least .result) (c .before .before .before .least2 .result) (c .before .before .before .least2 .ensures)
+    (omega arith) (omega arith) (omega arith) (omega (arith, c .before .shared-slice-known3 .given (a .w + l .i))) (omega (arith, c .before .shared-slice-known3 .given (a .v + l .i)))
+    (c .if1 .taken))
 
 returns-2 : tie.Need-returns-2 Inv-loop μ-loop
 unfolding ordering-of
 returns-2 c =
-    let d = c .before .before in
-    let a = d .before .before .before .before .before .before .before .before .args in
+    let l = c .before .before .before .before .before .before .loop in
+    let a = c .before .before .before .before .before .before .before .before .before .before .before .args in
     sym
-    (d .before .before .before .loop .inv .1
-    ∙ texts-greater (a .pool .now) (a .w) (a .n) (a .v) (a .m) (d .before .before .before .loop .i) (d .before .byte-at .result) (d .byte-at2 .result)
-    (omega arith) (omega arith) (d .before .byte-at .ensures) (d .byte-at2 .ensures) (c .if2 .taken))
+    (l .inv .1
+    ∙ words-greater (a .pool .now) (a .w) (a .n) (a .v) (a .m) (l .i) (c .before .before .before .before .before .before .before .least .result) (c .before .before .before .before .least2 .result) (c .before .before .before .before .least2 .ensures)
+    (omega arith) (omega arith) (omega arith) (omega (arith, c .before .before .shared-slice-known3 .given (a .w + l .i))) (omega (arith, c .before .before .shared-slice-known3 .given (a .v + l .i)))
+    (c .if2 .taken))
 
 add-i : tie.Need-add-i Inv-loop μ-loop
 add-i c = omega arith
@@ -85,40 +131,35 @@ loop-less c = omega arith
 
 loop-again : tie.Need-loop-again Inv-loop μ-loop
 loop-again c =
-    let d = c .before .before in
-    let a = d .before .before .before .before .before .before .before .before .args in (
+    let l = c .before .before .before .before .before .before .loop in
+    let a = c .before .before .before .before .before .before .before .before .before .before .before .args in (
       omega arith,
-      d .before .before .before .loop .inv .1
-          ∙ texts-next (a .pool .now) (a .w) (a .n) (a .v) (a .m) (d .before .before .before .loop .i) (d .before .byte-at .result) (d .byte-at2 .result)
-          (omega arith) (omega arith) (d .before .byte-at .ensures) (d .byte-at2 .ensures) (omega arith),
+      l .inv .1
+          ∙ words-next (a .pool .now) (a .w) (a .n) (a .v) (a .m) (l .i) (c .before .before .before .before .before .before .before .least .result) (c .before .before .before .before .least2 .result) (c .before .before .before .before .least2 .ensures)
+          (omega arith) (omega arith) (omega arith)
+          (omega arith),
     )
 
 returns-3 : tie.Need-returns-3 Inv-loop μ-loop
 unfolding ordering-of
 returns-3 c =
-    let d = c .before in
-    let a = d .before .before .before .before .before .before .args in
-    sym
-    (d .before .loop .inv .1
-    ∙ shorter-less (text-in (a .pool .now) (a .w) (a .n)) (text-in (a .pool .now) (a .v) (a .m)) (d .before .loop .i) (omega arith) (omega arith))
+    let l = c .before .before .loop in
+    let a = c .before .before .before .before .before .before .before .args in
+    sym (l .inv .1 ∙ shorter-less (text-in (a .pool .now) (a .w) (a .n)) (text-in (a .pool .now) (a .v) (a .m)) (min (8 * l .i) (c .before .before .before .least .result)) (omega arith) (omega arith))
 
 returns-4 : tie.Need-returns-4 Inv-loop μ-loop
 unfolding ordering-of
 returns-4 c =
-    let d = c .before .before in
-    let a = d .before .before .before .before .before .before .args in
-    sym
-    (d .before .loop .inv .1
-    ∙ longer-greater (text-in (a .pool .now) (a .w) (a .n)) (text-in (a .pool .now) (a .v) (a .m)) (d .before .loop .i) (omega arith) (omega arith))
+    let l = c .before .before .before .loop in
+    let a = c .before .before .before .before .before .before .before .before .args in
+    sym (l .inv .1 ∙ longer-greater (text-in (a .pool .now) (a .w) (a .n)) (text-in (a .pool .now) (a .v) (a .m)) (min (8 * l .i) (c .before .before .before .before .least .result)) (omega arith) (omega arith))
 
 returns-5 : tie.Need-returns-5 Inv-loop μ-loop
 unfolding ordering-of
 returns-5 c =
-    let d = c .before .before in
-    let a = d .before .before .before .before .before .before .args in
-    sym
-    (d .before .loop .inv .1
-    ∙ both-equal (text-in (a .pool .now) (a .w) (a .n)) (text-in (a .pool .now) (a .v) (a .m)) (d .before .loop .i) (omega arith) (omega arith))
+    let l = c .before .before .before .loop in
+    let a = c .before .before .before .before .before .before .before .before .args in
+    sym (l .inv .1 ∙ both-equal (text-in (a .pool .now) (a .w) (a .n)) (text-in (a .pool .now) (a .v) (a .m)) (min (8 * l .i) (c .before .before .before .before .least .result)) (omega arith) (omega arith))
 
 pub compare-spec : {M : Type 1} → statement M
 compare-spec =
@@ -130,12 +171,20 @@ compare-spec =
     held-requires-2
     least-requires
     loop-holds
-    mul-byte-at
-    add-byte-at
-    byte-at-requires
-    mul-byte-at-2
-    add-byte-at-2
-    byte-at-requires-2
+    mul-loop
+    mul-least
+    sub-least
+    least-requires-2
+    mul-down
+    sub-down
+    add-x
+    mul-x
+    shared-slice-read-x
+    shr-x
+    add-y
+    mul-y
+    shared-slice-read-y
+    shr-y
     returns
     returns-2
     add-i
