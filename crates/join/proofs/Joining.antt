@@ -1,29 +1,23 @@
 -- A shape joined into another, part by part. Assumes nothing.
 use Prim.Native.Nat.{ℕ, _+_, _-_, _*_, _%_, _≤_, _<_}
 use native.Mathlib.Omega.{arith}
-use mathlib.Core.Path.{_≡_, refl, sym, ap, ap₂, subst, _∙_}
-use mathlib.Core.Bool.{Bool, true, false, false≢true, _||_}
-use mathlib.Core.List.{List, [], _∷_, _++_}
-use lib.Bits.{bitOr}
+use mathlib.Core.Path.{_≡_, refl, sym, ap, subst}
+use mathlib.Core.Bool.{Bool, true, false}
+use mathlib.Core.List.{List, _∷_, _++_}
 use lib.ListN.{length, getD, take, drop}
-use Rattle.definitions.specs.Shape.{Numeric, Shape, shape, Element, no-list, list-of, Record, no-rec, rec-of, Fields, element-of, record-of, has-list, has-rec, only-list, ascending, ascending-element, ascending-record, ascending-fields, forms, forms-element, forms-record, forms-fields, levels, levels-element, levels-fields}
-use Rattle.definitions.specs.Join.{join-numeric, join, join-element, join-record}
-use Rattle.laws.specs.Bools.{and-intro}
+use Rattle.definitions.specs.Shape.{Numeric, Shape, shape, Element, no-list, list-of, Record, no-rec, rec-of, Fields, element-of, record-of, has-list, has-rec, ascending, forms, forms-fields, levels}
+use Rattle.definitions.specs.Join.{join, join-element, join-record}
 use Rattle.laws.specs.OrderInduction.{ascending-of-element, ascending-of-record}
-use Rattle.laws.specs.SizeLaws.{forms-mono}
-use Rattle.laws.specs.JoinParts.{element-of-join, record-of-join}
-use Rattle.laws.specs.JoinLaws.{join-ascending, join-upper-left}
-use Rattle.shapes.specs.Shapes.{bit, has-bit, kind-bits, head-of, head-word, Shape-rows, Element-rows, element-rows, Record-rows, record-rows, Field-rows, Stands, Fields-stand, size-at, members-at}
-use Rattle.shapes.specs.ShapesLaws.{kind-bits-lt, union-bits, length-shape-rows, length-field-rows, stands-kinds, stands-size, stands-within, stands-element, stands-members, members-at-is, fields-end, forms-some}
+use Rattle.shapes.specs.Shapes.{bit, has-bit, Shape-rows, element-rows, record-rows, Field-rows, Fields-stand, size-at, members-at}
+use Rattle.shapes.specs.ShapesLaws.{stands-size, stands-within, stands-element, stands-members, members-at-is}
 use Rattle.join.specs.declared.Joined.{Joined}
 use Rattle.join.specs.declared.Joined.the-variants.{Grown, Full}
-use Rattle.join.specs.Replacing.{Put, Over, Puts, Becomes}
-use Rattle.join.specs.ReplacingLaws.{put-map, replaced-then}
+use Rattle.join.specs.Replacing.{Put, Over}
+use Rattle.join.specs.ReplacingLaws.{put-map}
 use Rattle.join.specs.Merge.{merge}
-use Rattle.join.specs.Joining.{Walks, Mergeable, Merges, Both, Joins, Joinable, Joins-to, join-records, join-elements}
+use Rattle.join.specs.Joining.{Walks, Mergeable, Merges, Joins, Joinable, Joins-to, join-records, join-elements}
 use Rattle.join.proofs.Answers.{grown-of, full-of}
-use Rattle.join.proofs.Rows.{record-changed, element-changed, unchanged, headed, reheaded}
-use Rattle.join.proofs.Members.{put-stands}
+use Rattle.join.proofs.Rows.{record-changed, element-changed, unchanged}
 use Rattle.join.proofs.Parts.{clash, bit-list, bit-rec}
 
 pub left-some : (t : Shape) (left : ℕ) → levels t ≤ left → 0 < left
@@ -38,6 +32,12 @@ pub record Spans (shapes second : List ℕ) (row other at end from to : ℕ) : T
   pub end-is : end ≡ row + size-at shapes row
   pub from-is : from ≡ members-at second other
   pub to-is : to ≡ other + size-at second other
+
+-- from where on, and how many words
+pub spans
+    : (shapes second : List ℕ) (row other : ℕ) {at size from size′ : ℕ} → at ≡ members-at shapes row → size ≡ size-at shapes row
+    → from ≡ members-at second other → size′ ≡ size-at second other → Spans shapes second row other at (row + size) from (other + size′)
+spans shapes second row other e f g h = record { at-is = e; end-is = ap (λ (i : ℕ). row + i) f; from-is = g; to-is = ap (λ (i : ℕ). other + i) h }
 
 fields-as
     : {t p : List ℕ} {row end row′ end′ : ℕ} {fs : Fields} → Fields-stand t p row end fs → row′ ≡ row → end′ ≡ end

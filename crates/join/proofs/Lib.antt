@@ -7,6 +7,7 @@ pub mod Answers
 pub mod Members
 pub mod Parts
 pub mod Merging
+pub mod Loop
 pub mod Turning
 pub mod Joining
 pub mod Whole

@@ -1,25 +1,20 @@
 -- The proof of the cycle of calls {join_at, join_element, join_members, join_next, join_record}. The nesting left falls from
 -- a shape to its members and its element; the loop's invariant is that `Merging` holds of every members that stand there. Assumes nothing.
-use Prim.Native.Nat.{ℕ, _+_, _-_, _*_, _%_, _≤_, _<_}
+use Prim.Native.Nat.{ℕ, _+_, _-_, _*_, _<_}
 use native.Mathlib.Omega.{arith}
-use mathlib.Core.Path.{_≡_, refl, sym, ap, _∙_}
-use mathlib.Core.Bool.{true, false}
-use mathlib.Core.List.{List}
+use mathlib.Core.Path.{refl, sym, _∙_}
 use borrow.Author.Needs.{needs}
 use borrow.Fn.Kinds.{In}
 use borrow.Fn.PlainCycle.{Measures, is, falls, and}
 use denote.Ref.{now}
-use lib.ListN.{length}
-use Rattle.definitions.specs.Shape.{Fields, forms, forms-fields}
-use Rattle.definitions.specs.Join.{join}
-use Rattle.shapes.specs.Shapes.{has-bit, Shape-rows}
-use Rattle.shapes.specs.ShapesLaws.{stands-size, stands-within, stands-row, fields-end, fields-within}
-use Rattle.join.specs.Joining.{Walks, Member-rows, join-records, join-elements}
-use Rattle.join.proofs.Answers.{grown-of, full-of, denied, granted}
+use Rattle.shapes.specs.ShapesLaws.{stands-size, stands-within, stands-row, fields-end}
+use Rattle.join.specs.Joining.{join-records, join-elements}
+use Rattle.join.proofs.Answers.{joined-grown, joined-full, denied, granted}
 use Rattle.join.proofs.Parts.{head-room, members-within}
-use Rattle.join.proofs.Merging.{Merging, merging, merging-end, merging-walks, merging-full, merging-on, merging-less, merged}
+use Rattle.join.proofs.Merging.{merging, merged}
+use Rattle.join.proofs.Loop.{Underway, loop-bounds, loop-turns, loop-full, loop-again, loop-less}
 use Rattle.join.proofs.Turning.{less-asks, less-turned, greater-asks, greater-turned, equal-asks, equal-turned}
-use Rattle.join.proofs.Joining.{left-some, Spans, record-none, record-asks, record-full, record-inner, record-grown, element-none, element-asks, element-full, element-inner, element-grown}
+use Rattle.join.proofs.Joining.{left-some, spans, record-none, record-asks, record-full, record-inner, record-grown, element-none, element-asks, element-full, element-inner, element-grown}
 use Rattle.join.proofs.Whole.{members-full, members-joins, elements-full, head-asks, whole-grown}
 use Rattle.join.proofs.join_at.Reads as join-at
 use Rattle.join.proofs.join_at.Kinds as join-at-kinds
@@ -198,23 +193,19 @@ join-at-same-length t c =
 
 join-at-returns : (t : ℕ) → join-at-lts.Need-returns (join-at-claims t) (join-at-at t) join-at.Post
 join-at-returns t c p m k a b j =
-    let s = c .before .before .before .before .before .before .before .before .before .args in
-    let w = c .before .before .before .before .before .before .before .before .before .pre .1 in
     members-full j
-    (full-of (now (s .shapes)) (c .before .before .before .before .join-record .last .0) (s .used) (s .row) (2 * forms a) (2 * forms (join-records a b)) (Shape-rows p m (join-records a b)) (c .enum-told .given .1) (c .before .before .before .before .join-record .ensures p m k a b j))
+    (joined-full join-records (c .before .before .before .before .join-record .last .0) (c .enum-told .given .1) (c .before .before .before .before .join-record .ensures) j)
 
 join-at-add-join-element : (t : ℕ) → join-at-lts.Need-add-join-element (join-at-claims t) (join-at-at t) join-at.Post
 join-at-add-join-element t c =
-    let s = c .before .before .before .before .before .before .before .before .before .before .before .args in
     let w = c .before .before .before .before .before .before .before .before .before .before .before .pre .1 in
-    let q = grown-of (now (s .shapes)) (c .before .before .before .before .before .before .join-record .last .0) (s .used) (s .row) (2 * forms (w .ours)) (2 * forms (join-records (w .ours) (w .theirs))) (Shape-rows (w .p) (w .name) (join-records (w .ours) (w .theirs))) (c .before .before .r .given .1) (c .before .before .before .before .before .before .join-record .ensures (w .p) (w .name) (w .other-name) (w .ours) (w .theirs) (w .joins)) in
+    let q = joined-grown join-records (c .before .before .before .before .before .before .join-record .last .0) (c .before .before .r .given .1) (c .before .before .before .before .before .before .join-record .ensures) (w .joins) in
     omega (arith, q .replaced .within, w .small)
 
 join-at-join-element-requires : (t : ℕ) → join-at-lts.Need-join-element-requires (join-at-claims t) (join-at-at t) join-at.Post
 join-at-join-element-requires t c κs =
-    let s = c .before .before .before .before .before .before .before .before .before .before .before .args in
     let w = c .before .before .before .before .before .before .before .before .before .before .before .pre .1 in
-    let q = grown-of (now (s .shapes)) (c .before .before .before .before .before .before .join-record .last .0) (s .used) (s .row) (2 * forms (w .ours)) (2 * forms (join-records (w .ours) (w .theirs))) (Shape-rows (w .p) (w .name) (join-records (w .ours) (w .theirs))) (c .before .before .r .given .1) (c .before .before .before .before .before .before .join-record .ensures (w .p) (w .name) (w .other-name) (w .ours) (w .theirs) (w .joins)) in (
+    let q = joined-grown join-records (c .before .before .before .before .before .before .join-record .last .0) (c .before .before .r .given .1) (c .before .before .before .before .before .before .join-record .ensures) (w .joins) in (
       omega (arith, c .before .before .before .before .before .before .before .before .before .before .before .pre .0),
       record {
         p = w .p;
@@ -241,11 +232,9 @@ join-at-same-length-2 t c =
 
 join-at-returns-2 : (t : ℕ) → join-at-lts.Need-returns-2 (join-at-claims t) (join-at-at t) join-at.Post
 join-at-returns-2 t c p m k a b j =
-    let s = c .before .before .before .before .before .before .before .before .before .before .before .before .before .before .before .before .args in
-    let w = c .before .before .before .before .before .before .before .before .before .before .before .before .before .before .before .before .pre .1 in
-    let q = grown-of (now (s .shapes)) (c .before .before .before .before .before .before .before .before .before .before .before .join-record .last .0) (s .used) (s .row) (2 * forms a) (2 * forms (join-records a b)) (Shape-rows p m (join-records a b)) (c .before .before .before .before .before .before .before .r .given .1) (c .before .before .before .before .before .before .before .before .before .before .before .join-record .ensures p m k a b j) in
+    let q = joined-grown join-records (c .before .before .before .before .before .before .before .before .before .before .before .join-record .last .0) (c .before .before .before .before .before .before .before .r .given .1) (c .before .before .before .before .before .before .before .before .before .before .before .join-record .ensures) j in
     elements-full j q
-    (full-of (c .before .before .before .before .before .before .before .before .before .before .before .join-record .last .0) (c .before .before .before .before .join-element .last .0) (s .used + c .before .before .before .before .before .before .before .r .given .0 .0) (s .row) (2 * forms (join-records a b)) (2 * forms (join-elements (join-records a b) b)) (Shape-rows p m (join-elements (join-records a b) b)) (c .enum-told2 .given .1) (c .before .before .before .before .join-element .ensures p m k (join-records a b) b (members-joins j q)))
+    (joined-full join-elements (c .before .before .before .before .join-element .last .0) (c .enum-told2 .given .1) (c .before .before .before .before .join-element .ensures) (members-joins j q))
 
 join-at-kinds-requires : (t : ℕ) → join-at-lts.Need-kinds-requires (join-at-claims t) (join-at-at t) join-at.Post
 join-at-kinds-requires t c κs =
@@ -261,18 +250,16 @@ join-at-size-requires t c κs =
 
 join-at-put-head-requires : (t : ℕ) → join-at-lts.Need-put-head-requires (join-at-claims t) (join-at-at t) join-at.Post
 join-at-put-head-requires t c κs =
-    let s = c .before .before .before .before .before .before .before .before .before .before .before .before .before .before .before .before .before .before .before .before .before .before .before .args in
     let w = c .before .before .before .before .before .before .before .before .before .before .before .before .before .before .before .before .before .before .before .before .before .before .before .pre .1 in
-    let q = grown-of (now (s .shapes)) (c .before .before .before .before .before .before .before .before .before .before .before .before .before .before .before .before .before .before .join-record .last .0) (s .used) (s .row) (2 * forms (w .ours)) (2 * forms (join-records (w .ours) (w .theirs))) (Shape-rows (w .p) (w .name) (join-records (w .ours) (w .theirs))) (c .before .before .before .before .before .before .before .before .before .before .before .before .before .before .r .given .1) (c .before .before .before .before .before .before .before .before .before .before .before .before .before .before .before .before .before .before .join-record .ensures (w .p) (w .name) (w .other-name) (w .ours) (w .theirs) (w .joins)) in
-    let v = grown-of (c .before .before .before .before .before .before .before .before .before .before .before .before .before .before .before .before .before .before .join-record .last .0) (c .before .before .before .before .before .before .before .before .before .before .before .join-element .last .0) (s .used + c .before .before .before .before .before .before .before .before .before .before .before .before .before .before .r .given .0 .0) (s .row) (2 * forms (join-records (w .ours) (w .theirs))) (2 * forms (join-elements (join-records (w .ours) (w .theirs)) (w .theirs))) (Shape-rows (w .p) (w .name) (join-elements (join-records (w .ours) (w .theirs)) (w .theirs))) (c .before .before .before .before .before .before .before .r2 .given .1) (c .before .before .before .before .before .before .before .before .before .before .before .join-element .ensures (w .p) (w .name) (w .other-name) (join-records (w .ours) (w .theirs)) (w .theirs) (members-joins (w .joins) q)) in
+    let q = joined-grown join-records (c .before .before .before .before .before .before .before .before .before .before .before .before .before .before .before .before .before .before .join-record .last .0) (c .before .before .before .before .before .before .before .before .before .before .before .before .before .before .r .given .1) (c .before .before .before .before .before .before .before .before .before .before .before .before .before .before .before .before .before .before .join-record .ensures) (w .joins) in
+    let v = joined-grown join-elements (c .before .before .before .before .before .before .before .before .before .before .before .join-element .last .0) (c .before .before .before .before .before .before .before .r2 .given .1) (c .before .before .before .before .before .before .before .before .before .before .before .join-element .ensures) (members-joins (w .joins) q) in
     head-asks (w .joins) q v (c .before .before .before .before .kinds .ensures) (c .before .before .before .kinds2 .ensures) (c .before .size .ensures) (w .small)
 
 join-at-add-t18 : (t : ℕ) → join-at-lts.Need-add-t18 (join-at-claims t) (join-at-at t) join-at.Post
 join-at-add-t18 t c =
-    let s = c .before .before .before .before .before .before .before .before .before .before .before .before .before .before .before .before .before .before .before .before .before .before .before .before .before .before .args in
     let w = c .before .before .before .before .before .before .before .before .before .before .before .before .before .before .before .before .before .before .before .before .before .before .before .before .before .before .pre .1 in
-    let q = grown-of (now (s .shapes)) (c .before .before .before .before .before .before .before .before .before .before .before .before .before .before .before .before .before .before .before .before .before .join-record .last .0) (s .used) (s .row) (2 * forms (w .ours)) (2 * forms (join-records (w .ours) (w .theirs))) (Shape-rows (w .p) (w .name) (join-records (w .ours) (w .theirs))) (c .before .before .before .before .before .before .before .before .before .before .before .before .before .before .before .before .before .r .given .1) (c .before .before .before .before .before .before .before .before .before .before .before .before .before .before .before .before .before .before .before .before .before .join-record .ensures (w .p) (w .name) (w .other-name) (w .ours) (w .theirs) (w .joins)) in
-    let v = grown-of (c .before .before .before .before .before .before .before .before .before .before .before .before .before .before .before .before .before .before .before .before .before .join-record .last .0) (c .before .before .before .before .before .before .before .before .before .before .before .before .before .before .join-element .last .0) (s .used + c .before .before .before .before .before .before .before .before .before .before .before .before .before .before .before .before .before .r .given .0 .0) (s .row) (2 * forms (join-records (w .ours) (w .theirs))) (2 * forms (join-elements (join-records (w .ours) (w .theirs)) (w .theirs))) (Shape-rows (w .p) (w .name) (join-elements (join-records (w .ours) (w .theirs)) (w .theirs))) (c .before .before .before .before .before .before .before .before .before .before .r2 .given .1) (c .before .before .before .before .before .before .before .before .before .before .before .before .before .before .join-element .ensures (w .p) (w .name) (w .other-name) (join-records (w .ours) (w .theirs)) (w .theirs) (members-joins (w .joins) q)) in
+    let q = joined-grown join-records (c .before .before .before .before .before .before .before .before .before .before .before .before .before .before .before .before .before .before .before .before .before .join-record .last .0) (c .before .before .before .before .before .before .before .before .before .before .before .before .before .before .before .before .before .r .given .1) (c .before .before .before .before .before .before .before .before .before .before .before .before .before .before .before .before .before .before .before .before .before .join-record .ensures) (w .joins) in
+    let v = joined-grown join-elements (c .before .before .before .before .before .before .before .before .before .before .before .before .before .before .join-element .last .0) (c .before .before .before .before .before .before .before .before .before .before .r2 .given .1) (c .before .before .before .before .before .before .before .before .before .before .before .before .before .before .join-element .ensures) (members-joins (w .joins) q) in
     omega (arith, v .replaced .within, q .replaced .same, w .small)
 
 join-at-same-length-3 : (t : ℕ) → join-at-lts.Need-same-length-3 (join-at-claims t) (join-at-at t) join-at.Post
@@ -281,10 +268,8 @@ join-at-same-length-3 t c =
 
 join-at-returns-3 : (t : ℕ) → join-at-lts.Need-returns-3 (join-at-claims t) (join-at-at t) join-at.Post
 join-at-returns-3 t c p m k a b j =
-    let s = c .before .before .before .before .before .before .before .before .before .before .before .before .before .before .before .before .before .before .before .before .before .before .before .before .before .before .args in
-    let w = c .before .before .before .before .before .before .before .before .before .before .before .before .before .before .before .before .before .before .before .before .before .before .before .before .before .before .pre .1 in
-    let q = grown-of (now (s .shapes)) (c .before .before .before .before .before .before .before .before .before .before .before .before .before .before .before .before .before .before .before .before .before .join-record .last .0) (s .used) (s .row) (2 * forms a) (2 * forms (join-records a b)) (Shape-rows p m (join-records a b)) (c .before .before .before .before .before .before .before .before .before .before .before .before .before .before .before .before .before .r .given .1) (c .before .before .before .before .before .before .before .before .before .before .before .before .before .before .before .before .before .before .before .before .before .join-record .ensures p m k a b j) in
-    let v = grown-of (c .before .before .before .before .before .before .before .before .before .before .before .before .before .before .before .before .before .before .before .before .before .join-record .last .0) (c .before .before .before .before .before .before .before .before .before .before .before .before .before .before .join-element .last .0) (s .used + c .before .before .before .before .before .before .before .before .before .before .before .before .before .before .before .before .before .r .given .0 .0) (s .row) (2 * forms (join-records a b)) (2 * forms (join-elements (join-records a b) b)) (Shape-rows p m (join-elements (join-records a b) b)) (c .before .before .before .before .before .before .before .before .before .before .r2 .given .1) (c .before .before .before .before .before .before .before .before .before .before .before .before .before .before .join-element .ensures p m k (join-records a b) b (members-joins j q)) in
+    let q = joined-grown join-records (c .before .before .before .before .before .before .before .before .before .before .before .before .before .before .before .before .before .before .before .before .before .join-record .last .0) (c .before .before .before .before .before .before .before .before .before .before .before .before .before .before .before .before .before .r .given .1) (c .before .before .before .before .before .before .before .before .before .before .before .before .before .before .before .before .before .before .before .before .before .join-record .ensures) j in
+    let v = joined-grown join-elements (c .before .before .before .before .before .before .before .before .before .before .before .before .before .before .join-element .last .0) (c .before .before .before .before .before .before .before .before .before .before .r2 .given .1) (c .before .before .before .before .before .before .before .before .before .before .before .before .before .before .join-element .ensures) (members-joins j q) in
     whole-grown j q v (c .before .before .before .before .before .before .before .kinds .ensures) (c .before .before .before .before .before .before .kinds2 .ensures) (c .before .before .before .before .size .ensures) (c .before .before .put-head .ensures) (c .before .before .put-head .kept .0)
 
 join-element-kinds-requires : (t : ℕ) → join-element-lts.Need-kinds-requires (join-element-claims t) (join-element-at t) join-element.Post
@@ -297,7 +282,7 @@ join-element-has-requires t c κs =
 
 join-element-returns : (t : ℕ) → join-element-lts.Need-returns (join-element-claims t) (join-element-at t) join-element.Post
 join-element-returns t c p m k a b j =
-    element-none (ap (λ (i : ℕ). has-bit i 32) (sym (c .before .before .kinds .ensures)) ∙ sym (c .before .has .ensures) ∙ denied (c .before .has .result) (c .if1 .taken)) a b j
+    element-none (denied 32 (c .before .before .kinds .ensures) (sym (c .before .has .ensures)) (c .if1 .taken)) a b j
 
 join-element-kinds-requires-2 : (t : ℕ) → join-element-lts.Need-kinds-requires-2 (join-element-claims t) (join-element-at t) join-element.Post
 join-element-kinds-requires-2 t c κs =
@@ -309,12 +294,11 @@ join-element-has-requires-2 t c κs =
 
 join-element-put-element-requires : (t : ℕ) → join-element-lts.Need-put-element-requires (join-element-claims t) (join-element-at t) join-element.Post
 join-element-put-element-requires t c κs =
-    let s = c .before .before .before .before .before .before .before .before .before .before .before .args in
     let w = c .before .before .before .before .before .before .before .before .before .before .before .pre .1 in (
       record { p = w .p; name = w .name; other-name = w .other-name; ours = w .ours; theirs = w .theirs; both = w .joins .both; small = w .small },
       (
-        ap (λ (i : ℕ). has-bit i 32) (sym (c .before .before .before .kinds2 .ensures)) ∙ sym (c .before .before .has2 .ensures) ∙ denied (c .before .before .has2 .result) (c .before .if2 .taken),
-        ap (λ (i : ℕ). has-bit i 32) (sym (c .before .before .before .before .before .before .before .kinds .ensures)) ∙ sym (c .before .before .before .before .before .before .has .ensures) ∙ granted (c .before .before .before .before .before .before .has .result) (c .before .before .before .before .before .if1 .left),
+        denied 32 (c .before .before .before .kinds2 .ensures) (sym (c .before .before .has2 .ensures)) (c .before .if2 .taken),
+        granted 32 (c .before .before .before .before .before .before .before .kinds .ensures) (sym (c .before .before .before .before .before .before .has .ensures)) (c .before .before .before .before .before .if1 .left),
       ),
     )
 
@@ -328,13 +312,11 @@ join-element-returns-2 t c p m k a b j =
 
 join-element-add-join-at : (t : ℕ) → join-element-lts.Need-add-join-at (join-element-claims t) (join-element-at t) join-element.Post
 join-element-add-join-at t c =
-    let s = c .before .before .before .before .before .before .before .before .before .before .before .args in
     let w = c .before .before .before .before .before .before .before .before .before .before .before .pre .1 in
     omega (arith, stands-row (w .joins .both .ours), w .small)
 
 join-element-add-join-at-2 : (t : ℕ) → join-element-lts.Need-add-join-at-2 (join-element-claims t) (join-element-at t) join-element.Post
 join-element-add-join-at-2 t c =
-    let s = c .before .before .before .before .before .before .before .before .before .before .before .args in
     let w = c .before .before .before .before .before .before .before .before .before .before .before .pre .1 in
     omega (arith, stands-row (w .joins .both .theirs), c .before .before .before .before .before .before .before .before .before .before .before .good .1 .1 .1 .0 .0)
 
@@ -348,7 +330,7 @@ join-element-join-at-requires : (t : ℕ) → join-element-lts.Need-join-at-requ
 join-element-join-at-requires t c κs =
     let s = c .before .before .before .before .before .before .before .before .before .before .before .args in
     let w = c .before .before .before .before .before .before .before .before .before .before .before .pre .1 in
-    (omega (arith, c .before .before .before .before .before .before .before .before .before .before .before .pre .0, left-some (w .theirs) (s .left) (w .joins .nests)), element-asks (ap (λ (i : ℕ). has-bit i 32) (sym (c .before .before .before .kinds2 .ensures)) ∙ sym (c .before .before .has2 .ensures) ∙ granted (c .before .before .has2 .result) (c .before .if2 .left)) (ap (λ (i : ℕ). has-bit i 32) (sym (c .before .before .before .before .before .before .before .kinds .ensures)) ∙ sym (c .before .before .before .before .before .before .has .ensures) ∙ granted (c .before .before .before .before .before .before .has .result) (c .before .before .before .before .before .if1 .left)) (w .ours) (w .theirs) (w .joins) (w .small))
+    (omega (arith, c .before .before .before .before .before .before .before .before .before .before .before .pre .0, left-some (w .theirs) (s .left) (w .joins .nests)), element-asks (granted 32 (c .before .before .before .kinds2 .ensures) (sym (c .before .before .has2 .ensures)) (c .before .if2 .left)) (granted 32 (c .before .before .before .before .before .before .before .kinds .ensures) (sym (c .before .before .before .before .before .before .has .ensures)) (c .before .before .before .before .before .if1 .left)) (w .ours) (w .theirs) (w .joins) (w .small))
 
 join-element-enum-known-r : (t : ℕ) → join-element-lts.Need-enum-known-r (join-element-claims t) (join-element-at t) join-element.Post
 join-element-enum-known-r t c =
@@ -364,13 +346,13 @@ join-element-same-length-2 t c =
 
 join-element-returns-3 : (t : ℕ) → join-element-lts.Need-returns-3 (join-element-claims t) (join-element-at t) join-element.Post
 join-element-returns-3 t c p m k u v j =
-    element-full (ap (λ (i : ℕ). has-bit i 32) (sym (c .before .before .before .before .before .before .before .before .kinds2 .ensures)) ∙ sym (c .before .before .before .before .before .before .before .has2 .ensures) ∙ granted (c .before .before .before .before .before .before .before .has2 .result) (c .before .before .before .before .before .before .if2 .left)) (ap (λ (i : ℕ). has-bit i 32) (sym (c .before .before .before .before .before .before .before .before .before .before .before .before .kinds .ensures)) ∙ sym (c .before .before .before .before .before .before .before .before .before .before .before .has .ensures) ∙ granted (c .before .before .before .before .before .before .before .before .before .before .before .has .result) (c .before .before .before .before .before .before .before .before .before .before .if1 .left)) (c .before .before .before .before .join-at .last .0) (c .before .before .before .before .join-at .result) (c .before .before .before .before .join-at .ensures) (c .enum-told .given .1) u v j
+    element-full (granted 32 (c .before .before .before .before .before .before .before .before .kinds2 .ensures) (sym (c .before .before .before .before .before .before .before .has2 .ensures)) (c .before .before .before .before .before .before .if2 .left)) (granted 32 (c .before .before .before .before .before .before .before .before .before .before .before .before .kinds .ensures) (sym (c .before .before .before .before .before .before .before .before .before .before .before .has .ensures)) (c .before .before .before .before .before .before .before .before .before .before .if1 .left)) (c .before .before .before .before .join-at .last .0) (c .before .before .before .before .join-at .result) (c .before .before .before .before .join-at .ensures) (c .enum-told .given .1) u v j
 
 join-element-grow-head-requires : (t : ℕ) → join-element-lts.Need-grow-head-requires (join-element-claims t) (join-element-at t) join-element.Post
 join-element-grow-head-requires t c κs =
     let s = c .before .before .before .before .before .before .before .before .before .before .before .before .before .before .before .before .before .before .args in
     let w = c .before .before .before .before .before .before .before .before .before .before .before .before .before .before .before .before .before .before .pre .1 in
-    let i = element-inner (ap (λ (i : ℕ). has-bit i 32) (sym (c .before .before .before .before .before .before .before .before .before .before .kinds2 .ensures)) ∙ sym (c .before .before .before .before .before .before .before .before .before .has2 .ensures) ∙ granted (c .before .before .before .before .before .before .before .before .before .has2 .result) (c .before .before .before .before .before .before .before .before .if2 .left)) (ap (λ (i : ℕ). has-bit i 32) (sym (c .before .before .before .before .before .before .before .before .before .before .before .before .before .before .kinds .ensures)) ∙ sym (c .before .before .before .before .before .before .before .before .before .before .before .before .before .has .ensures) ∙ granted (c .before .before .before .before .before .before .before .before .before .before .before .before .before .has .result) (c .before .before .before .before .before .before .before .before .before .before .before .before .if1 .left)) (c .before .before .before .before .before .before .join-at .last .0) (c .before .before .before .before .before .before .join-at .result) (c .before .before .before .before .before .before .join-at .ensures) (c .before .before .r .given .1) (w .ours) (w .theirs) (w .joins) in
+    let i = element-inner (granted 32 (c .before .before .before .before .before .before .before .before .before .before .kinds2 .ensures) (sym (c .before .before .before .before .before .before .before .before .before .has2 .ensures)) (c .before .before .before .before .before .before .before .before .if2 .left)) (granted 32 (c .before .before .before .before .before .before .before .before .before .before .before .before .before .before .kinds .ensures) (sym (c .before .before .before .before .before .before .before .before .before .before .before .before .before .has .ensures)) (c .before .before .before .before .before .before .before .before .before .before .before .before .if1 .left)) (c .before .before .before .before .before .before .join-at .last .0) (c .before .before .before .before .before .before .join-at .result) (c .before .before .before .before .before .before .join-at .ensures) (c .before .before .r .given .1) (w .ours) (w .theirs) (w .joins) in
     head-room (s .row) 0 (i .2 .replaced) (w .joins .both .ours) (omega arith) (i .3) (w .joins .both .used-within) (w .small) (omega arith)
 
 join-element-same-length-3 : (t : ℕ) → join-element-lts.Need-same-length-3 (join-element-claims t) (join-element-at t) join-element.Post
@@ -379,12 +361,11 @@ join-element-same-length-3 t c =
 
 join-element-returns-4 : (t : ℕ) → join-element-lts.Need-returns-4 (join-element-claims t) (join-element-at t) join-element.Post
 join-element-returns-4 t c p m k u v j =
-    element-grown (ap (λ (i : ℕ). has-bit i 32) (sym (c .before .before .before .before .before .before .before .before .before .before .before .before .before .kinds2 .ensures)) ∙ sym (c .before .before .before .before .before .before .before .before .before .before .before .before .has2 .ensures) ∙ granted (c .before .before .before .before .before .before .before .before .before .before .before .before .has2 .result) (c .before .before .before .before .before .before .before .before .before .before .before .if2 .left)) (ap (λ (i : ℕ). has-bit i 32) (sym (c .before .before .before .before .before .before .before .before .before .before .before .before .before .before .before .before .before .kinds .ensures)) ∙ sym (c .before .before .before .before .before .before .before .before .before .before .before .before .before .before .before .before .has .ensures) ∙ granted (c .before .before .before .before .before .before .before .before .before .before .before .before .before .before .before .before .has .result) (c .before .before .before .before .before .before .before .before .before .before .before .before .before .before .before .if1 .left)) (c .before .before .before .before .before .before .before .before .before .join-at .last .0) (c .before .before .before .before .before .before .before .before .before .join-at .result) (c .before .before .before .before .before .before .before .before .before .join-at .ensures) (c .before .before .before .before .before .r .given .1) (c .before .before .grow-head .ensures) (c .before .before .grow-head .kept .0) u v j
+    element-grown (granted 32 (c .before .before .before .before .before .before .before .before .before .before .before .before .before .kinds2 .ensures) (sym (c .before .before .before .before .before .before .before .before .before .before .before .before .has2 .ensures)) (c .before .before .before .before .before .before .before .before .before .before .before .if2 .left)) (granted 32 (c .before .before .before .before .before .before .before .before .before .before .before .before .before .before .before .before .before .kinds .ensures) (sym (c .before .before .before .before .before .before .before .before .before .before .before .before .before .before .before .before .has .ensures)) (c .before .before .before .before .before .before .before .before .before .before .before .before .before .before .before .if1 .left)) (c .before .before .before .before .before .before .before .before .before .join-at .last .0) (c .before .before .before .before .before .before .before .before .before .join-at .result) (c .before .before .before .before .before .before .before .before .before .join-at .ensures) (c .before .before .before .before .before .r .given .1) (c .before .before .grow-head .ensures) (c .before .before .grow-head .kept .0) u v j
 
 abbrev join-members-Inv-loop : join-members-lts.InvT-loop
 join-members-Inv-loop shapes₀ used row end second other to pool left i₀ j₀ words₀ shapes i j words =
-    (p : List ℕ) (fs gs : Fields) → Walks shapes₀ second pool p used row end other to left fs gs
-    → Merging shapes₀ second pool used row to left p fs gs shapes words i j
+    Underway shapes₀ second pool used row end other to left shapes words i j
 
 abbrev join-members-μ-loop : join-members-lts.MeasureT-loop
 join-members-μ-loop shapes₀ used row end second other to pool left i₀ j₀ words₀ shapes i j words =
@@ -396,47 +377,23 @@ join-members-loop-holds t c p fs gs w =
 
 join-members-add-loop : (t : ℕ) → join-members-lts.Need-add-loop (join-members-claims t) (join-members-at t) join-members.Post join-members-Inv-loop join-members-μ-loop
 join-members-add-loop t c =
-    let s = c .before .before .before .before .args in
-    let w = c .before .before .before .before .pre .1 in
-    let l = c .loop in
-    let m = l .inv (w .p) (w .ours) (w .theirs) (w .walks) in
-    let e = fields-end (w .walks .walk .ours) in
-    let g = merging-walks m (s .end) e in
-    let h = merging-end m (s .end) e in
-    omega (arith, g .within, g .used-within, m .same, w .small, h .0, h .1, fields-within (w .walks .walk .theirs) (w .walks .there), c .before .before .before .before .good .1 .1 .1 .1 .0 .0)
+    let b = loop-bounds (c .before .before .before .before .pre .1) (c .loop .inv) in
+    omega (arith, c .before .before .before .before .good .1 .1 .1 .1 .0 .0)
 
 join-members-add-loop-2 : (t : ℕ) → join-members-lts.Need-add-loop-2 (join-members-claims t) (join-members-at t) join-members.Post join-members-Inv-loop join-members-μ-loop
 join-members-add-loop-2 t c =
-    let s = c .before .before .before .before .args in
-    let w = c .before .before .before .before .pre .1 in
-    let l = c .loop in
-    let m = l .inv (w .p) (w .ours) (w .theirs) (w .walks) in
-    let e = fields-end (w .walks .walk .ours) in
-    let g = merging-walks m (s .end) e in
-    let h = merging-end m (s .end) e in
-    omega (arith, g .within, g .used-within, m .same, w .small, h .0, h .1, fields-within (w .walks .walk .theirs) (w .walks .there), c .before .before .before .before .good .1 .1 .1 .1 .0 .0)
+    let b = loop-bounds (c .before .before .before .before .pre .1) (c .loop .inv) in
+    omega (arith, c .before .before .before .before .good .1 .1 .1 .1 .0 .0)
 
 join-members-add-loop-3 : (t : ℕ) → join-members-lts.Need-add-loop-3 (join-members-claims t) (join-members-at t) join-members.Post join-members-Inv-loop join-members-μ-loop
 join-members-add-loop-3 t c =
-    let s = c .before .before .before .before .args in
-    let w = c .before .before .before .before .pre .1 in
-    let l = c .loop in
-    let m = l .inv (w .p) (w .ours) (w .theirs) (w .walks) in
-    let e = fields-end (w .walks .walk .ours) in
-    let g = merging-walks m (s .end) e in
-    let h = merging-end m (s .end) e in
-    omega (arith, g .within, g .used-within, m .same, w .small, h .0, h .1, fields-within (w .walks .walk .theirs) (w .walks .there), c .before .before .before .before .good .1 .1 .1 .1 .0 .0)
+    let b = loop-bounds (c .before .before .before .before .pre .1) (c .loop .inv) in
+    omega (arith, c .before .before .before .before .good .1 .1 .1 .1 .0 .0)
 
 join-members-add-next-member : (t : ℕ) → join-members-lts.Need-add-next-member (join-members-claims t) (join-members-at t) join-members.Post join-members-Inv-loop join-members-μ-loop
 join-members-add-next-member t c =
-    let s = c .before .before .before .before .before .before .args in
-    let w = c .before .before .before .before .before .before .pre .1 in
-    let l = c .before .before .loop in
-    let m = l .inv (w .p) (w .ours) (w .theirs) (w .walks) in
-    let e = fields-end (w .walks .walk .ours) in
-    let g = merging-walks m (s .end) e in
-    let h = merging-end m (s .end) e in
-    omega (arith, g .within, g .used-within, m .same, w .small, h .0, h .1, fields-within (w .walks .walk .theirs) (w .walks .there), c .before .before .before .before .before .before .good .1 .1 .1 .1 .0 .0)
+    let b = loop-bounds (c .before .before .before .before .before .before .pre .1) (c .before .before .loop .inv) in
+    omega (arith, c .before .before .before .before .before .before .good .1 .1 .1 .1 .0 .0)
 
 join-members-next-member-requires : (t : ℕ) → join-members-lts.Need-next-member-requires (join-members-claims t) (join-members-at t) join-members.Post join-members-Inv-loop join-members-μ-loop
 join-members-next-member-requires t c κs =
@@ -444,36 +401,14 @@ join-members-next-member-requires t c κs =
 
 join-members-add-join-next : (t : ℕ) → join-members-lts.Need-add-join-next (join-members-claims t) (join-members-at t) join-members.Post join-members-Inv-loop join-members-μ-loop
 join-members-add-join-next t c =
-    let s = c .before .before .before .before .before .before .before .before .args in
-    let w = c .before .before .before .before .before .before .before .before .pre .1 in
-    let l = c .before .before .before .before .loop in
-    let m = l .inv (w .p) (w .ours) (w .theirs) (w .walks) in
-    let e = fields-end (w .walks .walk .ours) in
-    let g = merging-walks m (s .end) e in
-    let h = merging-end m (s .end) e in
-    omega (arith, g .within, g .used-within, m .same, w .small, h .0, h .1, fields-within (w .walks .walk .theirs) (w .walks .there), c .before .before .before .before .before .before .before .before .good .1 .1 .1 .1 .0 .0)
+    let b = loop-bounds (c .before .before .before .before .before .before .before .before .pre .1) (c .before .before .before .before .loop .inv) in
+    omega (arith, c .before .before .before .before .before .before .before .before .good .1 .1 .1 .1 .0 .0)
 
 join-members-join-next-requires : (t : ℕ) → join-members-lts.Need-join-next-requires (join-members-claims t) (join-members-at t) join-members.Post join-members-Inv-loop join-members-μ-loop
-join-members-join-next-requires t c κs =
-    let s = c .before .before .before .before .before .before .before .before .args in
-    let w = c .before .before .before .before .before .before .before .before .pre .1 in
-    let l = c .before .before .before .before .loop in
-    let m = l .inv (w .p) (w .ours) (w .theirs) (w .walks) in
-    let e = fields-end (w .walks .walk .ours) in
-    let g = merging-walks m (s .end) e in
-    let h = merging-end m (s .end) e in (
-      omega (arith, c .before .before .before .before .before .before .before .before .pre .0),
-      record {
-        p = w .p;
-        end = s .end + l .words;
-        to = s .to;
-        ours = m .ours;
-        theirs = m .theirs;
-        walks = g;
-        next = c .before .next-member .ensures (w .p) (m .ours) (m .theirs) (g .walk) (omega (arith, c .before .before .before .loop-test .taken));
-        small = omega (arith, m .same, w .small);
-      },
-    )
+join-members-join-next-requires t c κs = (
+  omega (arith, c .before .before .before .before .before .before .before .before .pre .0),
+  loop-turns (c .before .before .before .before .loop .inv) (c .before .next-member .ensures) (c .before .before .before .loop-test .taken) (c .before .before .before .before .before .before .before .before .pre .1),
+)
 
 join-members-enum-known-r : (t : ℕ) → join-members-lts.Need-enum-known-r (join-members-claims t) (join-members-at t) join-members.Post join-members-Inv-loop join-members-μ-loop
 join-members-enum-known-r t c =
@@ -485,25 +420,11 @@ join-members-enum-told t c =
 
 join-members-same-length : (t : ℕ) → join-members-lts.Need-same-length (join-members-claims t) (join-members-at t) join-members.Post join-members-Inv-loop join-members-μ-loop
 join-members-same-length t c =
-    let s = c .before .before .before .before .before .before .before .before .before .before .before .before .before .args in
-    let w = c .before .before .before .before .before .before .before .before .before .before .before .before .before .pre .1 in
-    let l = c .before .before .before .before .before .before .before .before .before .loop in
-    let m = l .inv (w .p) (w .ours) (w .theirs) (w .walks) in
-    let e = fields-end (w .walks .walk .ours) in
-    let g = merging-walks m (s .end) e in
-    let h = merging-end m (s .end) e in
-    c .before .before .before .before .join-next .kept .0 ∙ m .same
+    c .before .before .before .before .join-next .kept .0 ∙ loop-bounds (c .before .before .before .before .before .before .before .before .before .before .before .before .before .pre .1) (c .before .before .before .before .before .before .before .before .before .loop .inv) .same
 
 join-members-returns : (t : ℕ) → join-members-lts.Need-returns (join-members-claims t) (join-members-at t) join-members.Post join-members-Inv-loop join-members-μ-loop
-join-members-returns t c p fs gs v =
-    let s = c .before .before .before .before .before .before .before .before .before .before .before .before .before .args in
-    let l = c .before .before .before .before .before .before .before .before .before .loop in
-    let m = l .inv p fs gs v in
-    let e = fields-end (v .walk .ours) in
-    let g = merging-walks m (s .end) e in
-    let x = c .before .before .before .before .before .before .next-member .ensures p (m .ours) (m .theirs) (g .walk) (omega (arith, c .before .before .before .before .before .before .before .before .loop-test .taken)) in
-    merging-full m (x .turn)
-    (full-of (l .shapes) (c .before .before .before .before .join-next .last .0) (s .used + l .words) (l .i) (x .old) (2 * forms (x .shape)) (Member-rows p (x .name) (x .shape)) (c .enum-told .given .1) (c .before .before .before .before .join-next .ensures p (s .end + l .words) (s .to) (m .ours) (m .theirs) (x .name) (x .shape) (x .old) (x .ours) (x .theirs) g (x .turn)))
+join-members-returns t c =
+    loop-full (c .before .before .before .before .before .before .before .before .before .loop .inv) (c .before .before .before .before .before .before .next-member .ensures) (c .before .before .before .before .before .before .before .before .loop-test .taken) (c .before .before .before .before .join-next .last .0) (c .before .before .before .before .join-next .ensures) (c .enum-told .given .1)
 
 join-members-size-requires : (t : ℕ) → join-members-lts.Need-size-requires (join-members-claims t) (join-members-at t) join-members.Post join-members-Inv-loop join-members-μ-loop
 join-members-size-requires t c κs =
@@ -511,87 +432,34 @@ join-members-size-requires t c κs =
 
 join-members-add-i : (t : ℕ) → join-members-lts.Need-add-i (join-members-claims t) (join-members-at t) join-members.Post join-members-Inv-loop join-members-μ-loop
 join-members-add-i t c =
-    let s = c .before .before .before .before .before .before .before .before .before .before .before .before .before .before .before .before .args in
-    let w = c .before .before .before .before .before .before .before .before .before .before .before .before .before .before .before .before .pre .1 in
-    let p = w .p in
-    let v = w .walks in
-    let l = c .before .before .before .before .before .before .before .before .before .before .before .before .loop in
-    let m = l .inv (w .p) (w .ours) (w .theirs) (w .walks) in
-    let e = fields-end (v .walk .ours) in
-    let g = merging-walks m (s .end) e in
-    let x = c .before .before .before .before .before .before .before .before .before .next-member .ensures p (m .ours) (m .theirs) (g .walk) (omega (arith, c .before .before .before .before .before .before .before .before .before .before .before .loop-test .taken)) in
-    let q = grown-of (l .shapes) (c .before .before .before .before .before .before .before .join-next .last .0) (s .used + l .words) (l .i) (x .old) (2 * forms (x .shape)) (Member-rows p (x .name) (x .shape)) (c .before .before .before .r .given .1) (c .before .before .before .before .before .before .before .join-next .ensures p (s .end + l .words) (s .to) (m .ours) (m .theirs) (x .name) (x .shape) (x .old) (x .ours) (x .theirs) g (x .turn)) in
-    omega (arith, merging-less m (x .turn) q (c .size .result) _ (c .size .ensures) refl .0, merging-less m (x .turn) q (c .size .result) _ (c .size .ensures) refl .2, e, v .within, q .replaced .within, m .same, w .small)
+    let l = loop-bounds (c .before .before .before .before .before .before .before .before .before .before .before .before .before .before .before .before .pre .1) (loop-again (c .before .before .before .before .before .before .before .before .before .before .before .before .loop .inv) (c .before .before .before .before .before .before .before .before .before .next-member .ensures) (c .before .before .before .before .before .before .before .before .before .before .before .loop-test .taken) (c .before .before .before .before .before .before .before .join-next .last .0) (c .before .before .before .before .before .before .before .join-next .ensures) (c .before .before .before .r .given .1) (c .size .result) _ (c .size .ensures) refl) in
+    omega arith
 
 join-members-passed-requires : (t : ℕ) → join-members-lts.Need-passed-requires (join-members-claims t) (join-members-at t) join-members.Post join-members-Inv-loop join-members-μ-loop
 join-members-passed-requires t c κs =
     search needs
 
+join-members-loop-again : (t : ℕ) → join-members-lts.Need-loop-again (join-members-claims t) (join-members-at t) join-members.Post join-members-Inv-loop join-members-μ-loop
+join-members-loop-again t c =
+    loop-again (c .before .before .before .before .before .before .before .before .before .before .before .before .before .loop .inv) (c .before .before .before .before .before .before .before .before .before .before .next-member .ensures) (c .before .before .before .before .before .before .before .before .before .before .before .before .loop-test .taken) (c .before .before .before .before .before .before .before .before .join-next .last .0) (c .before .before .before .before .before .before .before .before .join-next .ensures) (c .before .before .before .before .r .given .1) (c .before .size .result) (c .passed .result) (c .before .size .ensures) (c .passed .ensures)
+
 join-members-add-j : (t : ℕ) → join-members-lts.Need-add-j (join-members-claims t) (join-members-at t) join-members.Post join-members-Inv-loop join-members-μ-loop
 join-members-add-j t c =
-    let s = c .before .before .before .before .before .before .before .before .before .before .before .before .before .before .before .before .before .args in
-    let w = c .before .before .before .before .before .before .before .before .before .before .before .before .before .before .before .before .before .pre .1 in
-    let p = w .p in
-    let v = w .walks in
-    let l = c .before .before .before .before .before .before .before .before .before .before .before .before .before .loop in
-    let m = l .inv (w .p) (w .ours) (w .theirs) (w .walks) in
-    let e = fields-end (v .walk .ours) in
-    let g = merging-walks m (s .end) e in
-    let x = c .before .before .before .before .before .before .before .before .before .before .next-member .ensures p (m .ours) (m .theirs) (g .walk) (omega (arith, c .before .before .before .before .before .before .before .before .before .before .before .before .loop-test .taken)) in
-    let q = grown-of (l .shapes) (c .before .before .before .before .before .before .before .before .join-next .last .0) (s .used + l .words) (l .i) (x .old) (2 * forms (x .shape)) (Member-rows p (x .name) (x .shape)) (c .before .before .before .before .r .given .1) (c .before .before .before .before .before .before .before .before .join-next .ensures p (s .end + l .words) (s .to) (m .ours) (m .theirs) (x .name) (x .shape) (x .old) (x .ours) (x .theirs) g (x .turn)) in
-    omega (arith, merging-less m (x .turn) q (c .before .size .result) (c .passed .result) (c .before .size .ensures) (c .passed .ensures) .3, fields-within (v .walk .theirs) (v .there), c .before .before .before .before .before .before .before .before .before .before .before .before .before .before .before .before .before .good .1 .1 .1 .1 .0 .0)
+    let l = loop-bounds (c .before .before .before .before .before .before .before .before .before .before .before .before .before .before .before .before .before .pre .1) (join-members-loop-again t c) in
+    omega (arith, c .before .before .before .before .before .before .before .before .before .before .before .before .before .before .before .before .before .good .1 .1 .1 .1 .0 .0)
 
 join-members-add-words : (t : ℕ) → join-members-lts.Need-add-words (join-members-claims t) (join-members-at t) join-members.Post join-members-Inv-loop join-members-μ-loop
 join-members-add-words t c =
-    let s = c .before .before .before .before .before .before .before .before .before .before .before .before .before .before .before .before .before .args in
-    let w = c .before .before .before .before .before .before .before .before .before .before .before .before .before .before .before .before .before .pre .1 in
-    let p = w .p in
-    let v = w .walks in
-    let l = c .before .before .before .before .before .before .before .before .before .before .before .before .before .loop in
-    let m = l .inv (w .p) (w .ours) (w .theirs) (w .walks) in
-    let e = fields-end (v .walk .ours) in
-    let g = merging-walks m (s .end) e in
-    let x = c .before .before .before .before .before .before .before .before .before .before .next-member .ensures p (m .ours) (m .theirs) (g .walk) (omega (arith, c .before .before .before .before .before .before .before .before .before .before .before .before .loop-test .taken)) in
-    let q = grown-of (l .shapes) (c .before .before .before .before .before .before .before .before .join-next .last .0) (s .used + l .words) (l .i) (x .old) (2 * forms (x .shape)) (Member-rows p (x .name) (x .shape)) (c .before .before .before .before .r .given .1) (c .before .before .before .before .before .before .before .before .join-next .ensures p (s .end + l .words) (s .to) (m .ours) (m .theirs) (x .name) (x .shape) (x .old) (x .ours) (x .theirs) g (x .turn)) in
-    omega (arith, q .replaced .within, m .same, w .small)
+    let l = loop-bounds (c .before .before .before .before .before .before .before .before .before .before .before .before .before .before .before .before .before .pre .1) (join-members-loop-again t c) in
+    omega arith
 
 join-members-loop-less : (t : ℕ) → join-members-lts.Need-loop-less (join-members-claims t) (join-members-at t) join-members.Post join-members-Inv-loop join-members-μ-loop
 join-members-loop-less t c =
-    let s = c .before .before .before .before .before .before .before .before .before .before .before .before .before .before .before .before .before .args in
-    let w = c .before .before .before .before .before .before .before .before .before .before .before .before .before .before .before .before .before .pre .1 in
-    let p = w .p in
-    let v = w .walks in
-    let l = c .before .before .before .before .before .before .before .before .before .before .before .before .before .loop in
-    let m = l .inv (w .p) (w .ours) (w .theirs) (w .walks) in
-    let e = fields-end (v .walk .ours) in
-    let g = merging-walks m (s .end) e in
-    let x = c .before .before .before .before .before .before .before .before .before .before .next-member .ensures p (m .ours) (m .theirs) (g .walk) (omega (arith, c .before .before .before .before .before .before .before .before .before .before .before .before .loop-test .taken)) in
-    let q = grown-of (l .shapes) (c .before .before .before .before .before .before .before .before .join-next .last .0) (s .used + l .words) (l .i) (x .old) (2 * forms (x .shape)) (Member-rows p (x .name) (x .shape)) (c .before .before .before .before .r .given .1) (c .before .before .before .before .before .before .before .before .join-next .ensures p (s .end + l .words) (s .to) (m .ours) (m .theirs) (x .name) (x .shape) (x .old) (x .ours) (x .theirs) g (x .turn)) in
-    let y = merging-less m (x .turn) q (c .before .size .result) (c .passed .result) (c .before .size .ensures) (c .passed .ensures) in
-    omega (arith, y .0, y .1, y .2, y .3, e, c .before .before .before .before .before .before .before .before .before .before .before .before .loop-test .taken)
-
-join-members-loop-again : (t : ℕ) → join-members-lts.Need-loop-again (join-members-claims t) (join-members-at t) join-members.Post join-members-Inv-loop join-members-μ-loop
-join-members-loop-again t c p fs gs v =
-    let s = c .before .before .before .before .before .before .before .before .before .before .before .before .before .before .before .before .before .args in
-    let l = c .before .before .before .before .before .before .before .before .before .before .before .before .before .loop in
-    let m = l .inv p fs gs v in
-    let e = fields-end (v .walk .ours) in
-    let g = merging-walks m (s .end) e in
-    let x = c .before .before .before .before .before .before .before .before .before .before .next-member .ensures p (m .ours) (m .theirs) (g .walk) (omega (arith, c .before .before .before .before .before .before .before .before .before .before .before .before .loop-test .taken)) in
-    let q = grown-of (l .shapes) (c .before .before .before .before .before .before .before .before .join-next .last .0) (s .used + l .words) (l .i) (x .old) (2 * forms (x .shape)) (Member-rows p (x .name) (x .shape)) (c .before .before .before .before .r .given .1) (c .before .before .before .before .before .before .before .before .join-next .ensures p (s .end + l .words) (s .to) (m .ours) (m .theirs) (x .name) (x .shape) (x .old) (x .ours) (x .theirs) g (x .turn)) in
-    merging-on m (x .turn) q (c .before .size .result) (c .passed .result) (c .before .size .ensures) (c .passed .ensures)
-    (omega (arith, merging-less m (x .turn) q (c .before .size .result) (c .passed .result) (c .before .size .ensures) (c .passed .ensures) .3, fields-within (v .walk .theirs) (v .there)))
+    loop-less (c .before .before .before .before .before .before .before .before .before .before .before .before .before .loop .inv) (c .before .before .before .before .before .before .before .before .before .before .next-member .ensures) (c .before .before .before .before .before .before .before .before .before .before .before .before .loop-test .taken) (c .before .before .before .before .before .before .before .before .join-next .last .0) (c .before .before .before .before .before .before .before .before .join-next .ensures) (c .before .before .before .before .r .given .1) (c .before .size .result) (c .passed .result) (c .before .size .ensures) (c .passed .ensures) (c .before .before .before .before .before .before .before .before .before .before .before .before .before .before .before .before .before .pre .1)
 
 join-members-same-length-2 : (t : ℕ) → join-members-lts.Need-same-length-2 (join-members-claims t) (join-members-at t) join-members.Post join-members-Inv-loop join-members-μ-loop
 join-members-same-length-2 t c =
-    let s = c .before .before .before .before .before .args in
-    let w = c .before .before .before .before .before .pre .1 in
-    let l = c .before .loop in
-    let m = l .inv (w .p) (w .ours) (w .theirs) (w .walks) in
-    let e = fields-end (w .walks .walk .ours) in
-    let g = merging-walks m (s .end) e in
-    let h = merging-end m (s .end) e in
-    m .same
+    loop-bounds (c .before .before .before .before .before .pre .1) (c .before .loop .inv) .same
 
 join-members-returns-2 : (t : ℕ) → join-members-lts.Need-returns-2 (join-members-claims t) (join-members-at t) join-members.Post join-members-Inv-loop join-members-μ-loop
 join-members-returns-2 t c p fs gs v =
@@ -603,7 +471,6 @@ join-next-enum-told t c =
 
 join-next-add-null-requires : (t : ℕ) → join-next-lts.Need-add-null-requires (join-next-claims t) (join-next-at t) join-next.Post
 join-next-add-null-requires t c κs =
-    let s = c .before .before .before .before .before .before .args in
     let w = c .before .before .before .before .before .before .pre .1 in
     less-asks (c .before .enum-told .given .1) (w .walks) (w .next) (w .small)
 
@@ -613,7 +480,6 @@ join-next-enum-told-2 t c =
 
 join-next-join-at-requires : (t : ℕ) → join-next-lts.Need-join-at-requires (join-next-claims t) (join-next-at t) join-next.Post
 join-next-join-at-requires t c κs =
-    let s = c .before .before .before .before .before .before .args in
     let w = c .before .before .before .before .before .before .pre .1 in
     (omega (arith, c .before .before .before .before .before .before .pre .0), equal-asks (c .before .enum-told2 .given .1) (w .walks) (w .next) (w .small))
 
@@ -623,7 +489,6 @@ join-next-enum-told-3 t c =
 
 join-next-put-member-requires : (t : ℕ) → join-next-lts.Need-put-member-requires (join-next-claims t) (join-next-at t) join-next.Post
 join-next-put-member-requires t c κs =
-    let s = c .before .before .before .before .before .before .args in
     let w = c .before .before .before .before .before .before .pre .1 in
     greater-asks (c .before .enum-told3 .given .1) (w .walks) (w .next) (w .small)
 
@@ -661,7 +526,7 @@ join-record-has-requires t c κs =
 
 join-record-returns : (t : ℕ) → join-record-lts.Need-returns (join-record-claims t) (join-record-at t) join-record.Post
 join-record-returns t c p m k a b j =
-    record-none (ap (λ (i : ℕ). has-bit i 64) (sym (c .before .before .kinds .ensures)) ∙ sym (c .before .has .ensures) ∙ denied (c .before .has .result) (c .if1 .taken)) a b j
+    record-none (denied 64 (c .before .before .kinds .ensures) (sym (c .before .has .ensures)) (c .if1 .taken)) a b j
 
 join-record-kinds-requires-2 : (t : ℕ) → join-record-lts.Need-kinds-requires-2 (join-record-claims t) (join-record-at t) join-record.Post
 join-record-kinds-requires-2 t c κs =
@@ -673,12 +538,11 @@ join-record-has-requires-2 t c κs =
 
 join-record-put-members-requires : (t : ℕ) → join-record-lts.Need-put-members-requires (join-record-claims t) (join-record-at t) join-record.Post
 join-record-put-members-requires t c κs =
-    let s = c .before .before .before .before .before .before .before .before .before .before .before .args in
     let w = c .before .before .before .before .before .before .before .before .before .before .before .pre .1 in (
       record { p = w .p; name = w .name; other-name = w .other-name; ours = w .ours; theirs = w .theirs; both = w .joins .both; small = w .small },
       (
-        ap (λ (i : ℕ). has-bit i 64) (sym (c .before .before .before .kinds2 .ensures)) ∙ sym (c .before .before .has2 .ensures) ∙ denied (c .before .before .has2 .result) (c .before .if2 .taken),
-        ap (λ (i : ℕ). has-bit i 64) (sym (c .before .before .before .before .before .before .before .kinds .ensures)) ∙ sym (c .before .before .before .before .before .before .has .ensures) ∙ granted (c .before .before .before .before .before .before .has .result) (c .before .before .before .before .before .if1 .left),
+        denied 64 (c .before .before .before .kinds2 .ensures) (sym (c .before .before .has2 .ensures)) (c .before .if2 .taken),
+        granted 64 (c .before .before .before .before .before .before .before .kinds .ensures) (sym (c .before .before .before .before .before .before .has .ensures)) (c .before .before .before .before .before .if1 .left),
       ),
     )
 
@@ -692,7 +556,6 @@ join-record-returns-2 t c p m k a b j =
 
 join-record-members-requires : (t : ℕ) → join-record-lts.Need-members-requires (join-record-claims t) (join-record-at t) join-record.Post
 join-record-members-requires t c κs =
-    let s = c .before .before .before .before .before .before .before .before .before .before .before .args in
     let w = c .before .before .before .before .before .before .before .before .before .before .before .pre .1 in
     (stands-row (w .joins .both .ours), members-within (w .ours) (w .joins .both .ours) (omega (arith, w .small)))
 
@@ -702,13 +565,11 @@ join-record-size-requires t c κs =
 
 join-record-add-end : (t : ℕ) → join-record-lts.Need-add-end (join-record-claims t) (join-record-at t) join-record.Post
 join-record-add-end t c =
-    let s = c .before .before .before .before .before .before .before .before .before .before .before .before .before .before .args in
     let w = c .before .before .before .before .before .before .before .before .before .before .before .before .before .before .pre .1 in
     omega (arith, c .size .ensures, stands-size (w .joins .both .ours), w .joins .both .within, w .joins .both .used-within, w .small)
 
 join-record-members-requires-2 : (t : ℕ) → join-record-lts.Need-members-requires-2 (join-record-claims t) (join-record-at t) join-record.Post
 join-record-members-requires-2 t c κs =
-    let s = c .before .before .before .before .before .before .before .before .before .before .before .before .before .before .args in
     let w = c .before .before .before .before .before .before .before .before .before .before .before .before .before .before .pre .1 in
     (stands-row (w .joins .both .theirs), members-within (w .theirs) (w .joins .both .theirs) (c .before .before .before .before .before .before .before .before .before .before .before .before .before .before .good .1 .1 .1 .0 .0))
 
@@ -718,7 +579,6 @@ join-record-size-requires-2 t c κs =
 
 join-record-add-to : (t : ℕ) → join-record-lts.Need-add-to (join-record-claims t) (join-record-at t) join-record.Post
 join-record-add-to t c =
-    let s = c .before .before .before .before .before .before .before .before .before .before .before .before .before .before .before .before .args in
     let w = c .before .before .before .before .before .before .before .before .before .before .before .before .before .before .before .before .pre .1 in
     omega (arith, c .size2 .ensures, stands-size (w .joins .both .theirs), stands-within (w .joins .both .theirs), c .before .before .before .before .before .before .before .before .before .before .before .before .before .before .before .before .good .1 .1 .1 .0 .0)
 
@@ -732,10 +592,9 @@ join-record-join-members-requires : (t : ℕ) → join-record-lts.Need-join-memb
 join-record-join-members-requires t c κs =
     let s = c .before .before .before .before .before .before .before .before .before .before .before .before .before .before .before .before .before .args in
     let w = c .before .before .before .before .before .before .before .before .before .before .before .before .before .before .before .before .before .pre .1 in
-    let z : Spans (now (s .shapes)) (now (s .second)) (s .row) (s .other) (c .before .before .before .before .before .members .result) (s .row + c .before .before .before .size .result) (c .before .before .members2 .result) (s .other + c .before .size2 .result)
-    = record { at-is = c .before .before .before .before .before .members .ensures; end-is = ap (λ (i : ℕ). s .row + i) (c .before .before .before .size .ensures); from-is = c .before .before .members2 .ensures; to-is = ap (λ (i : ℕ). s .other + i) (c .before .size2 .ensures) } in
-    let b = ap (λ (i : ℕ). has-bit i 64) (sym (c .before .before .before .before .before .before .before .before .before .kinds2 .ensures)) ∙ sym (c .before .before .before .before .before .before .before .before .has2 .ensures) ∙ granted (c .before .before .before .before .before .before .before .before .has2 .result) (c .before .before .before .before .before .before .before .if2 .left) in
-    let d = ap (λ (i : ℕ). has-bit i 64) (sym (c .before .before .before .before .before .before .before .before .before .before .before .before .before .kinds .ensures)) ∙ sym (c .before .before .before .before .before .before .before .before .before .before .before .before .has .ensures) ∙ granted (c .before .before .before .before .before .before .before .before .before .before .before .before .has .result) (c .before .before .before .before .before .before .before .before .before .before .before .if1 .left) in
+    let z = spans (now (s .shapes)) (now (s .second)) (s .row) (s .other) (c .before .before .before .before .before .members .ensures) (c .before .before .before .size .ensures) (c .before .before .members2 .ensures) (c .before .size2 .ensures) in
+    let b = granted 64 (c .before .before .before .before .before .before .before .before .before .kinds2 .ensures) (sym (c .before .before .before .before .before .before .before .before .has2 .ensures)) (c .before .before .before .before .before .before .before .if2 .left) in
+    let d = granted 64 (c .before .before .before .before .before .before .before .before .before .before .before .before .before .kinds .ensures) (sym (c .before .before .before .before .before .before .before .before .before .before .before .before .has .ensures)) (c .before .before .before .before .before .before .before .before .before .before .before .if1 .left) in
     (omega (arith, c .before .before .before .before .before .before .before .before .before .before .before .before .before .before .before .before .before .pre .0, left-some (w .theirs) (s .left) (w .joins .nests)), record-asks z b d (w .ours) (w .theirs) (w .joins) (w .small))
 
 join-record-enum-known-r : (t : ℕ) → join-record-lts.Need-enum-known-r (join-record-claims t) (join-record-at t) join-record.Post
@@ -753,21 +612,18 @@ join-record-same-length-2 t c =
 join-record-returns-3 : (t : ℕ) → join-record-lts.Need-returns-3 (join-record-claims t) (join-record-at t) join-record.Post
 join-record-returns-3 t c p m k u v j =
     let s = c .before .before .before .before .before .before .before .before .before .before .before .before .before .before .before .before .before .before .before .before .before .before .args in
-    let w = c .before .before .before .before .before .before .before .before .before .before .before .before .before .before .before .before .before .before .before .before .before .before .pre .1 in
-    let z : Spans (now (s .shapes)) (now (s .second)) (s .row) (s .other) (c .before .before .before .before .before .before .before .before .before .before .members .result) (s .row + c .before .before .before .before .before .before .before .before .size .result) (c .before .before .before .before .before .before .before .members2 .result) (s .other + c .before .before .before .before .before .before .size2 .result)
-    = record { at-is = c .before .before .before .before .before .before .before .before .before .before .members .ensures; end-is = ap (λ (i : ℕ). s .row + i) (c .before .before .before .before .before .before .before .before .size .ensures); from-is = c .before .before .before .before .before .before .before .members2 .ensures; to-is = ap (λ (i : ℕ). s .other + i) (c .before .before .before .before .before .before .size2 .ensures) } in
-    let b = ap (λ (i : ℕ). has-bit i 64) (sym (c .before .before .before .before .before .before .before .before .before .before .before .before .before .before .kinds2 .ensures)) ∙ sym (c .before .before .before .before .before .before .before .before .before .before .before .before .before .has2 .ensures) ∙ granted (c .before .before .before .before .before .before .before .before .before .before .before .before .before .has2 .result) (c .before .before .before .before .before .before .before .before .before .before .before .before .if2 .left) in
-    let d = ap (λ (i : ℕ). has-bit i 64) (sym (c .before .before .before .before .before .before .before .before .before .before .before .before .before .before .before .before .before .before .kinds .ensures)) ∙ sym (c .before .before .before .before .before .before .before .before .before .before .before .before .before .before .before .before .before .has .ensures) ∙ granted (c .before .before .before .before .before .before .before .before .before .before .before .before .before .before .before .before .before .has .result) (c .before .before .before .before .before .before .before .before .before .before .before .before .before .before .before .before .if1 .left) in
+    let z = spans (now (s .shapes)) (now (s .second)) (s .row) (s .other) (c .before .before .before .before .before .before .before .before .before .before .members .ensures) (c .before .before .before .before .before .before .before .before .size .ensures) (c .before .before .before .before .before .before .before .members2 .ensures) (c .before .before .before .before .before .before .size2 .ensures) in
+    let b = granted 64 (c .before .before .before .before .before .before .before .before .before .before .before .before .before .before .kinds2 .ensures) (sym (c .before .before .before .before .before .before .before .before .before .before .before .before .before .has2 .ensures)) (c .before .before .before .before .before .before .before .before .before .before .before .before .if2 .left) in
+    let d = granted 64 (c .before .before .before .before .before .before .before .before .before .before .before .before .before .before .before .before .before .before .kinds .ensures) (sym (c .before .before .before .before .before .before .before .before .before .before .before .before .before .before .before .before .before .has .ensures)) (c .before .before .before .before .before .before .before .before .before .before .before .before .before .before .before .before .if1 .left) in
     record-full z b d (c .before .before .before .before .join-members .last .0) (c .before .before .before .before .join-members .result) (c .before .before .before .before .join-members .ensures) (c .enum-told .given .1) u v j
 
 join-record-grow-head-requires : (t : ℕ) → join-record-lts.Need-grow-head-requires (join-record-claims t) (join-record-at t) join-record.Post
 join-record-grow-head-requires t c κs =
     let s = c .before .before .before .before .before .before .before .before .before .before .before .before .before .before .before .before .before .before .before .before .before .before .before .before .args in
     let w = c .before .before .before .before .before .before .before .before .before .before .before .before .before .before .before .before .before .before .before .before .before .before .before .before .pre .1 in
-    let z : Spans (now (s .shapes)) (now (s .second)) (s .row) (s .other) (c .before .before .before .before .before .before .before .before .before .before .before .before .members .result) (s .row + c .before .before .before .before .before .before .before .before .before .before .size .result) (c .before .before .before .before .before .before .before .before .before .members2 .result) (s .other + c .before .before .before .before .before .before .before .before .size2 .result)
-    = record { at-is = c .before .before .before .before .before .before .before .before .before .before .before .before .members .ensures; end-is = ap (λ (i : ℕ). s .row + i) (c .before .before .before .before .before .before .before .before .before .before .size .ensures); from-is = c .before .before .before .before .before .before .before .before .before .members2 .ensures; to-is = ap (λ (i : ℕ). s .other + i) (c .before .before .before .before .before .before .before .before .size2 .ensures) } in
-    let b = ap (λ (i : ℕ). has-bit i 64) (sym (c .before .before .before .before .before .before .before .before .before .before .before .before .before .before .before .before .kinds2 .ensures)) ∙ sym (c .before .before .before .before .before .before .before .before .before .before .before .before .before .before .before .has2 .ensures) ∙ granted (c .before .before .before .before .before .before .before .before .before .before .before .before .before .before .before .has2 .result) (c .before .before .before .before .before .before .before .before .before .before .before .before .before .before .if2 .left) in
-    let d = ap (λ (i : ℕ). has-bit i 64) (sym (c .before .before .before .before .before .before .before .before .before .before .before .before .before .before .before .before .before .before .before .before .kinds .ensures)) ∙ sym (c .before .before .before .before .before .before .before .before .before .before .before .before .before .before .before .before .before .before .before .has .ensures) ∙ granted (c .before .before .before .before .before .before .before .before .before .before .before .before .before .before .before .before .before .before .before .has .result) (c .before .before .before .before .before .before .before .before .before .before .before .before .before .before .before .before .before .before .if1 .left) in
+    let z = spans (now (s .shapes)) (now (s .second)) (s .row) (s .other) (c .before .before .before .before .before .before .before .before .before .before .before .before .members .ensures) (c .before .before .before .before .before .before .before .before .before .before .size .ensures) (c .before .before .before .before .before .before .before .before .before .members2 .ensures) (c .before .before .before .before .before .before .before .before .size2 .ensures) in
+    let b = granted 64 (c .before .before .before .before .before .before .before .before .before .before .before .before .before .before .before .before .kinds2 .ensures) (sym (c .before .before .before .before .before .before .before .before .before .before .before .before .before .before .before .has2 .ensures)) (c .before .before .before .before .before .before .before .before .before .before .before .before .before .before .if2 .left) in
+    let d = granted 64 (c .before .before .before .before .before .before .before .before .before .before .before .before .before .before .before .before .before .before .before .before .kinds .ensures) (sym (c .before .before .before .before .before .before .before .before .before .before .before .before .before .before .before .before .before .before .before .has .ensures)) (c .before .before .before .before .before .before .before .before .before .before .before .before .before .before .before .before .before .before .if1 .left) in
     let i = record-inner z b d (c .before .before .before .before .before .before .join-members .last .0) (c .before .before .before .before .before .before .join-members .result) (c .before .before .before .before .before .before .join-members .ensures) (c .before .before .r .given .1) (w .ours) (w .theirs) (w .joins) in
     head-room (s .row) 0 (i .2 .replaced) (w .joins .both .ours) (i .3) (i .4) (w .joins .both .used-within) (w .small) (omega arith)
 
@@ -778,11 +634,9 @@ join-record-same-length-3 t c =
 join-record-returns-4 : (t : ℕ) → join-record-lts.Need-returns-4 (join-record-claims t) (join-record-at t) join-record.Post
 join-record-returns-4 t c p m k u v j =
     let s = c .before .before .before .before .before .before .before .before .before .before .before .before .before .before .before .before .before .before .before .before .before .before .before .before .before .before .before .args in
-    let w = c .before .before .before .before .before .before .before .before .before .before .before .before .before .before .before .before .before .before .before .before .before .before .before .before .before .before .before .pre .1 in
-    let z : Spans (now (s .shapes)) (now (s .second)) (s .row) (s .other) (c .before .before .before .before .before .before .before .before .before .before .before .before .before .before .before .members .result) (s .row + c .before .before .before .before .before .before .before .before .before .before .before .before .before .size .result) (c .before .before .before .before .before .before .before .before .before .before .before .before .members2 .result) (s .other + c .before .before .before .before .before .before .before .before .before .before .before .size2 .result)
-    = record { at-is = c .before .before .before .before .before .before .before .before .before .before .before .before .before .before .before .members .ensures; end-is = ap (λ (i : ℕ). s .row + i) (c .before .before .before .before .before .before .before .before .before .before .before .before .before .size .ensures); from-is = c .before .before .before .before .before .before .before .before .before .before .before .before .members2 .ensures; to-is = ap (λ (i : ℕ). s .other + i) (c .before .before .before .before .before .before .before .before .before .before .before .size2 .ensures) } in
-    let b = ap (λ (i : ℕ). has-bit i 64) (sym (c .before .before .before .before .before .before .before .before .before .before .before .before .before .before .before .before .before .before .before .kinds2 .ensures)) ∙ sym (c .before .before .before .before .before .before .before .before .before .before .before .before .before .before .before .before .before .before .has2 .ensures) ∙ granted (c .before .before .before .before .before .before .before .before .before .before .before .before .before .before .before .before .before .before .has2 .result) (c .before .before .before .before .before .before .before .before .before .before .before .before .before .before .before .before .before .if2 .left) in
-    let d = ap (λ (i : ℕ). has-bit i 64) (sym (c .before .before .before .before .before .before .before .before .before .before .before .before .before .before .before .before .before .before .before .before .before .before .before .kinds .ensures)) ∙ sym (c .before .before .before .before .before .before .before .before .before .before .before .before .before .before .before .before .before .before .before .before .before .before .has .ensures) ∙ granted (c .before .before .before .before .before .before .before .before .before .before .before .before .before .before .before .before .before .before .before .before .before .before .has .result) (c .before .before .before .before .before .before .before .before .before .before .before .before .before .before .before .before .before .before .before .before .before .if1 .left) in
+    let z = spans (now (s .shapes)) (now (s .second)) (s .row) (s .other) (c .before .before .before .before .before .before .before .before .before .before .before .before .before .before .before .members .ensures) (c .before .before .before .before .before .before .before .before .before .before .before .before .before .size .ensures) (c .before .before .before .before .before .before .before .before .before .before .before .before .members2 .ensures) (c .before .before .before .before .before .before .before .before .before .before .before .size2 .ensures) in
+    let b = granted 64 (c .before .before .before .before .before .before .before .before .before .before .before .before .before .before .before .before .before .before .before .kinds2 .ensures) (sym (c .before .before .before .before .before .before .before .before .before .before .before .before .before .before .before .before .before .before .has2 .ensures)) (c .before .before .before .before .before .before .before .before .before .before .before .before .before .before .before .before .before .if2 .left) in
+    let d = granted 64 (c .before .before .before .before .before .before .before .before .before .before .before .before .before .before .before .before .before .before .before .before .before .before .before .kinds .ensures) (sym (c .before .before .before .before .before .before .before .before .before .before .before .before .before .before .before .before .before .before .before .before .before .before .has .ensures)) (c .before .before .before .before .before .before .before .before .before .before .before .before .before .before .before .before .before .before .before .before .before .if1 .left) in
     record-grown z b d (c .before .before .before .before .before .before .before .before .before .join-members .last .0) (c .before .before .before .before .before .before .before .before .before .join-members .result) (c .before .before .before .before .before .before .before .before .before .join-members .ensures) (c .before .before .before .before .before .r .given .1) (c .before .before .grow-head .ensures) (c .before .before .grow-head .kept .0) u v j
 
 pub +join-at+join-element+join-members+join-next+join-record-spec : {M : Type 1} → statement M
