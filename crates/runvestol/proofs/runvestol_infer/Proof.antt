@@ -27,7 +27,7 @@ same-length-2 c = search needs
 -- src/lib.rt:97:1
 returns-2 : tie.Need-returns-2
 returns-2 c =
-    infer-called (c .before .before .before .before .before .before .before .before .before .before .before .before .before .args .shape .now) (c .before .before .before .before .before .before .before .before .before .before .before .before .before .args .document .now) (c .before .before .before .before .before .before .before .before .before .before .before .before .before .args .answer .now) (c .before .before .before .before .before .before .infer .result) (c .before .before .before .before .before .before .before .before .if1 .left) (c .before .before .put-answer .ensures) (c .before .before .before .before .before .before .before .before .before .before .before .before .before .args .output .now) (c .before .before .before .before .before .before .infer .ensures)
+    infer-called (c .before .before .before .before .before .before .before .before .before .before .before .before .before .args .shape .now) (c .before .before .before .before .before .before .before .before .before .before .before .before .before .args .document .now) (c .before .before .before .before .before .before .before .before .before .before .before .before .before .args .answer .now) (c .before .before .before .before .before .before .infer .result) (c .before .before .before .before .before .before .before .before .if1 .left) (c .before .before .put-answer .ensures) (c .before .before .before .before .before .before .before .before .before .before .before .before .before .args .output .now) (c .before .before .before .before .before .before .infer .ensures .0, c .before .before .before .before .before .before .infer .ensures .1)
 
 pub runvestol-infer-spec : {M : Type 1} → statement M
 runvestol-infer-spec =

@@ -27,7 +27,7 @@ same-length-2 c = search needs
 -- src/lib.rt:128:1
 returns-2 : tie.Need-returns-2
 returns-2 c =
-    join-called (c .before .before .before .before .before .before .before .before .before .before .before .before .before .args .first .now) (c .before .before .before .before .before .before .before .before .before .before .before .before .before .args .second .now) (c .before .before .before .before .before .before .before .before .before .before .before .before .before .args .answer .now) (c .before .before .before .before .before .before .join .result) (c .before .before .before .before .before .before .before .before .if1 .left) (c .before .before .put-answer .ensures) (c .before .before .before .before .before .before .before .before .before .before .before .before .before .args .output .now) (c .before .before .before .before .before .before .join .ensures)
+    join-called (c .before .before .before .before .before .before .before .before .before .before .before .before .before .args .first .now) (c .before .before .before .before .before .before .before .before .before .before .before .before .before .args .second .now) (c .before .before .before .before .before .before .before .before .before .before .before .before .before .args .answer .now) (c .before .before .before .before .before .before .join .result) (c .before .before .before .before .before .before .before .before .if1 .left) (c .before .before .put-answer .ensures) (c .before .before .before .before .before .before .before .before .before .before .before .before .before .args .output .now) (c .before .before .before .before .before .before .join .ensures .0, c .before .before .before .before .before .before .join .ensures .1)
 
 pub runvestol-join-spec : {M : Type 1} → statement M
 runvestol-join-spec =
