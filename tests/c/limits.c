@@ -1,4 +1,5 @@
-/* Shapes at their limits, read and written: 512 and 513 forms, 32 and 33 levels, 16,384 and 16,385 bytes. */
+/* Shapes at their limits, read and written: 512 and 513 forms, 32 and 33 levels, 16,384 and 16,385 bytes; and texts of about the
+   lengths from which on a call holds longer work slices. */
 #include <string.h>
 
 #include "calls.h"
@@ -467,6 +468,62 @@ static void texts_that_fill_the_most_words_have_their_answers(void)
     expect_call("admits", drafted(&first), drafted(&second), &left_open);
 }
 
+/* ---- where the work slices of short texts end */
+
+/* A record's shape with one member of a long name, so many bytes in all; a record of that member; the shape as it is written. */
+static size_t put_shape_of(struct draft *to, size_t length)
+{
+    const size_t around = strlen("(shape rec(member\"\"(shape int)))");
+    to->length = 0;
+    put(to, "(shape rec(member\"");
+    put_times(to, "n", length - around);
+    put(to, "\"(shape int)))");
+    return length - around;
+}
+
+static void put_record_of(struct draft *to, size_t name, size_t length)
+{
+    to->length = 0;
+    put(to, "{\"");
+    put_times(to, "n", name);
+    put(to, "\":4");
+    put_times(to, " ", length - to->length - 1);
+    put(to, "}");
+}
+
+static void put_written_of(size_t name)
+{
+    result.length = 0;
+    put(&result, "(shape rec\n (member \"");
+    put_times(&result, "n", name);
+    put(&result, "\"\n  (shape int)))\n");
+}
+
+static void a_shape_about_1024_bytes_and_a_document_about_4096_are_joined(void)
+{
+    for (size_t shape = 1020; shape <= 1028; shape++)
+        for (size_t document = 4092; document <= 4100; document++) {
+            size_t name = put_shape_of(&first, shape);
+            put_record_of(&second, name, document);
+            put_written_of(name);
+            expect_result("infer", drafted(&first), drafted(&second));
+            expect_verdict("admits", drafted(&first), drafted(&second), true);
+        }
+}
+
+static void two_shapes_about_1024_bytes_are_joined(void)
+{
+    for (size_t length = 1020; length <= 1028; length++)
+        for (size_t other = 1020; other <= 1028; other++) {
+            size_t name = put_shape_of(&first, length);
+            put_shape_of(&second, other);
+            expect_verdict("below", drafted(&first), drafted(&second), length == other);
+            put_written_of(name);
+            if (length == other)
+                expect_result("join", drafted(&first), drafted(&second));
+        }
+}
+
 void limits_suite(void)
 {
     RUN(a_shape_of_512_forms_is_read_and_written);
@@ -488,4 +545,6 @@ void limits_suite(void)
     RUN(a_word_more_is_too_many_bytes);
     RUN(texts_and_names_in_two_texts_of_full_length_are_read);
     RUN(texts_that_fill_the_most_words_have_their_answers);
+    RUN(a_shape_about_1024_bytes_and_a_document_about_4096_are_joined);
+    RUN(two_shapes_about_1024_bytes_are_joined);
 }
