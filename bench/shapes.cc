@@ -82,8 +82,11 @@ void print_reached(const std::string &what, const std::vector<Document> &documen
         std::string &list = times[i] <= most * others[i] ? within : beyond;
         list += (list.empty() ? "" : ", ") + documents[i].name + ratio;
     }
-    std::printf("- %s: so on %s; not on %s\n", what.c_str(), within.empty() ? "none" : within.c_str(),
-                beyond.empty() ? "none" : beyond.c_str());
+    std::printf("- %s: ", what.c_str());
+    if (!within.empty())
+        std::printf("so on %s%s", within.c_str(), beyond.empty() ? "\n" : "; ");
+    if (!beyond.empty())
+        std::printf("not on %s\n", beyond.c_str());
 }
 
 // Holds the validators to what the first says of every document with every shape.
