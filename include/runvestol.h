@@ -60,10 +60,10 @@ extern "C" {
  * The bytes of stack that each call needs below its caller's frame, most of them its work slices
  * (docs/WORK-SLICES.md), and the most of these. tests/c measures each anew, on texts of 32 levels:
  *   plain     46,456 at the deepest
- *   infer     71,280
- *   join      63,152
- *   below     62,976
- *   admits    71,184
+ *   infer     71,296
+ *   join      63,168
+ *   below     62,992
+ *   admits    71,200
  */
 #define RUNVESTOL_PLAIN_STACK_BYTES 49152
 #define RUNVESTOL_INFER_STACK_BYTES 73728
