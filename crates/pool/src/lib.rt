@@ -48,8 +48,8 @@ fn held(pool: &[u64], w: usize, n: usize) -> usize
     }
 }
 
-// Two texts in byte order, as far as both have bytes of a word by what they have of it. Where a text runs past the pool's end it is
-// what the pool has of it.
+// Two texts in byte order, a word at a time; of the last word that both have bytes of, by the bytes that both have. Where a text
+// runs past the pool's end it is what the pool has of it.
 pub fn compare(pool: &[u64], w: usize, n: usize, v: usize, m: usize) -> Comparison
     ensures compared { λ r. ⌜ ordering-of r ≡ order (text-in (now (pool .entry)) w n) (text-in (now (pool .entry)) v m) ⌝ }
 {
