@@ -54,7 +54,7 @@ unfoldable pub found : {A : Type 0} → Option A → Bool
 found none = false
 found (some a) = true
 
--- JSON white space: RFC 8259's ws is space, tab, line feed and carriage return
+-- b is white space of JSON
 unfoldable pub white : ℕ → Bool
 white b = found (look white-table b)
 

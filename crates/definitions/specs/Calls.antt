@@ -5,11 +5,10 @@ use mathlib.Core.Bool.{Bool, true, false}
 use mathlib.Core.List.{List, [], _∷_, _++_}
 use lib.Dec.{ltb}
 use lib.ListN.{length, drop}
+use Rattle.definitions.specs.declared.Limits.{Limits}
 use Rattle.definitions.specs.declared.Answer.{Answer}
-use Rattle.definitions.specs.Limits.{standard}
 use Rattle.definitions.specs.Bytes.{Bytes}
-use Rattle.definitions.specs.Json.{read-json}
-use Rattle.definitions.specs.Operations.{Done, plain-operation, infer-operation, join-operation, below-operation, admits-operation, check-operation, run-operation}
+use Rattle.definitions.specs.Operations.{Done, Source, plain-operation, infer-operation, join-operation, below-operation, admits-operation, check-operation, run-operation}
 
 -- the number returned, and the two buffers afterwards
 pub record Called : Type 0 where
@@ -36,47 +35,56 @@ answer-words a =
     ++ little-endian 8 (a .steps)
     ++ little-endian 8 (as-word (a .yes))
 
--- "one under 40 bytes is 1 and stays unwritten"; bytes past the 40th are kept
-unfoldable pub call : (buffer output : Bytes) → Done → Called
-call buffer output d =
-    elim (ltb (length buffer) 40) [
-      | true ↦ record { number = 1; answer = buffer; output = output }
-      | false ↦
-          record { number = d .answer .number; answer = answer-words (d .answer) ++ drop 40 buffer; output = d .output }
-    ]
+-- "one under 40 bytes .. stays unwritten"; bytes past the 40th are kept
+unfoldable pub answered : (buffer : Bytes) → Answer → Bytes
+answered buffer a = elim (ltb (length buffer) 40) [ true ↦ buffer | false ↦ answer-words a ++ drop 40 buffer ]
+
+-- a call whose operation came to this
+unfoldable pub call : (buffer : Bytes) → Done → Called
+call buffer d = record { number = d .answer .number; answer = answered buffer (d .answer); output = d .output }
 
 -- a call without an output
 unfoldable pub quiet : Answer → Done
 quiet a = record { answer = a; output = [] }
 
--- the calls are lent no work slice, so none is short; their documents are JSON
+-- "an answer buffer; one under 40 bytes is 1": it is judged as the one work slice that a call is lent
+abbrev pub buffer-published : List ℕ
+buffer-published = 40 ∷ []
+
+abbrev pub buffer-lent : Bytes → List ℕ
+buffer-lent buffer = length buffer ∷ []
 
 -- runvestol_plain
-unfoldable pub plain-call : (document output buffer : Bytes) → Called
-plain-call document output buffer = call buffer output (plain-operation read-json [] [] standard document output)
+unfoldable pub plain-call : Source → Limits → (document output buffer : Bytes) → Called
+plain-call source l document output buffer =
+    call buffer (plain-operation source buffer-published (buffer-lent buffer) l document output)
 
 -- runvestol_infer
-unfoldable pub infer-call : (shape document output buffer : Bytes) → Called
-infer-call shape document output buffer =
-    call buffer output (infer-operation read-json [] [] standard shape document output)
+unfoldable pub infer-call : Source → Limits → (shape document output buffer : Bytes) → Called
+infer-call source l shape document output buffer =
+    call buffer (infer-operation source buffer-published (buffer-lent buffer) l shape document output)
 
 -- runvestol_join
-unfoldable pub join-call : (first second output buffer : Bytes) → Called
-join-call first second output buffer = call buffer output (join-operation [] [] standard first second output)
+unfoldable pub join-call : Limits → (first second output buffer : Bytes) → Called
+join-call l first second output buffer =
+    call buffer (join-operation buffer-published (buffer-lent buffer) l first second output)
 
 -- runvestol_below, which has no output
-unfoldable pub below-call : (first second buffer : Bytes) → Called
-below-call first second buffer = call buffer [] (quiet (below-operation [] [] standard first second))
+unfoldable pub below-call : Limits → (first second buffer : Bytes) → Called
+below-call l first second buffer =
+    call buffer (quiet (below-operation buffer-published (buffer-lent buffer) l first second))
 
 -- runvestol_admits, which has no output
-unfoldable pub admits-call : (shape document buffer : Bytes) → Called
-admits-call shape document buffer = call buffer [] (quiet (admits-operation read-json [] [] standard shape document))
+unfoldable pub admits-call : Source → Limits → (shape document buffer : Bytes) → Called
+admits-call source l shape document buffer =
+    call buffer (quiet (admits-operation source buffer-published (buffer-lent buffer) l shape document))
 
 -- runvestol_check
-unfoldable pub check-call : (reader shape output buffer : Bytes) → Called
-check-call reader shape output buffer = call buffer output (check-operation [] [] standard reader shape output)
+unfoldable pub check-call : Limits → (reader shape output buffer : Bytes) → Called
+check-call l reader shape output buffer =
+    call buffer (check-operation buffer-published (buffer-lent buffer) l reader shape output)
 
 -- runvestol_run
-unfoldable pub run-call : (reader document output buffer : Bytes) → Called
-run-call reader document output buffer =
-    call buffer output (run-operation read-json [] [] standard reader document output)
+unfoldable pub run-call : Source → Limits → (reader document output buffer : Bytes) → Called
+run-call source l reader document output buffer =
+    call buffer (run-operation source buffer-published (buffer-lent buffer) l reader document output)

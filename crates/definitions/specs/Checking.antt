@@ -1,13 +1,13 @@
 -- Checking a reader against a shape: "parts left to right, then the form itself; a part that is refused stops the form
 -- that holds it." Refusals 9 and 10 stand at the form's bracket. Assumes nothing.
 use Prim.Native.Nat.{ℕ}
-use mathlib.Core.Bool.{Bool, true, false}
+use mathlib.Core.Bool.{Bool, true, false, not, _&&_}
 use mathlib.Core.List.{List, [], _∷_}
 use mathlib.Core.Option.{Option, none, some}
 use lib.ListN.{getD}
 use Rattle.definitions.specs.Bytes.{Bytes}
 use Rattle.definitions.specs.Outcome.{Outcome, ok, refused, _>>=_}
-use Rattle.definitions.specs.Shape.{Kind, Numeric, no-number, int-only, int-and-dec, Shape, shape, Element, no-list, list-of, Record, no-rec, rec-of, Fields, no-fields, nothing, within, element-of, record-of, find, only-bool, only-numeric, only-text, only-list, only-rec}
+use Rattle.definitions.specs.Shape.{Kind, among, Numeric, no-number, int-only, int-and-dec, Shape, shape, Element, no-list, list-of, Record, no-rec, rec-of, Fields, no-fields, nothing, within, element-of, record-of, find, only-bool, only-numeric, only-text, only-list, only-rec}
 use Rattle.definitions.specs.Join.{join, insert, shape-of}
 use Rattle.definitions.specs.Reader.{Place, Conversion, to-int, to-dec, to-bool, to-text, Test, Result, Pairs, no-pairs, pair}
 
@@ -59,37 +59,57 @@ unfoldable pub element-shape : Element → Shape
 element-shape no-list = nothing
 element-shape (list-of s) = s
 
--- "int: int alone"
-unfoldable pub cut-int : Numeric → Numeric
-cut-int no-number = no-number
-cut-int int-only = int-only
-cut-int int-and-dec = int-only
+-- ---- what `when` binds
 
--- "P's shape cut to K (num: int and dec; int: int alone)"
+-- the kinds that K means: "(num: int and dec; int: int alone)"
+unfoldable pub test-kinds : Test → List Kind
+test-kinds Test.null = Kind.null ∷ []
+test-kinds Test.bool = Kind.bool ∷ []
+test-kinds Test.int = Kind.int ∷ []
+test-kinds Test.num = Kind.int ∷ Kind.dec ∷ []
+test-kinds Test.text = Kind.text ∷ []
+test-kinds Test.list = Kind.list ∷ []
+test-kinds Test.rec = Kind.rec ∷ []
+
+-- where int stays, or dec
+unfoldable pub stay-numeric : (int dec : Bool) → Numeric → Numeric
+stay-numeric int dec no-number = no-number
+stay-numeric true dec int-only = int-only
+stay-numeric false dec int-only = no-number
+stay-numeric true true int-and-dec = int-and-dec
+stay-numeric true false int-and-dec = int-only
+-- "except that taking out int leaves int and dec where dec is there"
+stay-numeric false true int-and-dec = int-and-dec
+stay-numeric false false int-and-dec = no-number
+
+-- the element goes with list
+unfoldable pub stay-element : Bool → Element → Element
+stay-element true e = e
+stay-element false e = no-list
+
+-- the members go with rec
+unfoldable pub stay-record : Bool → Record → Record
+stay-record true r = r
+stay-record false r = no-rec
+
+-- the shape with the kinds that stay
+unfoldable pub stay : (Kind → Bool) → Shape → Shape
+stay kept (shape n b m t e r) =
+    shape
+    (kept Kind.null && n)
+    (kept Kind.bool && b)
+    (stay-numeric (kept Kind.int) (kept Kind.dec) m)
+    (kept Kind.text && t)
+    (stay-element (kept Kind.list) e)
+    (stay-record (kept Kind.rec) r)
+
+-- "P's shape cut to K"
 unfoldable pub cut-to : Test → Shape → Shape
-cut-to Test.null (shape n b m t e r) = shape n false no-number false no-list no-rec
-cut-to Test.bool (shape n b m t e r) = shape false b no-number false no-list no-rec
-cut-to Test.int (shape n b m t e r) = shape false false (cut-int m) false no-list no-rec
-cut-to Test.num (shape n b m t e r) = shape false false m false no-list no-rec
-cut-to Test.text (shape n b m t e r) = shape false false no-number t no-list no-rec
-cut-to Test.list (shape n b m t e r) = shape false false no-number false e no-rec
-cut-to Test.rec (shape n b m t e r) = shape false false no-number false no-list r
-
--- "taking out int leaves int and dec where dec is there"
-unfoldable pub take-out-int : Numeric → Numeric
-take-out-int no-number = no-number
-take-out-int int-only = no-number
-take-out-int int-and-dec = int-and-dec
+cut-to k s = stay (λ j. among j (test-kinds k)) s
 
 -- "K's kinds taken out"
 unfoldable pub taken-out : Test → Shape → Shape
-taken-out Test.null (shape n b m t e r) = shape false b m t e r
-taken-out Test.bool (shape n b m t e r) = shape n false m t e r
-taken-out Test.int (shape n b m t e r) = shape n b (take-out-int m) t e r
-taken-out Test.num (shape n b m t e r) = shape n b no-number t e r
-taken-out Test.text (shape n b m t e r) = shape n b m false e r
-taken-out Test.list (shape n b m t e r) = shape n b m t no-list r
-taken-out Test.rec (shape n b m t e r) = shape n b m t e no-rec
+taken-out k s = stay (λ j. not (among j (test-kinds k))) s
 
 -- ---- checking, with the shapes of the bindings, innermost first
 

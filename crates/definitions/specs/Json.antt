@@ -6,9 +6,10 @@ use Prim.Native.Nat.{ℕ, zero, suc}
 use mathlib.Core.Bool.{Bool, true, false, _||_}
 use mathlib.Core.List.{List, [], _∷_, reverse}
 use mathlib.Core.Option.{Option, none, some}
-use lib.Dec.{ltb, eqb}
+use lib.Dec.{eqb}
 use lib.ListN.{drop}
 use Rattle.definitions.specs.declared.Limits.{Limits}
+use Rattle.definitions.specs.Limits.{over}
 use Rattle.definitions.specs.Bytes.{Bytes, bytes, Row, one, look, is, white}
 use Rattle.definitions.specs.Outcome.{Outcome, ok, refused, placed}
 use Rattle.definitions.specs.Text.{Inside, chars, Text-move, wrong, more, closed, text-step}
@@ -203,7 +204,7 @@ depth (in-rec ms n o) = suc (depth o)
 
 -- refusal 6: the n-th value, begun here, is one too many or too deep
 unfoldable pub full : Limits → ℕ → Open → Bool
-full l n o = ltb (l .values) n || ltb (l .nesting) (suc (depth o))
+full l n o = over l n (suc (depth o))
 
 -- refusals 3 to 6 for a move at s, where n values are begun and kept is where the number or name that is being read began.
 -- "the smallest place, then the smaller number": a cause is judged at the first byte that decides it, and none that is

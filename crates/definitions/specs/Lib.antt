@@ -20,4 +20,4 @@ pub mod Operations
 pub mod Calls
 pub mod Evaluate
 pub mod Samples
-pub mod Further
+pub mod MoreSamples

@@ -1,6 +1,7 @@
--- The seven operations: refusals in the order judged, the answer's six fields, and the output afterwards. They are stated
--- over a source, which says what a document is: JSON by `read-json`. The lengths of the work slices come as published and
--- as lent, in the same order; nothing else depends on a work slice. Assumes nothing.
+-- The seven operations: refusals in the order judged, the answer's six fields, and the output afterwards. What is judged of
+-- the texts stands once for each (`infer-judged`); the operation on lent slices and the C call put their prelude before it.
+-- They are stated over a source, which says what a document is: JSON by `read-json`. The lengths of the work slices come as
+-- published and as lent, in the same order; nothing else depends on a work slice. Assumes nothing.
 use Prim.Native.Nat.{ℕ, zero, suc}
 use mathlib.Core.Bool.{Bool, true, false, _||_}
 use mathlib.Core.List.{List, [], _∷_, _++_}
@@ -8,9 +9,13 @@ use lib.Dec.{ltb}
 use lib.ListN.{length, drop}
 use Rattle.definitions.specs.declared.Limits.{Limits}
 use Rattle.definitions.specs.declared.Answer.{Answer}
+use Rattle.definitions.specs.declared.Format.{Format}
+use Rattle.definitions.specs.declared.Format.the-variants.{Json}
+use Rattle.definitions.specs.Limits.{over}
 use Rattle.definitions.specs.Bytes.{Bytes}
 use Rattle.definitions.specs.Outcome.{Outcome, ok, refused}
 use Rattle.definitions.specs.Value.{Value, size, nesting}
+use Rattle.definitions.specs.Json.{read-json}
 use Rattle.definitions.specs.Plain.{plain}
 use Rattle.definitions.specs.Shape.{Shape, forms, levels}
 use Rattle.definitions.specs.Order.{below}
@@ -32,8 +37,8 @@ unfoldable pub output-short : (needed : ℕ) → Answer
 output-short needed = record { number = 15; text = 0; place = 0; length = needed; steps = 0; yes = false }
 
 -- "Success is number 0: length bytes are written at the front of the output"
-unfoldable pub written : (length steps : ℕ) → Answer
-written k n = record { number = 0; text = 0; place = 0; length = k; steps = n; yes = false }
+unfoldable pub written : (length steps : ℕ) → (yes : Bool) → Answer
+written k n y = record { number = 0; text = 0; place = 0; length = k; steps = n; yes = y }
 
 -- what `below` and `admits` say
 unfoldable pub said : Bool → Answer
@@ -56,15 +61,35 @@ unfoldable pub _>>=_ : {A B : Type 0} → Judged A → (A → Judged B) → Judg
 passed a >>= f = f a
 stopped r >>= f = stopped r
 
+-- ---- the texts
+
+-- how a text is read: 3 to 8
+abbrev pub Reading : Type 0 → Type 0
+Reading A = Limits → Bytes → Outcome ℕ A
+
+-- what a document is: how its text is read
+abbrev pub Source : Type 0
+Source = Reading Value
+
+-- the source of each format
+unfoldable pub source : Format → Source
+source Json = read-json
+
 -- a refusal in text k
 unfoldable pub in-text : {A : Type 0} → ℕ → Outcome ℕ A → Judged A
 in-text k (ok a) = passed a
 in-text k (refused n p) = stopped (refusal n k p)
 
 -- text k: "Within one text 2 goes first", then 3 to 8 as it is read
-unfoldable pub judge-text : {A : Type 0} → ℕ → Limits → (Limits → Bytes → Outcome ℕ A) → Bytes → Judged A
+unfoldable pub judge-text : {A : Type 0} → ℕ → Limits → Reading A → Bytes → Judged A
 judge-text k l read s =
     elim (ltb (l .bytes) (length s)) [ true ↦ stopped (refusal 2 k 0) | false ↦ in-text k (read l s) ]
+
+-- "all of text 1's causes up to 8 go before any of text 2's", and then what both come to
+unfoldable pub judge-both : {A B C : Type 0} → Limits → Reading A → Bytes → Reading B → Bytes → (A → B → Judged C) → Judged C
+judge-both l read s read′ t then = judge-text 1 l read s >>= λ a. judge-text 2 l read′ t >>= λ b. then a b
+
+-- ---- what is judged before the texts
 
 -- some lent work slice is shorter than published
 unfoldable pub slices-short : (published lent : List ℕ) → Bool
@@ -76,25 +101,36 @@ slices-short (m ∷ ms) (n ∷ ns) = ltb n m || slices-short ms ns
 unfoldable pub judge-work : (published lent : List ℕ) → Judged (Unit {0})
 judge-work published lent = elim (slices-short published lent) [ true ↦ stopped (refusal 1 0 0) | false ↦ passed tt ]
 
--- what an operation has to write, and the steps that it counted
+-- the prelude, and then what is judged of the texts. One place for what goes before a text: 1 today
+unfoldable pub prelude : {A : Type 0} → (published lent : List ℕ) → Judged A → Judged A
+prelude published lent judged = judge-work published lent >>= λ w. judged
+
+-- ---- what is to be written
+
+-- what an operation has to write, the steps that it counted, and what it says beside (of request Q-3; false without it)
 pub record Text-out : Type 0 where
   pub bytes : Bytes
   pub steps : ℕ
+  pub yes : Bool
+
+-- a text to be written in so many steps
+abbrev pub to-write : Bytes → (steps : ℕ) → Text-out
+to-write b n = record { bytes = b; steps = n; yes = false }
 
 -- refusal 11: "a shape to be written has over 512 shape forms, nesting over 32 or over 16,384 bytes"
 unfoldable pub shape-out : Limits → Shape → Judged Text-out
 shape-out l s =
-    elim (ltb (l .values) (forms s) || ltb (l .nesting) (levels s) || ltb (l .bytes) (length (write-shape s))) [
+    elim (over l (forms s) (levels s) || ltb (l .bytes) (length (write-shape s))) [
       | true ↦ stopped (refusal 11 0 0)
-      | false ↦ passed (record { bytes = write-shape s; steps = 0 })
+      | false ↦ passed (to-write (write-shape s) 0)
     ]
 
 -- refusal 14: "run: result over 512 values or nesting over 32"
 unfoldable pub result-out : Limits → Ran Value → Judged Text-out
 result-out l x =
-    elim (ltb (l .values) (size (x .result)) || ltb (l .nesting) (nesting (x .result))) [
+    elim (over l (size (x .result)) (nesting (x .result))) [
       | true ↦ stopped (refusal 14 0 0)
-      | false ↦ passed (record { bytes = plain (x .result); steps = x .steps })
+      | false ↦ passed (to-write (plain (x .result)) (x .steps))
     ]
 
 -- ---- the end of an operation
@@ -105,7 +141,10 @@ deliver output t =
     elim (ltb (length output) (length (t .bytes))) [
       | true ↦ record { answer = output-short (length (t .bytes)); output = output }
       | false ↦
-          record { answer = written (length (t .bytes)) (t .steps); output = t .bytes ++ drop (length (t .bytes)) output }
+          record {
+            answer = written (length (t .bytes)) (t .steps) (t .yes);
+            output = t .bytes ++ drop (length (t .bytes)) output;
+          }
     ]
 
 -- a refusal keeps the output
@@ -118,78 +157,59 @@ unfoldable pub say : Judged Bool → Answer
 say (passed y) = said y
 say (stopped r) = r
 
--- ---- the seven operations: "all of text 1's causes up to 8 go before any of text 2's"; "11 and 14 are judged for the whole
--- result"
-
--- what a document is: how its text is read
-abbrev pub Source : Type 0
-Source = Limits → Bytes → Outcome ℕ Value
+-- ---- the seven operations, behind their prelude: "11 and 14 are judged for the whole result"
 
 -- plain (document)
-unfoldable pub plain-operation : Source → (published lent : List ℕ) → Limits → (document output : Bytes) → Done
-plain-operation source published lent l document output =
-    finish
-    output
-    (judge-work published lent
-    >>= λ w. judge-text 1 l source document
-    >>= λ v. passed (record { bytes = plain v; steps = 0 }))
+unfoldable pub plain-judged : Source → Limits → (document : Bytes) → Judged Text-out
+plain-judged source l document = judge-text 1 l source document >>= λ v. passed (to-write (plain v) 0)
 
 -- infer (shape, document: join with the document's shape)
-unfoldable pub infer-operation : Source → (published lent : List ℕ) → Limits → (shape document output : Bytes) → Done
-infer-operation source published lent l shape document output =
-    finish
-    output
-    (judge-work published lent
-    >>= λ w. judge-text 1 l read-shape shape
-    >>= λ s. judge-text 2 l source document
-    >>= λ v. shape-out l (join s (shape-of v)))
+unfoldable pub infer-judged : Source → Limits → (shape document : Bytes) → Judged Text-out
+infer-judged source l shape document = judge-both l read-shape shape source document λ s v. shape-out l (join s (shape-of v))
 
 -- join (two shapes)
-unfoldable pub join-operation : (published lent : List ℕ) → Limits → (first second output : Bytes) → Done
-join-operation published lent l first second output =
-    finish
-    output
-    (judge-work published lent
-    >>= λ w. judge-text 1 l read-shape first
-    >>= λ s. judge-text 2 l read-shape second
-    >>= λ t. shape-out l (join s t))
+unfoldable pub join-judged : Limits → (first second : Bytes) → Judged Text-out
+join-judged l first second = judge-both l read-shape first read-shape second λ s t. shape-out l (join s t)
 
 -- below (two shapes: the first below the second)
-unfoldable pub below-operation : (published lent : List ℕ) → Limits → (first second : Bytes) → Answer
-below-operation published lent l first second =
-    say
-    (judge-work published lent
-    >>= λ w. judge-text 1 l read-shape first
-    >>= λ s. judge-text 2 l read-shape second
-    >>= λ t. passed (below s t))
+unfoldable pub below-judged : Limits → (first second : Bytes) → Judged Bool
+below-judged l first second = judge-both l read-shape first read-shape second λ s t. passed (below s t)
 
 -- admits (shape, document)
-unfoldable pub admits-operation : Source → (published lent : List ℕ) → Limits → (shape document : Bytes) → Answer
-admits-operation source published lent l shape document =
-    say
-    (judge-work published lent
-    >>= λ w. judge-text 1 l read-shape shape
-    >>= λ s. judge-text 2 l source document
-    >>= λ v. passed (admits s v))
+unfoldable pub admits-judged : Source → Limits → (shape document : Bytes) → Judged Bool
+admits-judged source l shape document = judge-both l read-shape shape source document λ s v. passed (admits s v)
 
 -- check (reader, shape: writes the result shape)
-unfoldable pub check-operation : (published lent : List ℕ) → Limits → (reader shape output : Bytes) → Done
-check-operation published lent l reader shape output =
-    finish
-    output
-    (judge-work published lent
-    >>= λ w. judge-text 1 l read-reader reader
-    >>= λ r. judge-text 2 l read-shape shape
-    >>= λ s. in-text 1 (check-reader r s)
-    >>= λ t. shape-out l t)
+unfoldable pub check-judged : Limits → (reader shape : Bytes) → Judged Text-out
+check-judged l reader shape =
+    judge-both l read-reader reader read-shape shape λ r s. in-text 1 (check-reader r s) >>= λ t. shape-out l t
 
 -- run (reader, document: writes plain JSON)
+unfoldable pub run-judged : Source → Limits → (reader document : Bytes) → Judged Text-out
+run-judged source l reader document =
+    judge-both l read-reader reader source document λ r v. in-text 1 (run-reader r l v) >>= λ x. result-out l x
+
+-- ---- the seven operations on lent work slices
+
+unfoldable pub plain-operation : Source → (published lent : List ℕ) → Limits → (document output : Bytes) → Done
+plain-operation source published lent l document output = finish output (prelude published lent (plain-judged source l document))
+
+unfoldable pub infer-operation : Source → (published lent : List ℕ) → Limits → (shape document output : Bytes) → Done
+infer-operation source published lent l shape document output =
+    finish output (prelude published lent (infer-judged source l shape document))
+
+unfoldable pub join-operation : (published lent : List ℕ) → Limits → (first second output : Bytes) → Done
+join-operation published lent l first second output = finish output (prelude published lent (join-judged l first second))
+
+unfoldable pub below-operation : (published lent : List ℕ) → Limits → (first second : Bytes) → Answer
+below-operation published lent l first second = say (prelude published lent (below-judged l first second))
+
+unfoldable pub admits-operation : Source → (published lent : List ℕ) → Limits → (shape document : Bytes) → Answer
+admits-operation source published lent l shape document = say (prelude published lent (admits-judged source l shape document))
+
+unfoldable pub check-operation : (published lent : List ℕ) → Limits → (reader shape output : Bytes) → Done
+check-operation published lent l reader shape output = finish output (prelude published lent (check-judged l reader shape))
+
 unfoldable pub run-operation : Source → (published lent : List ℕ) → Limits → (reader document output : Bytes) → Done
 run-operation source published lent l reader document output =
-    finish
-    output
-    (judge-work published lent
-    >>= λ w. judge-text 1 l read-reader reader
-    >>= λ r. judge-text 2 l source document
-    >>= λ v. in-text 1 (run-reader r l v)
-    >>= λ x. result-out l x)
+    finish output (prelude published lent (run-judged source l reader document))

@@ -257,13 +257,13 @@ step (want w) t = want-step w t
 step (whole-place p) t = misplaced
 step (whole-result r) t = misplaced
 
--- the reader, or the place, of a text that may end here
+-- the reader of a text that may end here
 unfoldable pub finished-result : State → Option Result
 finished-result (want w) = none
 finished-result (whole-place p) = none
 finished-result (whole-result r) = some r
 
--- the place of a text that may end here
+-- the place of a text that may end here: of request Q-8, as `read-place` below
 unfoldable pub finished-place : State → Option Place
 finished-place (want w) = none
 finished-place (whole-place p) = some p
@@ -271,7 +271,7 @@ finished-place (whole-result r) = none
 
 -- ---- reading
 
--- a reader's text with no token, which ends at a place: 7 there
+-- a reader's text with no token, which ends at a place: 7 there, where request Q-7 will have another answer
 unfoldable pub empty-reader : ℕ → Outcome ℕ Result
 empty-reader end = refused 7 end
 
@@ -284,6 +284,6 @@ read-result l end (t ∷ ts) = read-tokens step finished-result l 0 end (want (r
 unfoldable pub read-reader : Limits → Bytes → Outcome ℕ Result
 read-reader l s = read-result l (length s) (tokens s)
 
--- the same of a place that stands alone; no operation of the paper reads one so
+-- the same of a place that stands alone, as request Q-8 reads one; no operation of the paper does
 unfoldable pub read-place : Limits → Bytes → Outcome ℕ Place
 read-place l s = read-tokens step finished-place l 0 (length s) (want (place-open place-end)) (tokens s)

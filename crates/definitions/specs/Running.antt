@@ -13,7 +13,7 @@ use Rattle.definitions.specs.Value.{Value, Items, no-items, item, Member
 use Rattle.definitions.specs.Shape.{Kind, among}
 use Rattle.definitions.specs.Admits.{kind-of}
 use Rattle.definitions.specs.Reader.{Place, Conversion, Test, Result, Pairs, no-pairs, pair}
-use Rattle.definitions.specs.Checking.{field-kinds, convert-kinds, list-kinds}
+use Rattle.definitions.specs.Checking.{field-kinds, convert-kinds, list-kinds, test-kinds}
 
 -- what ran, and the steps counted when it had
 pub record Ran (A : Type 0) : Type 0 where
@@ -69,16 +69,6 @@ items-of (Value.rec ms) = no-items
 unfoldable pub int-value : ℕ → Value
 int-value n = Value.number (record { negative = false; coefficient = n; scale = 0 })
 
--- "the value is a K (int: no decimal; num: int or decimal)"
-unfoldable pub test-kinds : Test → List Kind
-test-kinds Test.null = Kind.null ∷ []
-test-kinds Test.bool = Kind.bool ∷ []
-test-kinds Test.int = Kind.int ∷ []
-test-kinds Test.num = Kind.int ∷ Kind.dec ∷ []
-test-kinds Test.text = Kind.text ∷ []
-test-kinds Test.list = Kind.list ∷ []
-test-kinds Test.rec = Kind.rec ∷ []
-
 -- what a condition says, if it is a bool
 unfoldable pub truth : Value → Option Bool
 truth Value.null = none
@@ -102,7 +92,8 @@ run-items body no-items n = gives no-items n
 run-items body (item v vs) n =
     body v n >>= λ x. run-items body vs (x .steps) >>= λ xs. gives (item (x .result) (xs .result)) (xs .steps)
 
--- the value of a result; "`when` takes its first R where the value is a K .., `if` its second on true"
+-- the value of a result; "`when` takes its first R where the value is a K (int: no decimal; num: int or decimal), `if` its
+-- second on true"
 unfoldable mutual
   pub run : Result → Limits → List Value → ℕ → Outcome ℕ (Ran Value)
   run (Result.convert at c p) l env n =

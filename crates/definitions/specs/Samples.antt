@@ -41,7 +41,7 @@ run reader document = run-operation read-json [] [] standard (bytes reader) (byt
 
 -- success: this text at the front of the output, in so many steps
 abbrev writes : String → (steps : ℕ) → Done
-writes t n = record { answer = written (length (bytes t)) n; output = bytes t ++ drop (length (bytes t)) room }
+writes t n = record { answer = written (length (bytes t)) n false; output = bytes t ++ drop (length (bytes t)) room }
 
 -- a refusal of a text at a place; the output is as it was
 abbrev refuses : (number text place : ℕ) → Done

@@ -3,8 +3,8 @@ use Prim.Native.Nat.{ℕ, suc}
 use mathlib.Core.Bool.{Bool, true, false, _||_}
 use mathlib.Core.List.{List, [], _∷_, reverse}
 use mathlib.Core.Option.{Option, none, some}
-use lib.Dec.{ltb}
 use Rattle.definitions.specs.declared.Limits.{Limits}
+use Rattle.definitions.specs.Limits.{over}
 use Rattle.definitions.specs.Bytes.{Bytes, Row, one, look, same}
 use Rattle.definitions.specs.Outcome.{Outcome, ok, refused}
 use Rattle.definitions.specs.Text.{Inside, chars, wrong, more, closed, text-step}
@@ -159,15 +159,12 @@ want-named rows t f = want-word t (λ w. where-some (look-word rows w) f)
 
 -- ---- reading: refusals 7 and 8
 
--- refusal 8: the n-th form that counts is one too many or too deep
-unfoldable pub full-forms : Limits → (n depth : ℕ) → Bool
-full-forms l n depth = ltb (l .values) n || ltb (l .nesting) depth
-
--- refusals 7 and 8 for a step at a place, where n forms that count have begun; otherwise reading goes on
+-- refusal 7 for a step at a place, where n forms that count have begun, or 8, where the next one is one too many or too deep;
+-- otherwise reading goes on
 unfoldable pub judge-step : {Q A : Type 0} → Limits → (n at : ℕ) → Step Q → (ℕ → Q → Outcome ℕ A) → Outcome ℕ A
 judge-step l n at misplaced on = refused 7 at
 judge-step l n at (go q) on = on n q
-judge-step l n at (opens depth q) on = elim (full-forms l (suc n) depth) [ true ↦ refused 8 at | false ↦ on (suc n) q ]
+judge-step l n at (opens depth q) on = elim (over l (suc n) depth) [ true ↦ refused 8 at | false ↦ on (suc n) q ]
 
 -- 7 at the end of the text, unless what was read is whole
 unfoldable pub or-end : {A : Type 0} → ℕ → Option A → Outcome ℕ A

@@ -27,3 +27,9 @@ pub struct Answer {
     // what below and admits say
     pub yes: bool,
 }
+
+// What a document is written in; `source` of specs/Operations.antt says how each is read.
+pub enum Format {
+    // RFC 8259
+    Json,
+}

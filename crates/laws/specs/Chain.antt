@@ -8,6 +8,7 @@ use lib.Dec.{eqb, ltb}
 use lib.ListN.{length, take, drop}
 use Rattle.definitions.specs.declared.Limits.{Limits}
 use Rattle.definitions.specs.declared.Answer.{Answer}
+use Rattle.definitions.specs.Limits.{over}
 use Rattle.definitions.specs.Bytes.{Bytes, bytes}
 use Rattle.definitions.specs.Outcome.{Outcome, ok, refused}
 use Rattle.definitions.specs.Value.{Value, size, nesting}
@@ -92,7 +93,7 @@ pub data Ends (published lent : List ℕ) (l : Limits) (r : Result) (v : Value) 
       : (x : Ran Value) → run-reader r l v ≡ ok x → admits u (x .result) ≡ true
       → Ends published lent l r v u output
       (record {
-        answer = written (length (plain (x .result))) (x .steps);
+        answer = written (length (plain (x .result))) (x .steps) false;
         output = plain (x .result) ++ drop (length (plain (x .result))) output;
       })
   short-work
@@ -102,7 +103,7 @@ pub data Ends (published lent : List ℕ) (l : Limits) (r : Result) (v : Value) 
       → Ends published lent l r v u output (record { answer = refusal 13 1 p; output = output })
   too-large
       : (x : Ran Value) → run-reader r l v ≡ ok x
-      → ltb (l .values) (size (x .result)) || ltb (l .nesting) (nesting (x .result)) ≡ true
+      → over l (size (x .result)) (nesting (x .result)) ≡ true
       → Ends published lent l r v u output (record { answer = refusal 14 0 0; output = output })
   no-room
       : (x : Ran Value) → run-reader r l v ≡ ok x → length output < length (plain (x .result))

@@ -17,7 +17,7 @@ use Rattle.definitions.specs.ShapeText.{read-shape, write-shape}
 use Rattle.definitions.specs.Reader.{Result, read-reader}
 use Rattle.definitions.specs.Checking.{check-reader}
 use Rattle.definitions.specs.Running.{Ran, run-reader}
-use Rattle.definitions.specs.Operations.{Done, Source, Judged, passed, stopped, _>>=_, refusal, output-short, written, in-text, judge-text, slices-short, judge-work, Text-out, shape-out, result-out, deliver, finish, check-operation, run-operation}
+use Rattle.definitions.specs.Operations.{Done, Source, Judged, passed, _>>=_, refusal, in-text, slices-short, prelude, Text-out, to-write, shape-out, result-out, deliver, finish, check-judged, run-judged, check-operation, run-operation}
 use Rattle.laws.specs.Good.{Good-shape}
 use Rattle.laws.specs.Readers.{Safe}
 use Rattle.laws.specs.Soundness.{sound}
@@ -25,7 +25,7 @@ use Rattle.laws.specs.SoundShapes.{check-ascending}
 use Rattle.laws.specs.ReaderFacts.{reader-scoped, reader-proper}
 use Rattle.laws.specs.RoundLaws.{reader-read-good, check-good, shape-reads-back}
 use Rattle.laws.specs.Tests.{ltb-lt, ltb-le}
-use Rattle.laws.specs.Judging.{Numbered, Positive, bind-positive, work-positive, text-positive, in-text-positive, shape-out-positive, bind-passed, bind-of, bind-stopped, work-short, work-long, text-passed, in-text-passed, text-reads, shape-over, shape-out-passed, shape-fits, result-over, result-out-over, result-out-fits, deliver-short, deliver-room, finish-zero, finish-written, front}
+use Rattle.laws.specs.Judging.{Positive, bind-positive, prelude-positive, both-positive, in-text-positive, shape-out-positive, bind-passed, prelude-short, prelude-long, prelude-passed, both-read, both-passed, in-text-passed, shape-over, shape-out-passed, shape-fits, result-over, result-out-over, result-out-fits, deliver-short, deliver-room, finish-zero, finish-written, front}
 use Rattle.laws.specs.Numbered.{numbered-shape, numbered-reader, numbered-check-reader}
 use Rattle.laws.specs.Chain.{Reads, Ends, gives, short-work, out-of-steps, too-large, no-room, Passes, Proper-source}
 use Rattle.laws.specs.ChainReached.{Stands, stands-reads, ok-same}
@@ -35,19 +35,18 @@ module _ (published lent : List ℕ) (l : Limits) where
 
   -- what is judged of a check before its output
   abbrev checked : Bytes → Bytes → Judged Text-out
-  checked reader text =
-      judge-work published lent
-      >>= λ w. judge-text 1 l read-reader reader
-      >>= λ r. judge-text 2 l read-shape text
-      >>= λ s. in-text 1 (check-reader r s)
-      >>= λ t. shape-out l t
+  checked reader text = prelude published lent (check-judged l reader text)
+
+  -- what both texts come to
+  abbrev check-then : Result → Shape → Judged Text-out
+  check-then r s = in-text 1 (check-reader r s) >>= λ t. shape-out l t
 
   checked-positive : (reader text : Bytes) → Positive (checked reader text)
+  unfolding check-judged
   checked-positive reader text =
-      bind-positive _ _ (work-positive published lent) λ w.
-      bind-positive _ _ (text-positive 1 l read-reader reader (numbered-reader l reader)) λ r.
-      bind-positive _ _ (text-positive 2 l read-shape text (numbered-shape l text)) λ s.
-      bind-positive _ _ (in-text-positive 1 (check-reader r s) (numbered-check-reader r s)) λ t. shape-out-positive l t
+      prelude-positive published lent (check-judged l reader text)
+      (both-positive l read-reader reader read-shape text check-then (numbered-reader l reader) (numbered-shape l text) λ r s.
+      bind-positive _ _ (in-text-positive 1 (check-reader r s) (numbered-check-reader r s)) λ t. shape-out-positive l t)
 
   -- why a check gave 0
   pub record Passed (reader text output : Bytes) (r : Result) (s u : Shape) : Type 0 where
@@ -63,21 +62,20 @@ module _ (published lent : List ℕ) (l : Limits) where
   checked-passed
       : (reader text output : Bytes) (o : Text-out) → checked reader text ≡ passed o → length (o .bytes) ≤ length output
       → (r : Result) × (s : Shape) × (u : Shape) × Passed reader text output r s u
-  unfolding check-operation
+  unfolding check-operation check-judged
   checked-passed reader text output o e room =
-      let (w, e₁, f₁) = bind-passed (judge-work published lent) _ o e in
-      let (r, e₂, f₂) = bind-passed (judge-text 1 l read-reader reader) _ o f₁ in
-      let (s, e₃, f₃) = bind-passed (judge-text 2 l read-shape text) _ o f₂ in
-      let (u, e₄, f₄) = bind-passed (in-text 1 (check-reader r s)) _ o f₃ in
-      let (x, y) = shape-out-passed l u o f₄ in (
-        r,
-        s,
+      let (w, f) = prelude-passed published lent (check-judged l reader text) o e in
+      let p = both-passed l read-reader reader read-shape text check-then o f in
+      let (u, g, h) = bind-passed (in-text 1 (check-reader (p .first) (p .second))) _ o (p .rest) in
+      let (x, y) = shape-out-passed l u o h in (
+        p .first,
+        p .second,
         u,
         record {
-          short-reader = text-passed 1 l read-reader reader r e₂ .0;
-          reads-reader = text-passed 1 l read-reader reader r e₂ .1;
-          reads-shape = text-passed 2 l read-shape text s e₃ .1;
-          checks = in-text-passed 1 (check-reader r s) u e₄;
+          short-reader = p .first-short;
+          reads-reader = p .first-read;
+          reads-shape = p .second-read;
+          checks = in-text-passed 1 (check-reader (p .first) (p .second)) u g;
           fits = x;
           wrote =
               front output o (check-operation published lent l reader text output) (finish-written output o e room) .1
@@ -98,12 +96,11 @@ module _ (published lent : List ℕ) (l : Limits) where
 module _ (source : Source) (published lent : List ℕ) (l : Limits) where
   -- what is judged of a run before its output
   abbrev ran : Bytes → Bytes → Judged Text-out
-  ran reader document =
-      judge-work published lent
-      >>= λ w. judge-text 1 l read-reader reader
-      >>= λ r. judge-text 2 l source document
-      >>= λ v. in-text 1 (run-reader r l v)
-      >>= λ x. result-out l x
+  ran reader document = prelude published lent (run-judged source l reader document)
+
+  -- what both texts come to
+  abbrev run-then : Result → Value → Judged Text-out
+  run-then r v = in-text 1 (run-reader r l v) >>= λ x. result-out l x
 
   run-is : (reader document output : Bytes) → run-operation source published lent l reader document output ≡ finish output (ran reader document)
   unfolding run-operation
@@ -117,18 +114,18 @@ module _ (source : Source) (published lent : List ℕ) (l : Limits) where
       End = Ends published lent l r v u output
 
       -- where the work slices are long enough, run comes to what running the reader comes to
-      ran-runs : slices-short published lent ≡ false → ran reader document ≡ in-text 1 (run-reader r l v) >>= λ x. result-out l x
+      ran-runs : slices-short published lent ≡ false → ran reader document ≡ run-then r v
+      unfolding run-judged
       ran-runs e =
-          bind-of _ (work-long published lent e)
-          ∙ bind-of _ (text-reads 1 l read-reader reader r short-reader reads-reader)
-          ∙ bind-of _ (text-reads 2 l source document v (reads .short-enough) (reads .value))
+          prelude-long published lent (run-judged source l reader document) e
+          ∙ both-read l read-reader reader source document run-then r v short-reader reads-reader (reads .short-enough) (reads .value)
 
       ends-delivered : (x : Ran Value) → run-reader r l v ≡ ok x → admits u (x .result) ≡ true
-          → End (deliver output (record { bytes = plain (x .result); steps = x .steps }))
+          → End (deliver output (to-write (plain (x .result)) (x .steps)))
       ends-delivered x e a = go (ltb (length output) (length (plain (x .result)))) refl
         where
           o : Text-out
-          o = record { bytes = plain (x .result); steps = x .steps }
+          o = to-write (plain (x .result)) (x .steps)
 
           go : (b : Bool) → ltb (length output) (length (plain (x .result))) ≡ b → End (deliver output o)
           go true q = subst End (sym (deliver-short output o q)) (no-room x e (ltb-lt _ _ q))
@@ -155,7 +152,7 @@ module _ (source : Source) (published lent : List ℕ) (l : Limits) where
       run-ends h = subst End (sym (run-is reader document output)) (go (slices-short published lent) refl)
         where
           go : (b : Bool) → slices-short published lent ≡ b → End (finish output (ran reader document))
-          go true q = subst (λ (m : Judged Text-out). End (finish output m)) (sym (bind-stopped _ (work-short published lent q))) (short-work q)
+          go true q = subst (λ (m : Judged Text-out). End (finish output m)) (sym (prelude-short published lent (run-judged source l reader document) q)) (short-work q)
           go false q = subst (λ (m : Judged Text-out). End (finish output m)) (sym (ran-runs q)) (ends-run (run-reader r l v) refl h)
 
 -- ---- both

@@ -12,19 +12,19 @@ use Rattle.definitions.specs.Value.{Value}
 use Rattle.definitions.specs.Shape.{Shape}
 use Rattle.definitions.specs.Join.{join, shape-of}
 use Rattle.definitions.specs.ShapeText.{read-shape, write-shape}
-use Rattle.definitions.specs.Operations.{Done, Source, Judged, passed, stopped, _>>=_, judge-text, slices-short, judge-work, Text-out, shape-out, finish, infer-operation}
+use Rattle.definitions.specs.Operations.{Source, Judged, passed, slices-short, prelude, Text-out, to-write, shape-out, finish, infer-judged, infer-operation}
 use Rattle.laws.specs.Tests.{eqb-eq, eq-eqb}
-use Rattle.laws.specs.Judging.{Numbered, Positive, bind-positive, work-positive, text-positive, shape-out-positive, bind-passed, bind-of, work-passed, work-long, text-passed, text-reads, shape-over, shape-out-passed, shape-out-fits, finish-zero, finish-written, front}
+use Rattle.laws.specs.Judging.{Numbered, Positive, prelude-positive, both-positive, shape-out-positive, prelude-long, prelude-passed, both-read, both-passed, shape-over, shape-out-passed, shape-out-fits, finish-zero, finish-written, front}
 use Rattle.laws.specs.Chain.{Call, infers, takes, left-by, Reads, Proper-source}
 
 module _ (source : Source) (published : List ℕ) (l : Limits) where
   -- what is judged of a call before its output
   abbrev judged : Call → Bytes → Judged Text-out
-  judged c t =
-      judge-work published (c .lent)
-      >>= λ w. judge-text 1 l read-shape t
-      >>= λ s. judge-text 2 l source (c .sample)
-      >>= λ v. shape-out l (join s (shape-of v))
+  judged c t = prelude published (c .lent) (infer-judged source l t (c .sample))
+
+  -- what both texts come to
+  abbrev then : Shape → Value → Judged Text-out
+  then s v = shape-out l (join s (shape-of v))
 
   -- why a call was accepted: shape text and sample were read, and the join fits the limits and the output
   pub record Accepted (c : Call) (t : Bytes) (s : Shape) (v : Value) : Type 0 where
@@ -42,11 +42,12 @@ module _ (source : Source) (published : List ℕ) (l : Limits) where
   left-taken c t e = rw (e, left-by)
 
   judged-accepted : (c : Call) (t : Bytes) (s : Shape) (v : Value) → Accepted c t s v
-      → judged c t ≡ passed (record { bytes = write-shape (join s (shape-of v)); steps = 0 })
+      → judged c t ≡ passed (to-write (write-shape (join s (shape-of v))) 0)
+  unfolding infer-judged
   judged-accepted c t s v a =
-      bind-of _ (work-long published (c .lent) (a .work))
-      ∙ bind-of _ (text-reads 1 l read-shape t s (a .short-text) (a .reads-shape))
-      ∙ bind-of _ (text-reads 2 l source (c .sample) v (a .reads-sample .short-enough) (a .reads-sample .value))
+      prelude-long published (c .lent) (infer-judged source l t (c .sample)) (a .work)
+      ∙ both-read l read-shape t source (c .sample) then s v (a .short-text) (a .reads-shape) (a .reads-sample .short-enough)
+      (a .reads-sample .value)
       ∙ shape-out-fits l (join s (shape-of v)) (a .fits)
 
   infers-accepted
@@ -55,7 +56,7 @@ module _ (source : Source) (published : List ℕ) (l : Limits) where
       × (take (infers source published l c t .answer .length) (infers source published l c t .output) ≡ write-shape (join s (shape-of v)))
   unfolding infers infer-operation
   infers-accepted c t s v a =
-      let o : Text-out = record { bytes = write-shape (join s (shape-of v)); steps = 0 } in
+      let o : Text-out = to-write (write-shape (join s (shape-of v))) 0 in
       front (c .output) o (infers source published l c t) (finish-written (c .output) o (judged-accepted c t s v a) (a .room))
 
   -- an accepted call leaves the text of the join
@@ -76,20 +77,18 @@ module _ (source : Source) (published : List ℕ) (l : Limits) where
   passed-accepted
       : (c : Call) (t : Bytes) (o : Text-out) → judged c t ≡ passed o → length (o .bytes) ≤ length (c .output)
       → (s : Shape) × (v : Value) × Accepted c t s v
+  unfolding infer-judged
   passed-accepted c t o e room =
-      let (w, e₁, f₁) = bind-passed (judge-work published (c .lent)) _ o e in
-      let (s, e₂, f₂) = bind-passed (judge-text 1 l read-shape t) _ o f₁ in
-      let (v, e₃, f₃) = bind-passed (judge-text 2 l source (c .sample)) _ o f₂ in
-      let (x, y) = shape-out-passed l (join s (shape-of v)) o f₃ in (
-        s,
-        v,
+      let (w, f) = prelude-passed published (c .lent) (infer-judged source l t (c .sample)) o e in
+      let p = both-passed l read-shape t source (c .sample) then o f in
+      let (x, y) = shape-out-passed l (join (p .first) (shape-of (p .second))) o (p .rest) in (
+        p .first,
+        p .second,
         record {
-          work = work-passed published (c .lent) e₁;
-          short-text = text-passed 1 l read-shape t s e₂ .0;
-          reads-shape = text-passed 1 l read-shape t s e₂ .1;
-          reads-sample =
-              record
-              { short-enough = text-passed 2 l source (c .sample) v e₃ .0; value = text-passed 2 l source (c .sample) v e₃ .1 };
+          work = w;
+          short-text = p .first-short;
+          reads-shape = p .first-read;
+          reads-sample = record { short-enough = p .second-short; value = p .second-read };
           fits = x;
           room = subst (λ (o : Text-out). length (o .bytes) ≤ length (c .output)) y room;
         },
@@ -104,11 +103,11 @@ module _ (source : Source) (published : List ℕ) (l : Limits) where
 
   judged-positive
       : Proper-source source → (c : Call) (t : Bytes) → Numbered (read-shape l t) → Positive (judged c t)
+  unfolding infer-judged
   judged-positive proper c t numbered =
-      bind-positive _ _ (work-positive published (c .lent)) λ w.
-      bind-positive _ _ (text-positive 1 l read-shape t numbered) λ s.
-      bind-positive _ _ (text-positive 2 l source (c .sample) (source-numbered proper (c .sample))) λ v.
-      shape-out-positive l (join s (shape-of v))
+      prelude-positive published (c .lent) (infer-judged source l t (c .sample))
+      (both-positive l read-shape t source (c .sample) then numbered (source-numbered proper (c .sample)) λ s v.
+      shape-out-positive l (join s (shape-of v)))
 
   infers-number : (c : Call) (t : Bytes) → infers source published l c t .answer .number ≡ 0 → finish (c .output) (judged c t) .answer .number ≡ 0
   unfolding infers infer-operation

@@ -11,7 +11,8 @@ use native.Mathlib.Omega.{arith}
 use Rattle.definitions.specs.declared.Limits.{Limits}
 use Rattle.definitions.specs.Bytes.{Bytes}
 use Rattle.definitions.specs.Outcome.{ok, refused}
-use Rattle.definitions.specs.Tokens.{Placed, tokens, Step, misplaced, opens, full-forms, read-tokens}
+use Rattle.definitions.specs.Limits.{over}
+use Rattle.definitions.specs.Tokens.{Placed, tokens, Step, misplaced, opens, read-tokens}
 use Rattle.laws.specs.Bools.{or-cases}
 use Rattle.laws.specs.Tests.{ltb-lt}
 use Rattle.laws.specs.Causes.{First, earlier, same-place}
@@ -72,12 +73,11 @@ module _ {Q A : Type 0} {step : Q → Placed → Step Q} {whole : Q → Option A
   pub refused-cause
       : (l : Limits) (s : Bytes) (n p : ℕ) → read-tokens step whole l 0 (length s) start (tokens s) ≡ refused n p
       → Cause Right Bracket l s n p
-  unfolding full-forms
   refused-cause l s n p e = by-stop (read-stopped step whole l (length s) (tokens s) n p 0 start (omega arith) e)
     where
-      over : (n d : ℕ) → (ltb (l .values) n ≡ true) ⊎ (ltb (l .nesting) d ≡ true) → (l .values < n) ⊎ (l .nesting < d)
-      over n d (inl h) = inl (ltb-lt (l .values) n h)
-      over n d (inr h) = inr (ltb-lt (l .nesting) d h)
+      exceeds : (n d : ℕ) → (ltb (l .values) n ≡ true) ⊎ (ltb (l .nesting) d ≡ true) → (l .values < n) ⊎ (l .nesting < d)
+      exceeds n d (inl h) = inl (ltb-lt (l .values) n h)
+      exceeds n d (inr h) = inr (ltb-lt (l .nesting) d h)
 
       by-stop : {n p : ℕ} → Stopped step whole l 0 (length s) start (tokens s) n p → Cause Right Bracket l s n p
       by-stop (stopped-token pre t post ds u i w f m) = misplaced-token pre t post i (walk-begins w) (none-begins pre w m)
@@ -91,13 +91,13 @@ module _ {Q A : Type 0} {step : Q → Placed → Step Q} {whole : Q → Option A
           d
           i
           (adequate .bracket-to w o)
-          (over
+          (exceeds
           (suc (length ds))
           d
           (or-cases
           (ltb (l .values) (suc (length ds)))
           (ltb (l .nesting) d)
-          (subst (λ c. full-forms l (suc c) d ≡ true) (let z : 0 + length ds ≡ length ds = omega arith in z) h)))
+          (subst (λ c. over l (suc c) d ≡ true) (let z : 0 + length ds ≡ length ds = omega arith in z) h)))
 
   -- ---- no cause stands before
 

@@ -10,7 +10,8 @@ use lib.ListN.{length}
 use native.Mathlib.Omega.{arith}
 use Rattle.definitions.specs.declared.Limits.{Limits}
 use Rattle.definitions.specs.Outcome.{Outcome, ok, refused}
-use Rattle.definitions.specs.Tokens.{Placed, Step, misplaced, go, opens, full-forms, judge-step, or-end, read-tokens}
+use Rattle.definitions.specs.Limits.{over}
+use Rattle.definitions.specs.Tokens.{Placed, Step, misplaced, go, opens, judge-step, or-end, read-tokens}
 use Rattle.laws.specs.Tests.{ltb-le, le-ltb}
 use Rattle.laws.specs.Bools.{or-false-left, or-false-right, clash}
 
@@ -152,7 +153,7 @@ module _ {Q A : Type 0} (step : Q → Placed → Step Q) (whole : Q → Option A
   pub read-accepted
       : (ts : List Placed) (a : A) (n : ℕ) (q : Q) → n ≤ l .values → read-tokens step whole l n end q ts ≡ ok a
       → Accepted step whole l n q ts a
-  unfolding read-tokens or-end judge-step full-forms most
+  unfolding read-tokens or-end judge-step most
   read-accepted [] a n q h e = at-end (whole q) refl e
     where
       at-end : (o : Option A) → whole q ≡ o → or-end end o ≡ ok a → Accepted step whole l n q [] a
@@ -168,7 +169,7 @@ module _ {Q A : Type 0} (step : Q → Placed → Step Q) (whole : Q → Option A
       more i j f = record { count-fits = let z = f .count-fits in omega arith; depth-fits = let z = f .depth-fits in omega arith }
 
       entered
-          : (d : ℕ) (r : Q) → step q t ≡ opens d r → (b : Bool) → full-forms l (suc n) d ≡ b
+          : (d : ℕ) (r : Q) → step q t ≡ opens d r → (b : Bool) → over l (suc n) d ≡ b
           → Path (Outcome ℕ A) (elim b [ true ↦ refused 8 (t .at) | false ↦ next (suc n) r ]) (ok a)
           → ((m : ℕ) (r : Q) → m ≤ l .values → next m r ≡ ok a → Accepted step whole l m r ts a)
           → Accepted step whole l n q (t ∷ ts) a
@@ -187,18 +188,18 @@ module _ {Q A : Type 0} (step : Q → Placed → Step Q) (whole : Q → Option A
       by-step (go r) f g rest =
           let w = rest n r h g in
           record { depths = w .depths; last = w .last; walk = on f (w .walk); is-whole = w .is-whole; fits = w .fits }
-      by-step (opens d r) f g rest = entered d r f (full-forms l (suc n) d) refl g rest
+      by-step (opens d r) f g rest = entered d r f (over l (suc n) d) refl g rest
 
   -- reading goes along a walk that keeps the limits
   pub read-along
       : {q u : Q} {ts us : List Placed} {ds : List ℕ} → Walk step q ts ds u us → (n : ℕ) → Fits l n ds
       → read-tokens step whole l n end q ts ≡ read-tokens step whole l (n + length ds) end u us
-  unfolding read-tokens judge-step full-forms most
+  unfolding read-tokens judge-step most
   read-along {q = q} {ts = ts} stay n f = ap (λ m. read-tokens step whole l m end q ts) (let z : n ≡ n + 0 = omega arith in z)
   read-along (on e g) n f = rw e (read-along g n f)
   read-along (enter {u = u} {us = us} {d = d} {ds = ds} e g) n f = rw e (rw (closed, judge-step) (read-along g (suc n) rest ∙ again))
     where
-      closed : full-forms l (suc n) d ≡ false
+      closed : over l (suc n) d ≡ false
       closed =
           none-over
           (le-ltb (l .values) (suc n) (let z = f .count-fits in omega arith))

@@ -10,7 +10,8 @@ use native.Mathlib.Omega.{arith}
 use Rattle.definitions.specs.declared.Limits.{Limits}
 use Rattle.definitions.specs.Bytes.{Bytes}
 use Rattle.definitions.specs.Outcome.{Outcome, ok, refused}
-use Rattle.definitions.specs.Tokens.{Placed, tokens, Step, misplaced, go, opens, full-forms, judge-step, or-end, read-tokens}
+use Rattle.definitions.specs.Limits.{over}
+use Rattle.definitions.specs.Tokens.{Placed, tokens, Step, misplaced, go, opens, judge-step, or-end, read-tokens}
 use Rattle.laws.specs.Bools.{or-false-left, or-false-right}
 use Rattle.laws.specs.Causes.{First, earlier, same-place}
 use Rattle.laws.specs.Tests.{ltb-le}
@@ -48,7 +49,7 @@ pub data Stopped
       → Stopped step whole l n end q ts 7 end
   stopped-full
       : (pre : List Placed) (t : Placed) (post : List Placed) (ds : List ℕ) (u r : Q) (d : ℕ) → ts ≡ pre ++ t ∷ post
-      → Walk step q pre ds u [] → Fits l n ds → step u t ≡ opens d r → full-forms l (suc (n + length ds)) d ≡ true
+      → Walk step q pre ds u [] → Fits l n ds → step u t ≡ opens d r → over l (suc (n + length ds)) d ≡ true
       → Stopped step whole l n end q ts 8 (t .at)
 
 module _ {Q A : Type 0} (step : Q → Placed → Step Q) (whole : Q → Option A) (l : Limits) (end : ℕ) where
@@ -97,12 +98,12 @@ module _ {Q A : Type 0} (step : Q → Placed → Step Q) (whole : Q → Option A
       (enter e w)
       (record { count-fits = let z = f .count-fits in omega arith; depth-fits = let z = f .depth-fits in omega arith })
       o
-      (subst (λ c. full-forms l (suc c) x ≡ true) (let z : suc n + length ds ≡ n + suc (length ds) = omega arith in z) y)
+      (subst (λ c. over l (suc c) x ≡ true) (let z : suc n + length ds ≡ n + suc (length ds) = omega arith in z) y)
 
   pub read-stopped
       : (ts : List Placed) (k p n : ℕ) (q : Q) → n ≤ l .values → read-tokens step whole l n end q ts ≡ refused k p
       → Stopped step whole l n end q ts k p
-  unfolding read-tokens or-end judge-step full-forms most
+  unfolding read-tokens or-end judge-step most
   read-stopped [] k p n q h e = at-end (whole q) refl e
     where
       at-end : (o : Option A) → whole q ≡ o → or-end end o ≡ refused k p → Stopped step whole l n end q [] k p
@@ -122,7 +123,7 @@ module _ {Q A : Type 0} (step : Q → Placed → Step Q) (whole : Q → Option A
       next n′ q′ = read-tokens step whole l n′ end q′ ts
 
       entered
-          : (d : ℕ) (r : Q) → step q t ≡ opens d r → (b : Bool) → full-forms l (suc n) d ≡ b
+          : (d : ℕ) (r : Q) → step q t ≡ opens d r → (b : Bool) → over l (suc n) d ≡ b
           → Path (Outcome ℕ A) (elim b [ true ↦ refused 8 (t .at) | false ↦ next (suc n) r ]) (refused k p)
           → ((m : ℕ) (r : Q) → m ≤ l .values → next m r ≡ refused k p → Stopped step whole l m end r ts k p)
           → Stopped step whole l n end q (t ∷ ts) k p
@@ -131,7 +132,7 @@ module _ {Q A : Type 0} (step : Q → Placed → Step Q) (whole : Q → Option A
           (Stopped step whole l n end q (t ∷ ts))
           (refused-number e)
           (refused-place e)
-          (stopped-full [] t ts [] q r d refl stay empty f (subst (λ c. full-forms l (suc c) d ≡ true) (let z : n ≡ n + 0 = omega arith in z) g))
+          (stopped-full [] t ts [] q r d refl stay empty f (subst (λ c. over l (suc c) d ≡ true) (let z : n ≡ n + 0 = omega arith in z) g))
       entered d r f false g e rest =
           let i : suc n ≤ l .values = ltb-le (l .values) (suc n) (or-false-left (ltb (l .values) (suc n)) (ltb (l .nesting) d) g) in
           let j : d ≤ l .nesting = ltb-le (l .nesting) d (or-false-right (ltb (l .values) (suc n)) (ltb (l .nesting) d) g) in
@@ -148,7 +149,7 @@ module _ {Q A : Type 0} (step : Q → Placed → Step Q) (whole : Q → Option A
           (refused-place g)
           (stopped-token [] t ts [] q refl stay empty f)
       by-step (go r) f g rest = later-on f (rest n r h g)
-      by-step (opens d r) f g rest = entered d r f (full-forms l (suc n) d) refl g rest
+      by-step (opens d r) f g rest = entered d r f (over l (suc n) d) refl g rest
 
 -- ---- walks over a beginning
 

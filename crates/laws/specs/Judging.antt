@@ -12,6 +12,7 @@ use lib.ListN.{length, take, drop}
 use lib.Seq.{take-append-seam}
 use Rattle.definitions.specs.declared.Limits.{Limits}
 use Rattle.definitions.specs.declared.Answer.{Answer}
+use Rattle.definitions.specs.Limits.{over}
 use Rattle.definitions.specs.Bytes.{Bytes}
 use Rattle.definitions.specs.Outcome.{Outcome, ok, refused}
 use Rattle.definitions.specs.Value.{Value, size, nesting}
@@ -19,7 +20,7 @@ use Rattle.definitions.specs.Plain.{plain}
 use Rattle.definitions.specs.Shape.{Shape, forms, levels}
 use Rattle.definitions.specs.ShapeText.{write-shape}
 use Rattle.definitions.specs.Running.{Ran}
-use Rattle.definitions.specs.Operations.{Done, Judged, passed, stopped, _>>=_, refusal, output-short, written, in-text, judge-text, slices-short, judge-work, Text-out, shape-out, result-out, deliver, finish}
+use Rattle.definitions.specs.Operations.{Done, Judged, passed, stopped, _>>=_, refusal, output-short, written, Reading, in-text, judge-text, judge-both, slices-short, judge-work, prelude, Text-out, to-write, shape-out, result-out, deliver, finish}
 use Rattle.laws.specs.Tests.{ltb-le, le-ltb, ltb-lt, lt-ltb}
 use Rattle.laws.specs.Bools.{or-false-left, or-false-right}
 
@@ -59,7 +60,7 @@ pub work-long : (published lent : List ℕ) → slices-short published lent ≡ 
 unfolding judge-work
 work-long published lent e = rw (e, judge-work)
 
-module _ {A : Type 0} (k : ℕ) (l : Limits) (read : Limits → Bytes → Outcome ℕ A) (s : Bytes) where
+module _ {A : Type 0} (k : ℕ) (l : Limits) (read : Reading A) (s : Bytes) where
   pub text-long : ltb (l .bytes) (length s) ≡ true → judge-text k l read s ≡ stopped (refusal 2 k 0)
   unfolding judge-text
   text-long e = rw (e, judge-text)
@@ -74,19 +75,19 @@ module _ {A : Type 0} (k : ℕ) (l : Limits) (read : Limits → Bytes → Outcom
 
 -- the shape is too large to be written
 abbrev pub shape-over : Limits → Shape → Bool
-shape-over l s = ltb (l .values) (forms s) || ltb (l .nesting) (levels s) || ltb (l .bytes) (length (write-shape s))
+shape-over l s = over l (forms s) (levels s) || ltb (l .bytes) (length (write-shape s))
 
 pub shape-out-over : (l : Limits) (s : Shape) → shape-over l s ≡ true → shape-out l s ≡ stopped (refusal 11 0 0)
 unfolding shape-out
 shape-out-over l s e = rw (e, shape-out)
 
-pub shape-out-fits : (l : Limits) (s : Shape) → shape-over l s ≡ false → shape-out l s ≡ passed (record { bytes = write-shape s; steps = 0 })
+pub shape-out-fits : (l : Limits) (s : Shape) → shape-over l s ≡ false → shape-out l s ≡ passed (to-write (write-shape s) 0)
 unfolding shape-out
 shape-out-fits l s e = rw (e, shape-out)
 
 -- the result is too large to be written
 abbrev pub result-over : Limits → Value → Bool
-result-over l v = ltb (l .values) (size v) || ltb (l .nesting) (nesting v)
+result-over l v = over l (size v) (nesting v)
 
 pub result-out-over : (l : Limits) (x : Ran Value) → result-over l (x .result) ≡ true → result-out l x ≡ stopped (refusal 14 0 0)
 unfolding result-out
@@ -94,7 +95,7 @@ result-out-over l x e = rw (e, result-out)
 
 pub result-out-fits
     : (l : Limits) (x : Ran Value) → result-over l (x .result) ≡ false
-    → result-out l x ≡ passed (record { bytes = plain (x .result); steps = x .steps })
+    → result-out l x ≡ passed (to-write (plain (x .result)) (x .steps))
 unfolding result-out
 result-out-fits l x e = rw (e, result-out)
 
@@ -107,7 +108,7 @@ deliver-short output t e = rw (e, deliver)
 pub deliver-room
     : (output : Bytes) (t : Text-out) → ltb (length output) (length (t .bytes)) ≡ false
     → deliver output t
-    ≡ record { answer = written (length (t .bytes)) (t .steps); output = t .bytes ++ drop (length (t .bytes)) output }
+    ≡ record { answer = written (length (t .bytes)) (t .steps) (t .yes); output = t .bytes ++ drop (length (t .bytes)) output }
 unfolding deliver
 deliver-room output t e = rw (e, deliver)
 
@@ -144,6 +145,17 @@ pub bind-stopped : {A B : Type 0} {m : Judged A} {r : Answer} (f : A → Judged 
 unfolding _>>=_
 bind-stopped f e = ap (λ m. m >>= f) e
 
+-- ---- the prelude, and two texts: what is judged of them passed for these reasons
+
+module _ {A : Type 0} (published lent : List ℕ) (j : Judged A) where
+  pub prelude-short : slices-short published lent ≡ true → prelude published lent j ≡ stopped (refusal 1 0 0)
+  unfolding prelude
+  prelude-short e = bind-stopped _ (work-short published lent e)
+
+  pub prelude-long : slices-short published lent ≡ false → prelude published lent j ≡ j
+  unfolding prelude
+  prelude-long e = bind-of _ (work-long published lent e)
+
 pub work-passed : (published lent : List ℕ) {u : Unit {0}} → judge-work published lent ≡ passed u → slices-short published lent ≡ false
 work-passed published lent {u} e = go (slices-short published lent) refl
   where
@@ -151,13 +163,20 @@ work-passed published lent {u} e = go (slices-short published lent) refl
     go true q = stopped-not-passed (sym (work-short published lent q) ∙ e)
     go false q = q
 
+pub prelude-passed
+    : {A : Type 0} (published lent : List ℕ) (j : Judged A) (a : A) → prelude published lent j ≡ passed a
+    → (slices-short published lent ≡ false) × (j ≡ passed a)
+unfolding prelude
+prelude-passed published lent j a e =
+    let (w, f, g) = bind-passed (judge-work published lent) (λ w. j) a e in (work-passed published lent f, g)
+
 pub in-text-passed : {A : Type 0} (k : ℕ) (o : Outcome ℕ A) (a : A) → in-text k o ≡ passed a → o ≡ ok a
 unfolding in-text
 in-text-passed k (ok b) a e = ap ok (passed-same e)
 in-text-passed k (refused n p) a e = stopped-not-passed e
 
 pub text-passed
-    : {A : Type 0} (k : ℕ) (l : Limits) (read : Limits → Bytes → Outcome ℕ A) (s : Bytes) (a : A) → judge-text k l read s ≡ passed a
+    : {A : Type 0} (k : ℕ) (l : Limits) (read : Reading A) (s : Bytes) (a : A) → judge-text k l read s ≡ passed a
     → (length s ≤ l .bytes) × (read l s ≡ ok a)
 text-passed k l read s a e = go (ltb (l .bytes) (length s)) refl
   where
@@ -165,12 +184,38 @@ text-passed k l read s a e = go (ltb (l .bytes) (length s)) refl
     go true q = stopped-not-passed (sym (text-long k l read s q) ∙ e)
     go false q = (ltb-le (l .bytes) (length s) q, in-text-passed k (read l s) a (sym (text-short k l read s q) ∙ e))
 
+module _ {A B C : Type 0} (l : Limits) (read : Reading A) (s : Bytes) (read′ : Reading B) (t : Bytes) (then : A → B → Judged C) where
+  pub both-read
+      : (a : A) (b : B) → length s ≤ l .bytes → read l s ≡ ok a → length t ≤ l .bytes → read′ l t ≡ ok b
+      → judge-both l read s read′ t then ≡ then a b
+  unfolding judge-both
+  both-read a b h e g f = bind-of _ (text-reads 1 l read s a h e) ∙ bind-of _ (text-reads 2 l read′ t b g f)
+
+  -- why both passed, and what came behind
+  pub record Both-passed (c : C) : Type 0 where
+    pub first : A
+    pub second : B
+    pub first-short : length s ≤ l .bytes
+    pub first-read : read l s ≡ ok first
+    pub second-short : length t ≤ l .bytes
+    pub second-read : read′ l t ≡ ok second
+    pub rest : then first second ≡ passed c
+
+  pub both-passed : (c : C) → judge-both l read s read′ t then ≡ passed c → Both-passed c
+  unfolding judge-both
+  both-passed c e =
+      let (a, f, g) = bind-passed (judge-text 1 l read s) _ c e in
+      let (b, h, k) = bind-passed (judge-text 2 l read′ t) _ c g in
+      let (x, y) = text-passed 1 l read s a f in
+      let (z, w) = text-passed 2 l read′ t b h in
+      record { first = a; second = b; first-short = x; first-read = y; second-short = z; second-read = w; rest = k }
+
 pub shape-out-passed
     : (l : Limits) (s : Shape) (t : Text-out) → shape-out l s ≡ passed t
-    → (shape-over l s ≡ false) × (t ≡ record { bytes = write-shape s; steps = 0 })
+    → (shape-over l s ≡ false) × (t ≡ to-write (write-shape s) 0)
 shape-out-passed l s t e = go (shape-over l s) refl
   where
-    go : (b : Bool) → shape-over l s ≡ b → (shape-over l s ≡ false) × (t ≡ record { bytes = write-shape s; steps = 0 })
+    go : (b : Bool) → shape-over l s ≡ b → (shape-over l s ≡ false) × (t ≡ to-write (write-shape s) 0)
     go true q = stopped-not-passed (sym (shape-out-over l s q) ∙ e)
     go false q = (q, passed-same (sym e ∙ shape-out-fits l s q))
 
@@ -179,8 +224,8 @@ pub shape-fits
     : (l : Limits) (s : Shape) → shape-over l s ≡ false
     → (forms s ≤ l .values) × (levels s ≤ l .nesting) × (length (write-shape s) ≤ l .bytes)
 shape-fits l s e =
-    let a : ltb (l .values) (forms s) || ltb (l .nesting) (levels s) ≡ false = or-false-left _ (ltb (l .bytes) (length (write-shape s))) e in
-    let b : ltb (l .bytes) (length (write-shape s)) ≡ false = or-false-right (ltb (l .values) (forms s) || ltb (l .nesting) (levels s)) _ e in (
+    let a : over l (forms s) (levels s) ≡ false = or-false-left _ (ltb (l .bytes) (length (write-shape s))) e in
+    let b : ltb (l .bytes) (length (write-shape s)) ≡ false = or-false-right (over l (forms s) (levels s)) _ e in (
       ltb-le _ _ (or-false-left (ltb (l .values) (forms s)) (ltb (l .nesting) (levels s)) a),
       ltb-le _ _ (or-false-right (ltb (l .values) (forms s)) (ltb (l .nesting) (levels s)) a),
       ltb-le _ _ b,
@@ -200,13 +245,24 @@ work-positive published lent = go (slices-short published lent) refl
     go false q = rw (work-long published lent q) tt
 
 pub text-positive
-    : {A : Type 0} (k : ℕ) (l : Limits) (read : Limits → Bytes → Outcome ℕ A) (s : Bytes) → Numbered (read l s)
+    : {A : Type 0} (k : ℕ) (l : Limits) (read : Reading A) (s : Bytes) → Numbered (read l s)
     → Positive (judge-text k l read s)
 text-positive k l read s h = go (ltb (l .bytes) (length s)) refl
   where
     go : (b : Bool) → ltb (l .bytes) (length s) ≡ b → Positive (judge-text k l read s)
     go true q = rw (text-long k l read s q) (refusal-positive 2 k 0 (lit< tt))
     go false q = rw (text-short k l read s q) (in-text-positive k (read l s) h)
+
+pub prelude-positive : {A : Type 0} (published lent : List ℕ) (j : Judged A) → Positive j → Positive (prelude published lent j)
+unfolding prelude
+prelude-positive published lent j h = bind-positive _ _ (work-positive published lent) λ w. h
+
+pub both-positive
+    : {A B C : Type 0} (l : Limits) (read : Reading A) (s : Bytes) (read′ : Reading B) (t : Bytes) (then : A → B → Judged C)
+    → Numbered (read l s) → Numbered (read′ l t) → ((a : A) (b : B) → Positive (then a b)) → Positive (judge-both l read s read′ t then)
+unfolding judge-both
+both-positive l read s read′ t then h g k =
+    bind-positive _ _ (text-positive 1 l read s h) λ a. bind-positive _ _ (text-positive 2 l read′ t g) λ b. k a b
 
 pub shape-out-positive : (l : Limits) (s : Shape) → Positive (shape-out l s)
 shape-out-positive l s = go (shape-over l s) refl
@@ -236,14 +292,14 @@ finish-zero output (stopped r) h e = absurd (let z : ⊥ = omega arith in z)
 pub finish-written
     : (output : Bytes) {m : Judged Text-out} (t : Text-out) → m ≡ passed t → length (t .bytes) ≤ length output
     → finish output m
-    ≡ record { answer = written (length (t .bytes)) (t .steps); output = t .bytes ++ drop (length (t .bytes)) output }
+    ≡ record { answer = written (length (t .bytes)) (t .steps) (t .yes); output = t .bytes ++ drop (length (t .bytes)) output }
 unfolding finish
 finish-written output t e h = ap (λ m. finish output m) e ∙ deliver-room output t (le-ltb _ _ h)
 
 -- what is written stands at the front of the output
 pub front
     : (output : Bytes) (t : Text-out) (d : Done)
-    → d ≡ record { answer = written (length (t .bytes)) (t .steps); output = t .bytes ++ drop (length (t .bytes)) output }
+    → d ≡ record { answer = written (length (t .bytes)) (t .steps) (t .yes); output = t .bytes ++ drop (length (t .bytes)) output }
     → (d .answer .number ≡ 0) × (take (d .answer .length) (d .output) ≡ t .bytes)
 unfolding written
 front output t d e = rw e (refl, take-append-seam (t .bytes) _)

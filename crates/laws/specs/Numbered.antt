@@ -11,7 +11,8 @@ use Rattle.definitions.specs.Bytes.{Bytes}
 use Rattle.definitions.specs.Outcome.{Outcome, ok, refused, _>>=_}
 use Rattle.definitions.specs.Shape.{Kind, Shape, Record, no-rec, rec-of, Fields, within, element-of, record-of, find}
 use Rattle.definitions.specs.Join.{join, insert, shape-of}
-use Rattle.definitions.specs.Tokens.{Placed, Step, misplaced, go, opens, full-forms, judge-step, or-end, read-tokens, tokens}
+use Rattle.definitions.specs.Limits.{over}
+use Rattle.definitions.specs.Tokens.{Placed, Step, misplaced, go, opens, judge-step, or-end, read-tokens, tokens}
 use Rattle.definitions.specs.ShapeText.{read-shape}
 use Rattle.definitions.specs.Reader.{Place, Result, Pairs, no-pairs, pair, empty-reader, read-result, read-reader}
 use Rattle.definitions.specs.Checking.{wants, listed, field-shape, field-kinds, convert-kinds, convert-shape, list-kinds, if-kinds, element-shape, cut-to, taken-out, check-place, check, check-pairs, check-reader}
@@ -25,7 +26,7 @@ numbered-judge
 unfolding judge-step
 numbered-judge l n at misplaced on h = lit< tt
 numbered-judge l n at (go q) on h = h n q
-numbered-judge {A = A} l n at (opens d q) on h = by (full-forms l (suc n) d)
+numbered-judge {A = A} l n at (opens d q) on h = by (over l (suc n) d)
   where
     by : (b : Bool) → Numbered {A = A} (elim b [ true ↦ refused 8 at | false ↦ on (suc n) q ])
     by true = lit< tt

@@ -7,7 +7,8 @@ use mathlib.Core.List.{List}
 use mathlib.Core.Option.{Option, none, some}
 use Rattle.definitions.specs.declared.Limits.{Limits}
 use Rattle.definitions.specs.Outcome.{Outcome, ok, refused, _>>=_}
-use Rattle.definitions.specs.Tokens.{Placed, Step, misplaced, go, opens, full-forms, judge-step, or-end, read-tokens}
+use Rattle.definitions.specs.Limits.{over}
+use Rattle.definitions.specs.Tokens.{Placed, Step, misplaced, go, opens, judge-step, or-end, read-tokens}
 use Rattle.laws.specs.LexGood.{Good-token, Good-tokens, good-no-tokens, good-then}
 
 -- the outcome is a refusal, or R holds of what came out
@@ -53,7 +54,7 @@ judge-gives
 unfolding judge-step
 judge-gives l n at on leads-nowhere h = gives-refused
 judge-gives l n at on (leads-on {q} v) h = h n q v
-judge-gives l n at on (leads-in {d} {q} v) h = gives-if (full-forms l (suc n) d) gives-refused (h (suc n) q v)
+judge-gives l n at on (leads-in {d} {q} v) h = gives-if (over l (suc n) d) gives-refused (h (suc n) q v)
 
 end-gives
     : {A : Type 0} {R : A → Type 0} (end : ℕ) (o : Option A) → ((a : A) → o ≡ some a → R a) → Gives R (or-end end o)

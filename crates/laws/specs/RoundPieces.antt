@@ -9,7 +9,8 @@ use lib.Dec.{ltb}
 use Rattle.definitions.specs.declared.Limits.{Limits}
 use Rattle.definitions.specs.Bytes.{Bytes, bytes, look, between, order, same}
 use Rattle.definitions.specs.Plain.{plain-text}
-use Rattle.definitions.specs.Tokens.{opening, closing, quoted, word, at-place, go, opens, full-forms, want-open, want-close, want-text, want-word, want-named, where-true, where-some, look-word, border-table}
+use Rattle.definitions.specs.Limits.{over}
+use Rattle.definitions.specs.Tokens.{opening, closing, quoted, word, at-place, go, opens, want-open, want-close, want-text, want-word, want-named, where-true, where-some, look-word, border-table}
 use Rattle.definitions.specs.Shape.{Kind, all-kinds, among, Shape, shape, Element, no-list, list-of, Record, no-rec, rec-of, Fields, no-fields, field, behind}
 use Rattle.definitions.specs.ShapeText.{Parts, no-parts, Around, as-element, as-member, State, want, shape-open, shape-word, kind-word, member-open, member-word, member-name, member-close, put, depth, build, name-fits, shape-words, member-words, member-step, element-step, bracket-step, kind-step, want-step, step, write-kinds, new-line, write, write-element, write-record, write-fields}
 use Rattle.laws.specs.Ranges.{gt-leb}
@@ -18,8 +19,7 @@ use Rattle.laws.specs.RoundReads.{Steps}
 
 -- ---- the limits
 
-pub room : (l : Limits) (n d : ℕ) → n ≤ l .values → d ≤ l .nesting → full-forms l n d ≡ false
-unfolding full-forms
+pub room : (l : Limits) (n d : ℕ) → n ≤ l .values → d ≤ l .nesting → over l n d ≡ false
 room l n d h k =
     let h₁ : ltb (l .values) n ≡ false = gt-leb {m = suc (l .values)} {n = n} (omega arith) in
     let k₁ : ltb (l .nesting) d ≡ false = gt-leb {m = suc (l .nesting)} {n = d} (omega arith) in

@@ -9,7 +9,7 @@ use Rattle.definitions.specs.Bytes.{Bytes, same}
 use Rattle.definitions.specs.Outcome.{Outcome, ok, refused}
 use Rattle.definitions.specs.Shape.{Kind, Shape, Element, Record, Fields, field, nothing, within, element-of, record-of, find, only-bool, only-numeric, only-text, only-list, only-rec}
 use Rattle.definitions.specs.Reader.{Place, Conversion, to-int, to-dec, to-bool, to-text, Test, Result, Pairs}
-use Rattle.definitions.specs.Checking.{wants, listed, field-shape, field-kinds, list-kinds, if-kinds, convert-kinds, convert-shape, element-shape, cut-to, taken-out, check-place, check, check-pairs, check-reader}
+use Rattle.definitions.specs.Checking.{wants, listed, field-shape, field-kinds, list-kinds, if-kinds, convert-kinds, convert-shape, element-shape, stay-element, stay-record, stay, cut-to, taken-out, check-place, check, check-pairs, check-reader}
 use Rattle.laws.specs.Good.{Good-shape, good-shape, Good-element, good-no-list, good-list-of, Good-record, good-no-rec, good-rec-of, Good-fields, good-no-fields, good-field, Good-reader, good-convert, good-keep, good-count, good-each, good-when, good-choose, good-literal, good-pack, Good-pairs, good-no-pairs, good-pair}
 use Rattle.laws.specs.RoundGood.{join-good, nothing-good, insert-good, shape-of-good}
 use Rattle.laws.specs.RoundOutcome.{Gives, gives-ok, gives-refused, gives-holds, gives-then, gives-if}
@@ -39,25 +39,25 @@ unfolding element-shape
 element-shape-good good-no-list = nothing-good
 element-shape-good (good-list-of s) = s
 
+stay-good : (kept : Kind → Bool) {s : Shape} → Good-shape s → Good-shape (stay kept s)
+unfolding stay stay-element stay-record
+stay-good kept (good-shape e r) = good-shape (element (kept Kind.list) e) (members (kept Kind.rec) r)
+  where
+    element : (k : Bool) {e : Element} → Good-element e → Good-element (stay-element k e)
+    element true g = g
+    element false g = good-no-list
+
+    members : (k : Bool) {r : Record} → Good-record r → Good-record (stay-record k r)
+    members true g = g
+    members false g = good-no-rec
+
 cut-to-good : (k : Test) {s : Shape} → Good-shape s → Good-shape (cut-to k s)
 unfolding cut-to
-cut-to-good Test.null (good-shape e r) = good-shape good-no-list good-no-rec
-cut-to-good Test.bool (good-shape e r) = good-shape good-no-list good-no-rec
-cut-to-good Test.int (good-shape e r) = good-shape good-no-list good-no-rec
-cut-to-good Test.num (good-shape e r) = good-shape good-no-list good-no-rec
-cut-to-good Test.text (good-shape e r) = good-shape good-no-list good-no-rec
-cut-to-good Test.list (good-shape e r) = good-shape e good-no-rec
-cut-to-good Test.rec (good-shape e r) = good-shape good-no-list r
+cut-to-good k g = stay-good _ g
 
 taken-out-good : (k : Test) {s : Shape} → Good-shape s → Good-shape (taken-out k s)
 unfolding taken-out
-taken-out-good Test.null (good-shape e r) = good-shape e r
-taken-out-good Test.bool (good-shape e r) = good-shape e r
-taken-out-good Test.int (good-shape e r) = good-shape e r
-taken-out-good Test.num (good-shape e r) = good-shape e r
-taken-out-good Test.text (good-shape e r) = good-shape e r
-taken-out-good Test.list (good-shape e r) = good-shape good-no-list r
-taken-out-good Test.rec (good-shape e r) = good-shape e good-no-rec
+taken-out-good k g = stay-good _ g
 
 convert-shape-good : (c : Conversion) → Good-shape (convert-shape c)
 unfolding convert-shape only-numeric only-bool only-text

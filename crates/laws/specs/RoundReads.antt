@@ -8,7 +8,8 @@ use lib.ListN.{replicate}
 use Rattle.definitions.specs.declared.Limits.{Limits}
 use Rattle.definitions.specs.Bytes.{Bytes, bytes}
 use Rattle.definitions.specs.Plain.{plain-text}
-use Rattle.definitions.specs.Tokens.{Token, opening, closing, quoted, word, Placed, at-place, no-word, outside, lex, Step, go, opens, full-forms, judge-step, read-tokens}
+use Rattle.definitions.specs.Limits.{over}
+use Rattle.definitions.specs.Tokens.{Token, opening, closing, quoted, word, Placed, at-place, no-word, outside, lex, Step, go, opens, judge-step, read-tokens}
 use Rattle.definitions.specs.ShapeText.{State, step, finished, new-line}
 use Rattle.laws.specs.Rfc3629.{UTF8-octets}
 use Rattle.laws.specs.LexLaws.{lex-text, is-word, Bordered, lex-word, lex-space, lex-line, lex-open, lex-close}
@@ -72,7 +73,7 @@ reads-token l n end q q′ t ts h = ap (λ s. judge-step l n (t .at) s (λ n′ 
 -- the bracket of a form that counts
 reads-form
     : (l : Limits) (n end depth : ℕ) (q q′ : State) (t : Placed) (ts : List Placed) → step q t ≡ opens depth q′
-    → full-forms l (suc n) depth ≡ false
+    → over l (suc n) depth ≡ false
     → read-tokens step finished l n end q (t ∷ ts) ≡ read-tokens step finished l (suc n) end q′ ts
 unfolding read-tokens judge-step
 reads-form l n end depth q q′ t ts h k =
@@ -91,7 +92,7 @@ reads-open {q} {q′} l n r h =
 
 pub reads-open-form
     : {q q′ : State} {depth : ℕ} (l : Limits) (n : ℕ) (r : Bytes) → Steps q opening (opens depth q′)
-    → full-forms l (suc n) depth ≡ false → Reads l n q (0x28 ∷ r) (suc n) q′ r
+    → over l (suc n) depth ≡ false → Reads l n q (0x28 ∷ r) (suc n) q′ r
 reads-open-form {q} {q′} {depth} l n r h k =
     record {
       reads = λ p end. (

@@ -12,8 +12,8 @@ use Rattle.definitions.specs.Value.{Value, Items, no-items, item, Members, no-m
 use Rattle.definitions.specs.Shape.{among}
 use Rattle.definitions.specs.Admits.{kind-of}
 use Rattle.definitions.specs.Reader.{Place, Result, Pairs, no-pairs, pair, among-pairs}
-use Rattle.definitions.specs.Checking.{convert-kinds, list-kinds}
-use Rattle.definitions.specs.Running.{Ran, gives, member-of, members-of, converted, items-of, int-value, test-kinds, truth, run-place, run-items, run, run-pairs, run-reader}
+use Rattle.definitions.specs.Checking.{convert-kinds, list-kinds, test-kinds}
+use Rattle.definitions.specs.Running.{Ran, gives, member-of, members-of, converted, items-of, int-value, truth, run-place, run-items, run, run-pairs, run-reader}
 use Rattle.laws.specs.Bools.{and-intro}
 use Rattle.laws.specs.Distinct.{distinct, distinct-items, distinct-members}
 use Rattle.laws.specs.Readers.{proper, proper-pairs}

@@ -14,8 +14,8 @@ use Rattle.definitions.specs.Value.{Value}
 use Rattle.definitions.specs.Shape.{Kind, all-kinds, rank, among, every, Numeric, no-number, int-only, int-and-dec, Shape, shape, Element, no-list, list-of, Record, no-rec, rec-of, has, has-int, has-dec, has-list, has-rec, within, element-of, record-of, ascending, ascending-element, ascending-record, only-numeric, only-bool, only-text}
 use Rattle.definitions.specs.Admits.{kind-of, missing-have-null, admits, admitted, admitted-items, admitted-members}
 use Rattle.definitions.specs.Reader.{Conversion, to-int, to-dec, to-bool, to-text, Test}
-use Rattle.definitions.specs.Checking.{convert-kinds, if-kinds, convert-shape, element-shape, cut-int, take-out-int, cut-to, taken-out}
-use Rattle.definitions.specs.Running.{items-of, int-value, test-kinds, truth}
+use Rattle.definitions.specs.Checking.{convert-kinds, if-kinds, convert-shape, element-shape, test-kinds, stay-numeric, stay-element, stay-record, stay, cut-to, taken-out}
+use Rattle.definitions.specs.Running.{items-of, int-value, truth}
 use Rattle.laws.specs.Bools.{and-left, and-right, and-intro, or-cases, clash}
 use Rattle.laws.specs.SoundHolds.{Holds}
 
@@ -196,75 +196,71 @@ alike-admits (Value.list vs) s t e h =
 alike-admits (Value.rec ms) s t e h =
     subst (λ (x : Record). elim x [ no-rec ↦ false | rec-of fs ↦ admitted-members ms fs && missing-have-null ms fs ] ≡ true) e h
 
--- the shape that a value of this kind meets in the branch that it takes
-unfoldable pub branch-shape : Test → Shape → Kind → Shape
-branch-shape t s k = elim (among k (test-kinds t)) [ true ↦ cut-to t s | false ↦ taken-out t s ]
+-- where int stays, int is as it was; where dec stays, dec is
+stay-int : (d : Bool) (m : Numeric) → has-int m ≡ has-int (stay-numeric true d m)
+unfolding stay-numeric has-int
+stay-int d no-number = refl
+stay-int d int-only = refl
+stay-int true int-and-dec = refl
+stay-int false int-and-dec = refl
 
-only-int-has : (m : Numeric) → has-int m ≡ has-int (cut-int m)
-unfolding cut-int has-int
-only-int-has no-number = refl
-only-int-has int-only = refl
-only-int-has int-and-dec = refl
+stay-dec : (i : Bool) (m : Numeric) → has-dec m ≡ has-dec (stay-numeric i true m)
+unfolding stay-numeric has-dec
+stay-dec i no-number = refl
+stay-dec true int-only = refl
+stay-dec false int-only = refl
+stay-dec true int-and-dec = refl
+stay-dec false int-and-dec = refl
 
-not-int-has : (m : Numeric) → has-dec m ≡ has-dec (take-out-int m)
-unfolding take-out-int has-dec
-not-int-has no-number = refl
-not-int-has int-only = refl
-not-int-has int-and-dec = refl
+-- of values of a kind that stays, the shape admits what it did
+stay-alike : (kept : Kind → Bool) (s : Shape) (k : Kind) → kept k ≡ true → Alike k s (stay kept s)
+unfolding stay has element-of record-of stay-element stay-record
+stay-alike kept (shape n b m t e r) =
+    by-kind (λ k. kept k ≡ true → Alike k (shape n b m t e r) (stay kept (shape n b m t e r)))
+    (λ h. ap (λ x. x && n) (sym h))
+    (λ h. ap (λ x. x && b) (sym h))
+    (λ h. stay-int (kept Kind.dec) m ∙ ap (λ x. has-int (stay-numeric x (kept Kind.dec) m)) (sym h))
+    (λ h. stay-dec (kept Kind.int) m ∙ ap (λ x. has-dec (stay-numeric (kept Kind.int) x m)) (sym h))
+    (λ h. ap (λ x. x && t) (sym h))
+    (λ h. ap (λ x. stay-element x e) (sym h))
+    (λ h. ap (λ x. stay-record x r) (sym h))
 
-abbrev Branch : Test → Shape → Kind → Type 0
-Branch t s k = Alike k s (branch-shape t s k)
-
-branch-alike : (t : Test) (s : Shape) (k : Kind) → Branch t s k
-unfolding branch-shape among rank test-kinds cut-to taken-out has has-int has-dec element-of record-of
-branch-alike Test.null (shape n b m t e r) = by-kind (Branch Test.null (shape n b m t e r)) refl refl refl refl refl refl refl
-branch-alike Test.bool (shape n b m t e r) = by-kind (Branch Test.bool (shape n b m t e r)) refl refl refl refl refl refl refl
-branch-alike Test.int (shape n b m t e r) =
-    by-kind (Branch Test.int (shape n b m t e r)) refl refl (only-int-has m) (not-int-has m) refl refl refl
-branch-alike Test.num (shape n b m t e r) = by-kind (Branch Test.num (shape n b m t e r)) refl refl refl refl refl refl refl
-branch-alike Test.text (shape n b m t e r) = by-kind (Branch Test.text (shape n b m t e r)) refl refl refl refl refl refl refl
-branch-alike Test.list (shape n b m t e r) = by-kind (Branch Test.list (shape n b m t e r)) refl refl refl refl refl refl refl
-branch-alike Test.rec (shape n b m t e r) = by-kind (Branch Test.rec (shape n b m t e r)) refl refl refl refl refl refl refl
-
-branch-true : (t : Test) (s : Shape) (k : Kind) → among k (test-kinds t) ≡ true → branch-shape t s k ≡ cut-to t s
-unfolding branch-shape
-branch-true t s k e = rw (e, branch-shape)
-
-branch-false : (t : Test) (s : Shape) (k : Kind) → among k (test-kinds t) ≡ false → branch-shape t s k ≡ taken-out t s
-unfolding branch-shape
-branch-false t s k e = rw (e, branch-shape)
-
-branch-admits : (t : Test) (s : Shape) (v : Value) → admits s v ≡ true → admits (branch-shape t s (kind-of v)) v ≡ true
-branch-admits t s v h = alike-admits v s (branch-shape t s (kind-of v)) (branch-alike t s (kind-of v)) h
+stay-admits : (kept : Kind → Bool) (s : Shape) (v : Value) → admits s v ≡ true → kept (kind-of v) ≡ true → admits (stay kept s) v ≡ true
+stay-admits kept s v h e = alike-admits v s (stay kept s) (stay-alike kept s (kind-of v) e) h
 
 -- "`when` takes its first R where the value is a K": the shape cut to K admits it
 pub cut-admits
     : (t : Test) (s : Shape) (v : Value) → admits s v ≡ true → among (kind-of v) (test-kinds t) ≡ true
     → admits (cut-to t s) v ≡ true
-cut-admits t s v h e = ap (λ u. admits u v) (sym (branch-true t s (kind-of v) e)) ∙ branch-admits t s v h
+unfolding cut-to
+cut-admits t s v h e = stay-admits _ s v h e
 
 -- else "K's kinds taken out" admit it
 pub taken-admits
     : (t : Test) (s : Shape) (v : Value) → admits s v ≡ true → among (kind-of v) (test-kinds t) ≡ false
     → admits (taken-out t s) v ≡ true
-taken-admits t s v h e = ap (λ u. admits u v) (sym (branch-false t s (kind-of v) e)) ∙ branch-admits t s v h
+unfolding taken-out
+taken-admits t s v h e = stay-admits _ s v h (ap not e)
+
+stay-ascending : (kept : Kind → Bool) (s : Shape) → ascending s ≡ true → ascending (stay kept s) ≡ true
+unfolding stay stay-element stay-record ascending
+stay-ascending kept (shape n b m t e r) h =
+    and-intro
+    (element (kept Kind.list) (and-left (ascending-element e) (ascending-record r) h))
+    (members (kept Kind.rec) (and-right (ascending-element e) (ascending-record r) h))
+  where
+    element : (k : Bool) → ascending-element e ≡ true → ascending-element (stay-element k e) ≡ true
+    element true g = g
+    element false g = refl
+
+    members : (k : Bool) → ascending-record r ≡ true → ascending-record (stay-record k r) ≡ true
+    members true g = g
+    members false g = refl
 
 pub cut-ascending : (t : Test) (s : Shape) → ascending s ≡ true → ascending (cut-to t s) ≡ true
-unfolding cut-to ascending
-cut-ascending Test.null (shape n b m t e r) h = refl
-cut-ascending Test.bool (shape n b m t e r) h = refl
-cut-ascending Test.int (shape n b m t e r) h = refl
-cut-ascending Test.num (shape n b m t e r) h = refl
-cut-ascending Test.text (shape n b m t e r) h = refl
-cut-ascending Test.list (shape n b m t e r) h = and-intro (and-left (ascending-element e) (ascending-record r) h) refl
-cut-ascending Test.rec (shape n b m t e r) h = and-right (ascending-element e) (ascending-record r) h
+unfolding cut-to
+cut-ascending t s h = stay-ascending _ s h
 
 pub taken-ascending : (t : Test) (s : Shape) → ascending s ≡ true → ascending (taken-out t s) ≡ true
-unfolding taken-out ascending
-taken-ascending Test.null (shape n b m t e r) h = h
-taken-ascending Test.bool (shape n b m t e r) h = h
-taken-ascending Test.int (shape n b m t e r) h = h
-taken-ascending Test.num (shape n b m t e r) h = h
-taken-ascending Test.text (shape n b m t e r) h = h
-taken-ascending Test.list (shape n b m t e r) h = and-right (ascending-element e) (ascending-record r) h
-taken-ascending Test.rec (shape n b m t e r) h = and-intro (and-left (ascending-element e) (ascending-record r) h) refl
+unfolding taken-out
+taken-ascending t s h = stay-ascending _ s h

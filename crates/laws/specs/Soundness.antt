@@ -13,8 +13,8 @@ use Rattle.definitions.specs.Shape.{among, Shape, nothing, element-of, record-o
 use Rattle.definitions.specs.Join.{join}
 use Rattle.definitions.specs.Admits.{kind-of, missing-have-null, admits, admitted, admitted-items, admitted-members}
 use Rattle.definitions.specs.Reader.{Place, Result, Pairs, no-pairs, pair, among-pairs}
-use Rattle.definitions.specs.Checking.{field-kinds, convert-kinds, list-kinds, if-kinds, field-shape, element-shape, cut-to, taken-out, check-place, check, check-pairs, check-reader}
-use Rattle.definitions.specs.Running.{Ran, gives, field-value, converted, items-of, test-kinds, run-place, run-items, run, run-pairs, run-reader}
+use Rattle.definitions.specs.Checking.{field-kinds, convert-kinds, list-kinds, if-kinds, field-shape, element-shape, cut-to, taken-out, check-place, check, check-pairs, check-reader, test-kinds}
+use Rattle.definitions.specs.Running.{Ran, gives, field-value, converted, items-of, run-place, run-items, run, run-pairs, run-reader}
 use Rattle.laws.specs.Bools.{and-intro, not-true}
 use Rattle.laws.specs.Distinct.{distinct}
 use Rattle.laws.specs.AdmitsLaws.{shape-of-admits, admits-join-left, admits-join-right}

@@ -15,13 +15,13 @@ use Rattle.definitions.specs.Join.{join, shape-of}
 use Rattle.definitions.specs.ShapeText.{read-shape, write-shape}
 use Rattle.definitions.specs.Reader.{Result, read-reader}
 use Rattle.definitions.specs.Checking.{check-reader}
-use Rattle.definitions.specs.Operations.{Done, Source, Judged, passed, stopped, _>>=_, written, judge-text, judge-work, Text-out, shape-out, deliver, finish, infer-operation, join-operation, check-operation}
+use Rattle.definitions.specs.Operations.{Done, Source, Judged, passed, stopped, written, prelude, Text-out, shape-out, deliver, finish, join-judged, infer-operation, join-operation, check-operation}
 use Rattle.laws.specs.Good.{Good-shape}
 use Rattle.laws.specs.JoinLaws.{join-ascending, shape-of-ascending}
 use Rattle.laws.specs.SoundShapes.{check-ascending}
 use Rattle.laws.specs.ShapeForms.{shape-ascending}
 use Rattle.laws.specs.RoundLaws.{shape-reads-back, shape-read-good, join-good, check-good, reader-read-good}
-use Rattle.laws.specs.Judging.{Positive, bind-positive, work-positive, text-positive, shape-out-positive, bind-passed, text-passed, shape-over, shape-out-passed, shape-fits, deliver-short, deliver-room, finish-zero, finish-written, front}
+use Rattle.laws.specs.Judging.{Positive, prelude-positive, both-positive, shape-out-positive, prelude-passed, both-passed, shape-over, shape-out-passed, shape-fits, deliver-short, deliver-room, finish-zero, finish-written, front}
 use Rattle.laws.specs.Numbered.{numbered-shape}
 use Rattle.laws.specs.Tests.{eq-eqb}
 use Rattle.laws.specs.Chain.{Call, infers, takes, Proper-source}
@@ -77,24 +77,25 @@ infer-reads-back source proper published lent l shape document output e =
 module _ (published lent : List ℕ) (l : Limits) where
   -- what is judged of a join before its output
   abbrev joined : Bytes → Bytes → Judged Text-out
-  joined first second =
-      judge-work published lent
-      >>= λ w. judge-text 1 l read-shape first
-      >>= λ s. judge-text 2 l read-shape second
-      >>= λ t. shape-out l (join s t)
+  joined first second = prelude published lent (join-judged l first second)
+
+  -- what both texts come to
+  abbrev then : Shape → Shape → Judged Text-out
+  then s t = shape-out l (join s t)
 
   joined-positive : (first second : Bytes) → Positive (joined first second)
+  unfolding join-judged
   joined-positive first second =
-      bind-positive _ _ (work-positive published lent) λ w.
-      bind-positive _ _ (text-positive 1 l read-shape first (numbered-shape l first)) λ s.
-      bind-positive _ _ (text-positive 2 l read-shape second (numbered-shape l second)) λ t. shape-out-positive l (join s t)
+      prelude-positive published lent (join-judged l first second)
+      (both-positive l read-shape first read-shape second then (numbered-shape l first) (numbered-shape l second) λ s t.
+      shape-out-positive l (join s t))
 
   pub join-reads-back
       : (first second output : Bytes) → join-operation published lent l first second output .answer .number ≡ 0
       → (s : Shape) × (t : Shape) × (read-shape l first ≡ ok s) × (read-shape l second ≡ ok t)
       × (read-shape l (take (join-operation published lent l first second output .answer .length) (join-operation published lent l first second output .output))
       ≡ ok (join s t))
-  unfolding join-operation
+  unfolding join-operation join-judged
   join-reads-back first second output e =
       let (o, p, room) = finish-zero output (joined first second) (joined-positive first second) e in
       go o p room
@@ -104,12 +105,13 @@ module _ (published lent : List ℕ) (l : Limits) where
           → (s : Shape) × (t : Shape) × (read-shape l first ≡ ok s) × (read-shape l second ≡ ok t)
           × (read-shape l (take (finish output (joined first second) .answer .length) (finish output (joined first second) .output)) ≡ ok (join s t))
       go o p room =
-          let (w, e₁, f₁) = bind-passed (judge-work published lent) _ o p in
-          let (s, e₂, f₂) = bind-passed (judge-text 1 l read-shape first) _ o f₁ in
-          let (t, e₃, f₃) = bind-passed (judge-text 2 l read-shape second) _ o f₂ in
-          let (x, y) = shape-out-passed l (join s t) o f₃ in
-          let r = text-passed 1 l read-shape first s e₂ .1 in
-          let q = text-passed 2 l read-shape second t e₃ .1 in (
+          let (w, f) = prelude-passed published lent (join-judged l first second) o p in
+          let b = both-passed l read-shape first read-shape second then o f in
+          let s = b .first in
+          let t = b .second in
+          let (x, y) = shape-out-passed l (join s t) o (b .rest) in
+          let r = b .first-read in
+          let q = b .second-read in (
             s,
             t,
             r,

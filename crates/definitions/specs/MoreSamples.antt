@@ -39,7 +39,7 @@ one-not-lent : plain-lent (10 ∷ 20 ∷ []) (10 ∷ []) (bytes "1") ≡ record 
 unfolding evaluate
 one-not-lent = refl
 
-longer-is-used : plain-lent (10 ∷ 20 ∷ []) (10 ∷ 9000 ∷ []) (bytes "1") ≡ record { answer = written 1 0; output = bytes "1" ++ room 3 }
+longer-is-used : plain-lent (10 ∷ 20 ∷ []) (10 ∷ 9000 ∷ []) (bytes "1") ≡ record { answer = written 1 0 false; output = bytes "1" ++ room 3 }
 unfolding evaluate
 longer-is-used = refl
 
@@ -50,32 +50,32 @@ slices-first = refl
 
 -- ---- the C calls
 
-buffer-of-39 : plain-call (bytes "[ 1 ]") (room 4) (room 39) ≡ record { number = 1; answer = room 39; output = room 4 }
+buffer-of-39 : plain-call read-json standard (bytes "[ 1 ]") (room 4) (room 39) ≡ record { number = 1; answer = room 39; output = room 4 }
 unfolding evaluate
 buffer-of-39 = refl
 
 -- the bytes behind the fortieth, and behind what is written, are kept
 buffer-of-41
-    : plain-call (bytes "[ 1 ]") (room 4) (room 41)
+    : plain-call read-json standard (bytes "[ 1 ]") (room 4) (room 41)
     ≡ record { number = 0; answer = words 0 0 3 0 0 ++ room 1; output = bytes "[1]" ++ room 1 }
 unfolding evaluate
 buffer-of-41 = refl
 
-call-refused : plain-call (bytes "[1 x]") (room 4) (room 40) ≡ record { number = 3; answer = words 1 3 0 0 0; output = room 4 }
+call-refused : plain-call read-json standard (bytes "[1 x]") (room 4) (room 40) ≡ record { number = 3; answer = words 1 3 0 0 0; output = room 4 }
 unfolding evaluate
 call-refused = refl
 
-call-without-room : plain-call (bytes "[ 1 ]") (room 2) (room 40) ≡ record { number = 15; answer = words 0 0 3 0 0; output = room 2 }
+call-without-room : plain-call read-json standard (bytes "[ 1 ]") (room 2) (room 40) ≡ record { number = 15; answer = words 0 0 3 0 0; output = room 2 }
 unfolding evaluate
 call-without-room = refl
 
-call-says-yes : admits-call (bytes "(shape null)") (bytes "null") (room 40) ≡ record { number = 0; answer = words 0 0 0 0 1; output = [] }
+call-says-yes : admits-call read-json standard (bytes "(shape null)") (bytes "null") (room 40) ≡ record { number = 0; answer = words 0 0 0 0 1; output = [] }
 unfolding evaluate
 call-says-yes = refl
 
 -- the lowest byte of a word comes first: place 258 is 2 and 1
 low-byte-first
-    : plain-call (replicate 258 0x20) [] (room 40)
+    : plain-call read-json standard (replicate 258 0x20) [] (room 40)
     ≡ record { number = 3; answer = 1 ∷ 0 ∷ 0 ∷ 0 ∷ 0 ∷ 0 ∷ 0 ∷ 0 ∷ 2 ∷ 1 ∷ replicate 30 0; output = [] }
 unfolding evaluate
 low-byte-first = refl
@@ -106,7 +106,7 @@ abbrev plain : Bytes → Done
 plain document = plain-operation read-json [] [] standard document (room 10)
 
 -- a control byte without a two-character escape is written in lower case
-lower-case-hex : plain (bytes "\"\\u001F\"") ≡ record { answer = written 8 0; output = bytes "\"\\u001f\"" ++ room 2 }
+lower-case-hex : plain (bytes "\"\\u001F\"") ≡ record { answer = written 8 0 false; output = bytes "\"\\u001f\"" ++ room 2 }
 unfolding evaluate
 lower-case-hex = refl
 
