@@ -18,6 +18,7 @@ pub mod Checking
 pub mod Running
 pub mod Operations
 pub mod Calls
+pub mod WorkSlices
 pub mod Evaluate
 pub mod Samples
 pub mod MoreSamples

@@ -14,6 +14,7 @@ use Rattle.definitions.specs.Shape.{only-null, only-text, only-rec, rec-
 use Rattle.definitions.specs.Reader.{Place, read-place}
 use Rattle.definitions.specs.Operations.{Done, refusal, written, said, plain-operation, admits-operation, check-operation}
 use Rattle.definitions.specs.Calls.{Called, plain-call, admits-call}
+use Rattle.definitions.specs.WorkSlices.{plain-slices, infer-slices, admits-slices, join-slices, below-slices}
 use Rattle.definitions.specs.Evaluate.{evaluate}
 
 -- an output or answer buffer of n bytes
@@ -26,7 +27,29 @@ words t p k s y =
     t ∷ 0 ∷ 0 ∷ 0 ∷ 0 ∷ 0 ∷ 0 ∷ 0 ∷ p ∷ 0 ∷ 0 ∷ 0 ∷ 0 ∷ 0 ∷ 0 ∷ 0 ∷ k ∷ 0 ∷ 0 ∷ 0 ∷ 0 ∷ 0 ∷ 0 ∷ 0 ∷ s ∷ 0 ∷ 0 ∷ 0 ∷ 0 ∷ 0 ∷ 0 ∷ 0
     ∷ y ∷ 0 ∷ 0 ∷ 0 ∷ 0 ∷ 0 ∷ 0 ∷ 0 ∷ []
 
--- ---- refusal 1: work slices
+-- ---- work slices: the lengths that `docs/WORK-SLICES.md` prints
+
+published-for-plain : plain-slices standard ≡ 1536 ∷ 2559 ∷ []
+unfolding evaluate
+published-for-plain = refl
+
+published-for-infer : infer-slices standard ≡ 1024 ∷ 1536 ∷ 4607 ∷ []
+unfolding evaluate
+published-for-infer = refl
+
+published-for-admits : admits-slices standard ≡ 1024 ∷ 1536 ∷ 4607 ∷ []
+unfolding evaluate
+published-for-admits = refl
+
+published-for-join : join-slices standard ≡ 1024 ∷ 1024 ∷ 4096 ∷ []
+unfolding evaluate
+published-for-join = refl
+
+published-for-below : below-slices standard ≡ 1024 ∷ 1024 ∷ 4096 ∷ []
+unfolding evaluate
+published-for-below = refl
+
+-- ---- refusal 1
 
 abbrev plain-lent : (published lent : List ℕ) → Bytes → Done
 plain-lent published lent document = plain-operation read-json published lent standard document (room 4)

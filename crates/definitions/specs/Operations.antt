@@ -85,9 +85,9 @@ unfoldable pub judge-text : {A : Type 0} → ℕ → Limits → Reading A → By
 judge-text k l read s =
     elim (ltb (l .bytes) (length s)) [ true ↦ stopped (refusal 2 k 0) | false ↦ in-text k (read l s) ]
 
--- "all of text 1's causes up to 8 go before any of text 2's", and then what both come to
-unfoldable pub judge-both : {A B C : Type 0} → Limits → Reading A → Bytes → Reading B → Bytes → (A → B → Judged C) → Judged C
-judge-both l read s read′ t then = judge-text 1 l read s >>= λ a. judge-text 2 l read′ t >>= λ b. then a b
+-- "all of text 1's causes up to 8 go before any of text 2's"
+unfoldable pub judge-both : {A B : Type 0} → Limits → Reading A → Bytes → Reading B → Bytes → Judged (A × B)
+judge-both l read s read′ t = judge-text 1 l read s >>= λ a. judge-text 2 l read′ t >>= λ b. passed (a, b)
 
 -- ---- what is judged before the texts
 
@@ -165,29 +165,29 @@ plain-judged source l document = judge-text 1 l source document >>= λ v. passed
 
 -- infer (shape, document: join with the document's shape)
 unfoldable pub infer-judged : Source → Limits → (shape document : Bytes) → Judged Text-out
-infer-judged source l shape document = judge-both l read-shape shape source document λ s v. shape-out l (join s (shape-of v))
+infer-judged source l shape document = judge-both l read-shape shape source document >>= λ (s, v). shape-out l (join s (shape-of v))
 
 -- join (two shapes)
 unfoldable pub join-judged : Limits → (first second : Bytes) → Judged Text-out
-join-judged l first second = judge-both l read-shape first read-shape second λ s t. shape-out l (join s t)
+join-judged l first second = judge-both l read-shape first read-shape second >>= λ (s, t). shape-out l (join s t)
 
 -- below (two shapes: the first below the second)
 unfoldable pub below-judged : Limits → (first second : Bytes) → Judged Bool
-below-judged l first second = judge-both l read-shape first read-shape second λ s t. passed (below s t)
+below-judged l first second = judge-both l read-shape first read-shape second >>= λ (s, t). passed (below s t)
 
 -- admits (shape, document)
 unfoldable pub admits-judged : Source → Limits → (shape document : Bytes) → Judged Bool
-admits-judged source l shape document = judge-both l read-shape shape source document λ s v. passed (admits s v)
+admits-judged source l shape document = judge-both l read-shape shape source document >>= λ (s, v). passed (admits s v)
 
 -- check (reader, shape: writes the result shape)
 unfoldable pub check-judged : Limits → (reader shape : Bytes) → Judged Text-out
 check-judged l reader shape =
-    judge-both l read-reader reader read-shape shape λ r s. in-text 1 (check-reader r s) >>= λ t. shape-out l t
+    judge-both l read-reader reader read-shape shape >>= λ (r, s). in-text 1 (check-reader r s) >>= λ t. shape-out l t
 
 -- run (reader, document: writes plain JSON)
 unfoldable pub run-judged : Source → Limits → (reader document : Bytes) → Judged Text-out
 run-judged source l reader document =
-    judge-both l read-reader reader source document λ r v. in-text 1 (run-reader r l v) >>= λ x. result-out l x
+    judge-both l read-reader reader source document >>= λ (r, v). in-text 1 (run-reader r l v) >>= λ x. result-out l x
 
 -- ---- the seven operations on lent work slices
 

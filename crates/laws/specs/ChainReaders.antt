@@ -25,7 +25,7 @@ use Rattle.laws.specs.SoundShapes.{check-ascending}
 use Rattle.laws.specs.ReaderFacts.{reader-scoped, reader-proper}
 use Rattle.laws.specs.RoundLaws.{reader-read-good, check-good, shape-reads-back}
 use Rattle.laws.specs.Tests.{ltb-lt, ltb-le}
-use Rattle.laws.specs.Judging.{Positive, bind-positive, prelude-positive, both-positive, in-text-positive, shape-out-positive, bind-passed, prelude-short, prelude-long, prelude-passed, both-read, both-passed, in-text-passed, shape-over, shape-out-passed, shape-fits, result-over, result-out-over, result-out-fits, deliver-short, deliver-room, finish-zero, finish-written, front}
+use Rattle.laws.specs.Judging.{Positive, bind-positive, prelude-positive, both-positive, in-text-positive, shape-out-positive, bind-passed, bind-of, prelude-short, prelude-long, prelude-passed, both-read, both-passed, in-text-passed, shape-over, shape-out-passed, shape-fits, result-over, result-out-over, result-out-fits, deliver-short, deliver-room, finish-zero, finish-written, front}
 use Rattle.laws.specs.Numbered.{numbered-shape, numbered-reader, numbered-check-reader}
 use Rattle.laws.specs.Chain.{Reads, Ends, gives, short-work, out-of-steps, too-large, no-room, Passes, Proper-source}
 use Rattle.laws.specs.ChainReached.{Stands, stands-reads, ok-same}
@@ -37,15 +37,11 @@ module _ (published lent : List ℕ) (l : Limits) where
   abbrev checked : Bytes → Bytes → Judged Text-out
   checked reader text = prelude published lent (check-judged l reader text)
 
-  -- what both texts come to
-  abbrev check-then : Result → Shape → Judged Text-out
-  check-then r s = in-text 1 (check-reader r s) >>= λ t. shape-out l t
-
   checked-positive : (reader text : Bytes) → Positive (checked reader text)
   unfolding check-judged
   checked-positive reader text =
       prelude-positive published lent (check-judged l reader text)
-      (both-positive l read-reader reader read-shape text check-then (numbered-reader l reader) (numbered-shape l text) λ r s.
+      (bind-positive _ _ (both-positive l read-reader reader read-shape text (numbered-reader l reader) (numbered-shape l text)) λ (r, s).
       bind-positive _ _ (in-text-positive 1 (check-reader r s) (numbered-check-reader r s)) λ t. shape-out-positive l t)
 
   -- why a check gave 0
@@ -65,17 +61,17 @@ module _ (published lent : List ℕ) (l : Limits) where
   unfolding check-operation check-judged
   checked-passed reader text output o e room =
       let (w, f) = prelude-passed published lent (check-judged l reader text) o e in
-      let p = both-passed l read-reader reader read-shape text check-then o f in
-      let (u, g, h) = bind-passed (in-text 1 (check-reader (p .first) (p .second))) _ o (p .rest) in
+      let (r, s, p, k) = both-passed l read-reader reader read-shape text _ o f in
+      let (u, g, h) = bind-passed (in-text 1 (check-reader r s)) _ o k in
       let (x, y) = shape-out-passed l u o h in (
-        p .first,
-        p .second,
+        r,
+        s,
         u,
         record {
           short-reader = p .first-short;
           reads-reader = p .first-read;
           reads-shape = p .second-read;
-          checks = in-text-passed 1 (check-reader (p .first) (p .second)) u g;
+          checks = in-text-passed 1 (check-reader r s) u g;
           fits = x;
           wrote =
               front output o (check-operation published lent l reader text output) (finish-written output o e room) .1
@@ -118,7 +114,8 @@ module _ (source : Source) (published lent : List ℕ) (l : Limits) where
       unfolding run-judged
       ran-runs e =
           prelude-long published lent (run-judged source l reader document) e
-          ∙ both-read l read-reader reader source document run-then r v short-reader reads-reader (reads .short-enough) (reads .value)
+          ∙ bind-of _
+          (both-read l read-reader reader source document r v short-reader reads-reader (reads .short-enough) (reads .value))
 
       ends-delivered : (x : Ran Value) → run-reader r l v ≡ ok x → admits u (x .result) ≡ true
           → End (deliver output (to-write (plain (x .result)) (x .steps)))

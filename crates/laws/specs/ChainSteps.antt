@@ -14,17 +14,13 @@ use Rattle.definitions.specs.Join.{join, shape-of}
 use Rattle.definitions.specs.ShapeText.{read-shape, write-shape}
 use Rattle.definitions.specs.Operations.{Source, Judged, passed, slices-short, prelude, Text-out, to-write, shape-out, finish, infer-judged, infer-operation}
 use Rattle.laws.specs.Tests.{eqb-eq, eq-eqb}
-use Rattle.laws.specs.Judging.{Numbered, Positive, prelude-positive, both-positive, shape-out-positive, prelude-long, prelude-passed, both-read, both-passed, shape-over, shape-out-passed, shape-out-fits, finish-zero, finish-written, front}
+use Rattle.laws.specs.Judging.{Numbered, Positive, bind-of, bind-positive, prelude-positive, both-positive, shape-out-positive, prelude-long, prelude-passed, both-read, both-passed, shape-over, shape-out-passed, shape-out-fits, finish-zero, finish-written, front}
 use Rattle.laws.specs.Chain.{Call, infers, takes, left-by, Reads, Proper-source}
 
 module _ (source : Source) (published : List ℕ) (l : Limits) where
   -- what is judged of a call before its output
   abbrev judged : Call → Bytes → Judged Text-out
   judged c t = prelude published (c .lent) (infer-judged source l t (c .sample))
-
-  -- what both texts come to
-  abbrev then : Shape → Value → Judged Text-out
-  then s v = shape-out l (join s (shape-of v))
 
   -- why a call was accepted: shape text and sample were read, and the join fits the limits and the output
   pub record Accepted (c : Call) (t : Bytes) (s : Shape) (v : Value) : Type 0 where
@@ -46,8 +42,9 @@ module _ (source : Source) (published : List ℕ) (l : Limits) where
   unfolding infer-judged
   judged-accepted c t s v a =
       prelude-long published (c .lent) (infer-judged source l t (c .sample)) (a .work)
-      ∙ both-read l read-shape t source (c .sample) then s v (a .short-text) (a .reads-shape) (a .reads-sample .short-enough)
-      (a .reads-sample .value)
+      ∙ bind-of _
+      (both-read l read-shape t source (c .sample) s v (a .short-text) (a .reads-shape) (a .reads-sample .short-enough)
+      (a .reads-sample .value))
       ∙ shape-out-fits l (join s (shape-of v)) (a .fits)
 
   infers-accepted
@@ -80,10 +77,10 @@ module _ (source : Source) (published : List ℕ) (l : Limits) where
   unfolding infer-judged
   passed-accepted c t o e room =
       let (w, f) = prelude-passed published (c .lent) (infer-judged source l t (c .sample)) o e in
-      let p = both-passed l read-shape t source (c .sample) then o f in
-      let (x, y) = shape-out-passed l (join (p .first) (shape-of (p .second))) o (p .rest) in (
-        p .first,
-        p .second,
+      let (s, v, p, g) = both-passed l read-shape t source (c .sample) _ o f in
+      let (x, y) = shape-out-passed l (join s (shape-of v)) o g in (
+        s,
+        v,
         record {
           work = w;
           short-text = p .first-short;
@@ -106,7 +103,7 @@ module _ (source : Source) (published : List ℕ) (l : Limits) where
   unfolding infer-judged
   judged-positive proper c t numbered =
       prelude-positive published (c .lent) (infer-judged source l t (c .sample))
-      (both-positive l read-shape t source (c .sample) then numbered (source-numbered proper (c .sample)) λ s v.
+      (bind-positive _ _ (both-positive l read-shape t source (c .sample) numbered (source-numbered proper (c .sample))) λ (s, v).
       shape-out-positive l (join s (shape-of v)))
 
   infers-number : (c : Call) (t : Bytes) → infers source published l c t .answer .number ≡ 0 → finish (c .output) (judged c t) .answer .number ≡ 0

@@ -184,31 +184,36 @@ text-passed k l read s a e = go (ltb (l .bytes) (length s)) refl
     go true q = stopped-not-passed (sym (text-long k l read s q) ∙ e)
     go false q = (ltb-le (l .bytes) (length s) q, in-text-passed k (read l s) a (sym (text-short k l read s q) ∙ e))
 
-module _ {A B C : Type 0} (l : Limits) (read : Reading A) (s : Bytes) (read′ : Reading B) (t : Bytes) (then : A → B → Judged C) where
+module _ {A B : Type 0} (l : Limits) (read : Reading A) (s : Bytes) (read′ : Reading B) (t : Bytes) where
   pub both-read
       : (a : A) (b : B) → length s ≤ l .bytes → read l s ≡ ok a → length t ≤ l .bytes → read′ l t ≡ ok b
-      → judge-both l read s read′ t then ≡ then a b
+      → judge-both l read s read′ t ≡ passed (a, b)
   unfolding judge-both
   both-read a b h e g f = bind-of _ (text-reads 1 l read s a h e) ∙ bind-of _ (text-reads 2 l read′ t b g f)
 
-  -- why both passed, and what came behind
-  pub record Both-passed (c : C) : Type 0 where
-    pub first : A
-    pub second : B
+  -- why both passed
+  pub record Both-passed (a : A) (b : B) : Type 0 where
     pub first-short : length s ≤ l .bytes
-    pub first-read : read l s ≡ ok first
+    pub first-read : read l s ≡ ok a
     pub second-short : length t ≤ l .bytes
-    pub second-read : read′ l t ≡ ok second
-    pub rest : then first second ≡ passed c
+    pub second-read : read′ l t ≡ ok b
 
-  pub both-passed : (c : C) → judge-both l read s read′ t then ≡ passed c → Both-passed c
+  -- and what came behind
+  pub both-passed
+      : {C : Type 0} (then : A × B → Judged C) (c : C) → judge-both l read s read′ t >>= then ≡ passed c
+      → (a : A) × (b : B) × Both-passed a b × (then (a, b) ≡ passed c)
   unfolding judge-both
-  both-passed c e =
-      let (a, f, g) = bind-passed (judge-text 1 l read s) _ c e in
-      let (b, h, k) = bind-passed (judge-text 2 l read′ t) _ c g in
-      let (x, y) = text-passed 1 l read s a f in
-      let (z, w) = text-passed 2 l read′ t b h in
-      record { first = a; second = b; first-short = x; first-read = y; second-short = z; second-read = w; rest = k }
+  both-passed then c e =
+      let (ab, f, rest) = bind-passed (judge-both l read s read′ t) then c e in
+      let (a, g, h) = bind-passed (judge-text 1 l read s) _ ab f in
+      let (b, i, k) = bind-passed (judge-text 2 l read′ t) _ ab h in
+      let (x, y) = text-passed 1 l read s a g in
+      let (z, w) = text-passed 2 l read′ t b i in (
+        a,
+        b,
+        record { first-short = x; first-read = y; second-short = z; second-read = w },
+        ap then (passed-same k) ∙ rest,
+      )
 
 pub shape-out-passed
     : (l : Limits) (s : Shape) (t : Text-out) → shape-out l s ≡ passed t
@@ -258,11 +263,11 @@ unfolding prelude
 prelude-positive published lent j h = bind-positive _ _ (work-positive published lent) λ w. h
 
 pub both-positive
-    : {A B C : Type 0} (l : Limits) (read : Reading A) (s : Bytes) (read′ : Reading B) (t : Bytes) (then : A → B → Judged C)
-    → Numbered (read l s) → Numbered (read′ l t) → ((a : A) (b : B) → Positive (then a b)) → Positive (judge-both l read s read′ t then)
+    : {A B : Type 0} (l : Limits) (read : Reading A) (s : Bytes) (read′ : Reading B) (t : Bytes) → Numbered (read l s)
+    → Numbered (read′ l t) → Positive (judge-both l read s read′ t)
 unfolding judge-both
-both-positive l read s read′ t then h g k =
-    bind-positive _ _ (text-positive 1 l read s h) λ a. bind-positive _ _ (text-positive 2 l read′ t g) λ b. k a b
+both-positive l read s read′ t h g =
+    bind-positive _ _ (text-positive 1 l read s h) λ a. bind-positive _ _ (text-positive 2 l read′ t g) λ b. tt
 
 pub shape-out-positive : (l : Limits) (s : Shape) → Positive (shape-out l s)
 shape-out-positive l s = go (shape-over l s) refl

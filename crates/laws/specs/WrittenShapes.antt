@@ -21,7 +21,7 @@ use Rattle.laws.specs.JoinLaws.{join-ascending, shape-of-ascending}
 use Rattle.laws.specs.SoundShapes.{check-ascending}
 use Rattle.laws.specs.ShapeForms.{shape-ascending}
 use Rattle.laws.specs.RoundLaws.{shape-reads-back, shape-read-good, join-good, check-good, reader-read-good}
-use Rattle.laws.specs.Judging.{Positive, prelude-positive, both-positive, shape-out-positive, prelude-passed, both-passed, shape-over, shape-out-passed, shape-fits, deliver-short, deliver-room, finish-zero, finish-written, front}
+use Rattle.laws.specs.Judging.{Positive, bind-positive, prelude-positive, both-positive, shape-out-positive, prelude-passed, both-passed, shape-over, shape-out-passed, shape-fits, deliver-short, deliver-room, finish-zero, finish-written, front}
 use Rattle.laws.specs.Numbered.{numbered-shape}
 use Rattle.laws.specs.Tests.{eq-eqb}
 use Rattle.laws.specs.Chain.{Call, infers, takes, Proper-source}
@@ -79,15 +79,11 @@ module _ (published lent : List ℕ) (l : Limits) where
   abbrev joined : Bytes → Bytes → Judged Text-out
   joined first second = prelude published lent (join-judged l first second)
 
-  -- what both texts come to
-  abbrev then : Shape → Shape → Judged Text-out
-  then s t = shape-out l (join s t)
-
   joined-positive : (first second : Bytes) → Positive (joined first second)
   unfolding join-judged
   joined-positive first second =
       prelude-positive published lent (join-judged l first second)
-      (both-positive l read-shape first read-shape second then (numbered-shape l first) (numbered-shape l second) λ s t.
+      (bind-positive _ _ (both-positive l read-shape first read-shape second (numbered-shape l first) (numbered-shape l second)) λ (s, t).
       shape-out-positive l (join s t))
 
   pub join-reads-back
@@ -106,10 +102,8 @@ module _ (published lent : List ℕ) (l : Limits) where
           × (read-shape l (take (finish output (joined first second) .answer .length) (finish output (joined first second) .output)) ≡ ok (join s t))
       go o p room =
           let (w, f) = prelude-passed published lent (join-judged l first second) o p in
-          let b = both-passed l read-shape first read-shape second then o f in
-          let s = b .first in
-          let t = b .second in
-          let (x, y) = shape-out-passed l (join s t) o (b .rest) in
+          let (s, t, b, g) = both-passed l read-shape first read-shape second _ o f in
+          let (x, y) = shape-out-passed l (join s t) o g in
           let r = b .first-read in
           let q = b .second-read in (
             s,

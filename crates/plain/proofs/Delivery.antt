@@ -8,14 +8,14 @@ use lib.ListN.{length, drop}
 use Rattle.definitions.specs.Bytes.{Bytes}
 use Rattle.definitions.specs.Value.{Value}
 use Rattle.definitions.specs.Plain.{plain}
-use Rattle.definitions.specs.Operations.{Done, Text-out, output-short, written, deliver}
+use Rattle.definitions.specs.Operations.{Done, Text-out, to-write, output-short, written, deliver}
 use Rattle.laws.specs.Tests.{lt-ltb, le-ltb}
 use Rattle.plain.specs.Table.{Bounded-numbers, Stands, Holds, Held, Writable, Front, Writes-front}
 use Rattle.plain.specs.TableLaws.{writable-front}
 
 -- what is to be written
 abbrev text : Value → ℕ → Text-out
-text v steps = record { bytes = plain v; steps = steps }
+text v steps = to-write (plain v) steps
 
 module _ (out : Bytes) (v : Value) (steps : ℕ) {n : ℕ} where
   pub delivered-short

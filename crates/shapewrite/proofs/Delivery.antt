@@ -12,7 +12,7 @@ use Rattle.definitions.specs.declared.Answer.{Answer}
 use Rattle.definitions.specs.Bytes.{Bytes, bytes}
 use Rattle.definitions.specs.Shape.{Shape, forms, levels}
 use Rattle.definitions.specs.ShapeText.{write, write-shape}
-use Rattle.definitions.specs.Operations.{Judged, passed, stopped, Text-out, Done, refusal, output-short, written, shape-out, deliver, finish}
+use Rattle.definitions.specs.Operations.{Judged, passed, stopped, Text-out, to-write, Done, refusal, output-short, written, shape-out, deliver, finish}
 use Rattle.shapes.specs.Shapes.{size-at}
 use Rattle.shapewrite.specs.declared.Measured.{Measured}
 use Rattle.shapewrite.specs.declared.Measured.the-variants.{Over, Fits}
@@ -26,7 +26,7 @@ use Rattle.shapewrite.proofs.Forms.{holds-size}
 
 -- what shape-out comes to as its test falls out
 unfoldable picked : Shape → Bool → Judged Text-out
-picked s t = elim t [ true ↦ stopped (refusal 11 0 0) | false ↦ passed (record { bytes = write-shape s; steps = 0 }) ]
+picked s t = elim t [ true ↦ stopped (refusal 11 0 0) | false ↦ passed (to-write (write-shape s) 0) ]
 
 shape-picked
     : (l : Limits) (s : Shape)
@@ -113,7 +113,7 @@ module _ (shapes pool : List ℕ) (l : Limits) (out : Bytes) {m : Measured} (j :
       ap (finish out) (subst (Measures shapes pool l) e j s h)
       ∙ ap (λ (a : Answer). record { answer = a; output = out }) (sym f))
 
-  fitted : {n : ℕ} → m ≡ Fits n → (s : Shape) → Holds-shape shapes pool 0 s → (shape-out l s ≡ passed (record { bytes = write-shape s; steps = 0 })) × (n ≡ length (write-shape s))
+  fitted : {n : ℕ} → m ≡ Fits n → (s : Shape) → Holds-shape shapes pool 0 s → (shape-out l s ≡ passed (to-write (write-shape s) 0)) × (n ≡ length (write-shape s))
   fitted e s h = subst (Measures shapes pool l) e j s h
 
   pub delivers-short

@@ -11,7 +11,7 @@ use Rattle.definitions.specs.Bytes.{Bytes, bytes}
 use Rattle.definitions.specs.Shape.{Shape, Fields, levels}
 use Rattle.definitions.specs.Plain.{plain-text}
 use Rattle.definitions.specs.ShapeText.{write, write-fields, write-shape}
-use Rattle.definitions.specs.Operations.{passed, stopped, refusal, shape-out, finish}
+use Rattle.definitions.specs.Operations.{passed, stopped, refusal, to-write, shape-out, finish}
 use Rattle.plain.specs.Parts.{Holds-text}
 use Rattle.shapes.specs.Shapes.{has-bit, Stands}
 use Rattle.shapes.specs.Held.{Holds-shape, Holds-fields}
@@ -96,7 +96,7 @@ abbrev pub Measures : (shapes pool : List ℕ) → Limits → Measured → Type 
 Measures shapes pool l Over = (s : Shape) → Holds-shape shapes pool 0 s → shape-out l s ≡ stopped (refusal 11 0 0)
 Measures shapes pool l (Fits n) =
     (s : Shape) → Holds-shape shapes pool 0 s
-    → (shape-out l s ≡ passed (record { bytes = write-shape s; steps = 0 })) × (n ≡ length (write-shape s))
+    → (shape-out l s ≡ passed (to-write (write-shape s) 0)) × (n ≡ length (write-shape s))
 
 -- the answer of an operation that writes the shape that stands at the first row
 abbrev pub Delivers-answer : (shapes pool : List ℕ) → Limits → Bytes → Answer → Type 0
