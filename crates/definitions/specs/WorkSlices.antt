@@ -7,52 +7,52 @@ use Rattle.definitions.specs.declared.Limits.{Limits}
 -- ---- what one text asks for
 
 -- the forms of a shape, two words each
-unfoldable pub form-words : Limits → ℕ
+abbrev pub form-words : Limits → ℕ
 form-words l = 2 * l .values
 
 -- the names of a shape text of n bytes, eight decoded bytes a word
-unfoldable pub name-words : Limits → (n : ℕ) → ℕ
+abbrev pub name-words : Limits → (n : ℕ) → ℕ
 name-words l n = (min (l .bytes) n + 6) / 8
 
--- the most values of a document of n bytes: none begins without a byte of its own, and one past the last is refused
-unfoldable pub most-values : Limits → (n : ℕ) → ℕ
-most-values l n = min (l .values) (n + 1)
+-- the most values that are read of a document of n bytes: none begins without a byte of its own
+abbrev pub most-values : Limits → (n : ℕ) → ℕ
+most-values l n = min (l .values) (min (l .bytes) n + 1)
 
 -- the values of a document of n bytes, three words each
-unfoldable pub value-words : Limits → (n : ℕ) → ℕ
+abbrev pub value-words : Limits → (n : ℕ) → ℕ
 value-words l n = 3 * most-values l n
 
 -- the texts and names of a document of n bytes, eight decoded bytes a word
-unfoldable pub text-words : Limits → (n : ℕ) → ℕ
+abbrev pub text-words : Limits → (n : ℕ) → ℕ
 text-words l n = (min (l .bytes) n + 8 * most-values l n - 2) / 8
 
 -- ---- what the texts of an operation ask for, by their lengths
 
 -- a document: nodes, pool
-unfoldable pub for-document : Limits → (document : ℕ) → List ℕ
+abbrev pub for-document : Limits → (document : ℕ) → List ℕ
 for-document l n = value-words l n ∷ text-words l n ∷ []
 
 -- a shape and a document: shapes, nodes, pool
-unfoldable pub for-shape-document : Limits → (shape document : ℕ) → List ℕ
+abbrev pub for-shape-document : Limits → (shape document : ℕ) → List ℕ
 for-shape-document l n m = form-words l ∷ value-words l m ∷ (name-words l n + text-words l m) ∷ []
 
 -- two shapes: shapes, others, pool
-unfoldable pub for-two-shapes : Limits → (first second : ℕ) → List ℕ
+abbrev pub for-two-shapes : Limits → (first second : ℕ) → List ℕ
 for-two-shapes l n m = form-words l ∷ form-words l ∷ (name-words l n + name-words l m) ∷ []
 
 -- ---- what each operation publishes
 
-unfoldable pub plain-slices : Limits → List ℕ
+abbrev pub plain-slices : Limits → List ℕ
 plain-slices l = for-document l (l .bytes)
 
-unfoldable pub infer-slices : Limits → List ℕ
+abbrev pub infer-slices : Limits → List ℕ
 infer-slices l = for-shape-document l (l .bytes) (l .bytes)
 
-unfoldable pub admits-slices : Limits → List ℕ
+abbrev pub admits-slices : Limits → List ℕ
 admits-slices l = for-shape-document l (l .bytes) (l .bytes)
 
-unfoldable pub join-slices : Limits → List ℕ
+abbrev pub join-slices : Limits → List ℕ
 join-slices l = for-two-shapes l (l .bytes) (l .bytes)
 
-unfoldable pub below-slices : Limits → List ℕ
+abbrev pub below-slices : Limits → List ℕ
 below-slices l = for-two-shapes l (l .bytes) (l .bytes)

@@ -1,0 +1,73 @@
+-- Work slices that are long enough: in parts, and for shorter texts than those that they are published for. Assumes nothing.
+use Prim.Native.Nat.{ℕ, _+_, _-_, _*_, _/_, _≤_, min}
+use native.Mathlib.Nat.{le-trans, add-le-add}
+use native.Mathlib.Omega.{arith}
+use mathlib.Core.Path.{_≡_, refl}
+use mathlib.Core.Bool.{Bool, true, false, _||_}
+use mathlib.Core.List.{[], _∷_}
+use lib.Dec.{ltb}
+use Rattle.definitions.specs.declared.Limits.{Limits}
+use Rattle.definitions.specs.Operations.{slices-short}
+use Rattle.definitions.specs.WorkSlices.{form-words, name-words, most-values, value-words, text-words, for-document, for-shape-document, for-two-shapes, plain-slices, infer-slices, join-slices}
+use Rattle.laws.specs.Tests.{ltb-le, le-ltb}
+use Rattle.laws.specs.Bools.{or-false-left, or-false-right}
+
+-- ---- in parts
+
+module _ (a b x y : ℕ) where
+  pub two-long : a ≤ x → b ≤ y → slices-short (a ∷ b ∷ []) (x ∷ y ∷ []) ≡ false
+  unfolding slices-short
+  two-long h g = rw (le-ltb _ _ h, le-ltb _ _ g) refl
+
+  pub long-two : slices-short (a ∷ b ∷ []) (x ∷ y ∷ []) ≡ false → (a ≤ x) × (b ≤ y)
+  unfolding slices-short
+  long-two e =
+      let f = or-false-right (ltb x a) (ltb y b || false) e in
+      (ltb-le _ _ (or-false-left (ltb x a) (ltb y b || false) e), ltb-le _ _ (or-false-left (ltb y b) false f))
+
+module _ (a b c x y z : ℕ) where
+  pub three-long : a ≤ x → b ≤ y → c ≤ z → slices-short (a ∷ b ∷ c ∷ []) (x ∷ y ∷ z ∷ []) ≡ false
+  unfolding slices-short
+  three-long h g f = rw (le-ltb _ _ h, le-ltb _ _ g, le-ltb _ _ f) refl
+
+  pub long-three : slices-short (a ∷ b ∷ c ∷ []) (x ∷ y ∷ z ∷ []) ≡ false → (a ≤ x) × (b ≤ y) × (c ≤ z)
+  unfolding slices-short
+  long-three e =
+      let (h, g) = long-two b c y z (or-false-right (ltb x a) (slices-short (b ∷ c ∷ []) (y ∷ z ∷ [])) e) in
+      (ltb-le _ _ (or-false-left (ltb x a) (slices-short (b ∷ c ∷ []) (y ∷ z ∷ [])) e), h, g)
+
+-- ---- what is published is enough for every text
+
+-- the longest text asks for most
+names-most : (l : Limits) (n : ℕ) → name-words l n ≤ name-words l (l .bytes)
+names-most l n = omega arith
+
+texts-most : (l : Limits) (n : ℕ) → text-words l n ≤ text-words l (l .bytes)
+texts-most l n =
+    let h : most-values l n ≤ most-values l (l .bytes) = omega arith in
+    let g : min (l .bytes) n ≤ min (l .bytes) (l .bytes) = omega arith in
+    at (min (l .bytes) n) (min (l .bytes) (l .bytes)) (most-values l n) (most-values l (l .bytes)) g h
+  where
+    at : (b b′ v v′ : ℕ) → b ≤ b′ → v ≤ v′ → (b + 8 * v - 2) / 8 ≤ (b′ + 8 * v′ - 2) / 8
+    at b b′ v v′ g h = omega arith
+
+module _ (l : Limits) (x y n : ℕ) where
+  pub long-for-document : slices-short (plain-slices l) (x ∷ y ∷ []) ≡ false → slices-short (for-document l n) (x ∷ y ∷ []) ≡ false
+  long-for-document e =
+      let (h, g) = long-two (value-words l (l .bytes)) (text-words l (l .bytes)) x y e in
+      two-long (value-words l n) (text-words l n) x y (omega arith) (le-trans (texts-most l n) g)
+
+module _ (l : Limits) (x y z n m : ℕ) where
+  pub long-for-shape-document
+      : slices-short (infer-slices l) (x ∷ y ∷ z ∷ []) ≡ false → slices-short (for-shape-document l n m) (x ∷ y ∷ z ∷ []) ≡ false
+  long-for-shape-document e =
+      let (h, g, f) = long-three (form-words l) (value-words l (l .bytes)) (name-words l (l .bytes) + text-words l (l .bytes)) x y z e in
+      three-long (form-words l) (value-words l m) (name-words l n + text-words l m) x y z h (omega arith)
+      (le-trans (add-le-add (names-most l n) (texts-most l m)) f)
+
+  pub long-for-two-shapes
+      : slices-short (join-slices l) (x ∷ y ∷ z ∷ []) ≡ false → slices-short (for-two-shapes l n m) (x ∷ y ∷ z ∷ []) ≡ false
+  long-for-two-shapes e =
+      let (h, g, f) = long-three (form-words l) (form-words l) (name-words l (l .bytes) + name-words l (l .bytes)) x y z e in
+      three-long (form-words l) (form-words l) (name-words l n + name-words l m) x y z h g
+      (le-trans (add-le-add (names-most l n) (names-most l m)) f)
