@@ -73,6 +73,10 @@ module _ {A : Type 0} (k : ℕ) (l : Limits) (read : Reading A) (s : Bytes) wher
   unfolding in-text
   text-reads a h e = text-short (le-ltb (l .bytes) (length s) h) ∙ ap (λ o. in-text k o) e
 
+  pub text-refused : (n p : ℕ) → length s ≤ l .bytes → read l s ≡ refused n p → judge-text k l read s ≡ stopped (refusal n k p)
+  unfolding in-text
+  text-refused n p h e = text-short (le-ltb (l .bytes) (length s) h) ∙ ap (λ o. in-text k o) e
+
 -- the shape is too large to be written
 abbrev pub shape-over : Limits → Shape → Bool
 shape-over l s = over l (forms s) (levels s) || ltb (l .bytes) (length (write-shape s))
@@ -185,11 +189,26 @@ text-passed k l read s a e = go (ltb (l .bytes) (length s)) refl
     go false q = (ltb-le (l .bytes) (length s) q, in-text-passed k (read l s) a (sym (text-short k l read s q) ∙ e))
 
 module _ {A B : Type 0} (l : Limits) (read : Reading A) (s : Bytes) (read′ : Reading B) (t : Bytes) where
+  pub first-stops : {r : Answer} → judge-text 1 l read s ≡ stopped r → judge-both l read s read′ t ≡ stopped r
+  unfolding judge-both
+  first-stops e = bind-stopped _ e
+
+  pub second-stops
+      : {a : A} {r : Answer} → judge-text 1 l read s ≡ passed a → judge-text 2 l read′ t ≡ stopped r
+      → judge-both l read s read′ t ≡ stopped r
+  unfolding judge-both
+  second-stops e f = bind-of _ e ∙ bind-stopped _ f
+
+  pub both-pass
+      : {a : A} {b : B} → judge-text 1 l read s ≡ passed a → judge-text 2 l read′ t ≡ passed b
+      → judge-both l read s read′ t ≡ passed (a, b)
+  unfolding judge-both
+  both-pass e f = bind-of _ e ∙ bind-of _ f
+
   pub both-read
       : (a : A) (b : B) → length s ≤ l .bytes → read l s ≡ ok a → length t ≤ l .bytes → read′ l t ≡ ok b
       → judge-both l read s read′ t ≡ passed (a, b)
-  unfolding judge-both
-  both-read a b h e g f = bind-of _ (text-reads 1 l read s a h e) ∙ bind-of _ (text-reads 2 l read′ t b g f)
+  both-read a b h e g f = both-pass (text-reads 1 l read s a h e) (text-reads 2 l read′ t b g f)
 
   -- why both passed
   pub record Both-passed (a : A) (b : B) : Type 0 where

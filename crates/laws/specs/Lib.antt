@@ -109,6 +109,7 @@ pub mod RoundRun
 pub mod RoundShapes
 pub mod RoundLaws
 pub mod Judging
+pub mod Ends
 pub mod Numbered
 pub mod Chain
 pub mod ChainSteps

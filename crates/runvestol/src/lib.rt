@@ -1,21 +1,27 @@
 // The C calls: each runs an operation with work slices of its own and writes its answer as five little-endian words. None
 // asks for anything, and no function beside them stands here.
 ghost use mathlib.Core.Path.{_≡_};
+ghost use Rattle.definitions.specs.Limits.{standard};
+ghost use Rattle.definitions.specs.Json.{read-json};
 ghost use Rattle.definitions.specs.Calls.{plain-call, infer-call, join-call, below-call, admits-call};
+use definitions::Format;
 
 // Writes a document as plain JSON. Returns the answer's number.
 #[no_mangle]
 pub extern "C" fn runvestol_plain(document: &[u8], output: &mut [u8], answer: &mut [u8]) -> u64
-    ensures number { λ r. ⌜ r ≡ plain-call (now (document .entry)) (now (output .entry)) (now (answer .entry)) .number ⌝ }
-    ensures answered { λ _. ⌜ now (answer .exit) ≡ plain-call (now (document .entry)) (now (output .entry)) (now (answer .entry)) .answer ⌝ }
-    ensures written { λ _. ⌜ now (output .exit) ≡ plain-call (now (document .entry)) (now (output .entry)) (now (answer .entry)) .output ⌝ }
+    ensures number { λ r. ⌜ r ≡
+        plain-call read-json standard (now (document .entry)) (now (output .entry)) (now (answer .entry)) .number ⌝ }
+    ensures answered { λ _. ⌜ now (answer .exit) ≡
+        plain-call read-json standard (now (document .entry)) (now (output .entry)) (now (answer .entry)) .answer ⌝ }
+    ensures written { λ _. ⌜ now (output .exit) ≡
+        plain-call read-json standard (now (document .entry)) (now (output .entry)) (now (answer .entry)) .output ⌝ }
 {
-    if answer.len() < 40 { // five words
+    if answer.len() < 40 {
         return 1;
     }
-    let done = held::plain(document, output);
+    let done = workspace::plain(Format::Json, slices::standard(), document, output);
     answers::put_answer(answer, done);
-    done.number // the other values are in the buffer
+    done.number
 }
 
 // Joins the shape of a document into a shape, and writes it. Returns the answer's number.
@@ -26,14 +32,20 @@ pub extern "C" fn runvestol_infer(
     output: &mut [u8],
     answer: &mut [u8],
 ) -> u64
-    ensures number { λ r. ⌜ r ≡ infer-call (now (shape .entry)) (now (document .entry)) (now (output .entry)) (now (answer .entry)) .number ⌝ }
-    ensures answered { λ _. ⌜ now (answer .exit) ≡ infer-call (now (shape .entry)) (now (document .entry)) (now (output .entry)) (now (answer .entry)) .answer ⌝ }
-    ensures written { λ _. ⌜ now (output .exit) ≡ infer-call (now (shape .entry)) (now (document .entry)) (now (output .entry)) (now (answer .entry)) .output ⌝ }
+    ensures number { λ r. ⌜ r ≡
+        infer-call read-json standard (now (shape .entry)) (now (document .entry)) (now (output .entry))
+        (now (answer .entry)) .number ⌝ }
+    ensures answered { λ _. ⌜ now (answer .exit) ≡
+        infer-call read-json standard (now (shape .entry)) (now (document .entry)) (now (output .entry))
+        (now (answer .entry)) .answer ⌝ }
+    ensures written { λ _. ⌜ now (output .exit) ≡
+        infer-call read-json standard (now (shape .entry)) (now (document .entry)) (now (output .entry))
+        (now (answer .entry)) .output ⌝ }
 {
     if answer.len() < 40 {
         return 1;
     }
-    let done = held::infer(shape, document, output);
+    let done = workspace::infer(Format::Json, slices::standard(), shape, document, output);
     answers::put_answer(answer, done);
     done.number
 }
@@ -46,14 +58,17 @@ pub extern "C" fn runvestol_join(
     output: &mut [u8],
     answer: &mut [u8],
 ) -> u64
-    ensures number { λ r. ⌜ r ≡ join-call (now (first .entry)) (now (second .entry)) (now (output .entry)) (now (answer .entry)) .number ⌝ }
-    ensures answered { λ _. ⌜ now (answer .exit) ≡ join-call (now (first .entry)) (now (second .entry)) (now (output .entry)) (now (answer .entry)) .answer ⌝ }
-    ensures written { λ _. ⌜ now (output .exit) ≡ join-call (now (first .entry)) (now (second .entry)) (now (output .entry)) (now (answer .entry)) .output ⌝ }
+    ensures number { λ r. ⌜ r ≡
+        join-call standard (now (first .entry)) (now (second .entry)) (now (output .entry)) (now (answer .entry)) .number ⌝ }
+    ensures answered { λ _. ⌜ now (answer .exit) ≡
+        join-call standard (now (first .entry)) (now (second .entry)) (now (output .entry)) (now (answer .entry)) .answer ⌝ }
+    ensures written { λ _. ⌜ now (output .exit) ≡
+        join-call standard (now (first .entry)) (now (second .entry)) (now (output .entry)) (now (answer .entry)) .output ⌝ }
 {
     if answer.len() < 40 {
         return 1;
     }
-    let done = held::join(first, second, output);
+    let done = workspace::join(slices::standard(), first, second, output);
     answers::put_answer(answer, done);
     done.number
 }
@@ -61,13 +76,14 @@ pub extern "C" fn runvestol_join(
 // Tells whether a shape is below another. Returns the answer's number.
 #[no_mangle]
 pub extern "C" fn runvestol_below(first: &[u8], second: &[u8], answer: &mut [u8]) -> u64
-    ensures number { λ r. ⌜ r ≡ below-call (now (first .entry)) (now (second .entry)) (now (answer .entry)) .number ⌝ }
-    ensures answered { λ _. ⌜ now (answer .exit) ≡ below-call (now (first .entry)) (now (second .entry)) (now (answer .entry)) .answer ⌝ }
+    ensures number { λ r. ⌜ r ≡ below-call standard (now (first .entry)) (now (second .entry)) (now (answer .entry)) .number ⌝ }
+    ensures answered { λ _. ⌜ now (answer .exit) ≡
+        below-call standard (now (first .entry)) (now (second .entry)) (now (answer .entry)) .answer ⌝ }
 {
     if answer.len() < 40 {
         return 1;
     }
-    let done = held::below(first, second);
+    let done = workspace::below(slices::standard(), first, second);
     answers::put_answer(answer, done);
     done.number
 }
@@ -75,13 +91,15 @@ pub extern "C" fn runvestol_below(first: &[u8], second: &[u8], answer: &mut [u8]
 // Tells whether a shape admits a document. Returns the answer's number.
 #[no_mangle]
 pub extern "C" fn runvestol_admits(shape: &[u8], document: &[u8], answer: &mut [u8]) -> u64
-    ensures number { λ r. ⌜ r ≡ admits-call (now (shape .entry)) (now (document .entry)) (now (answer .entry)) .number ⌝ }
-    ensures answered { λ _. ⌜ now (answer .exit) ≡ admits-call (now (shape .entry)) (now (document .entry)) (now (answer .entry)) .answer ⌝ }
+    ensures number { λ r. ⌜ r ≡
+        admits-call read-json standard (now (shape .entry)) (now (document .entry)) (now (answer .entry)) .number ⌝ }
+    ensures answered { λ _. ⌜ now (answer .exit) ≡
+        admits-call read-json standard (now (shape .entry)) (now (document .entry)) (now (answer .entry)) .answer ⌝ }
 {
     if answer.len() < 40 {
         return 1;
     }
-    let done = held::admits(shape, document);
+    let done = workspace::admits(Format::Json, slices::standard(), shape, document);
     answers::put_answer(answer, done);
     done.number
 }

@@ -17,11 +17,12 @@ use Rattle.definitions.specs.Json.{read-json}
 use Rattle.definitions.specs.Plain.{decimal}
 use Rattle.definitions.specs.Join.{join, shape-of}
 use Rattle.definitions.specs.ShapeText.{read-shape}
-use Rattle.definitions.specs.Operations.{Done, Judged, passed, stopped, _>>=_, judge-text, slices-short, judge-work, Text-out, shape-out, output-short, written, finish, infer-operation}
-use Rattle.laws.specs.Tests.{le-ltb}
-use Rattle.laws.specs.Judging.{Numbered, Positive, bind-positive, work-positive, text-positive, shape-out-positive, work-long, deliver-short, deliver-room, finish-zero, finish-written, front}
+use Rattle.definitions.specs.Operations.{Done, Judged, passed, stopped, Text-out, output-short, written, finish, infer-judged, infer-operation}
+use Rattle.definitions.specs.WorkSlices.{infer-slices}
+use Rattle.laws.specs.Judging.{Numbered, Positive, bind-positive, both-positive, shape-out-positive, prelude-long, deliver-short, deliver-room, finish-zero, finish-written, front}
 use Rattle.laws.specs.Numbered.{numbered-shape}
 use Rattle.laws.specs.Theorems.{json-proper}
+use Rattle.slices.specs.Long.{three-long}
 use Rattle.text.specs.Writes.{Writes}
 use Rattle.text.specs.WritesLaws.{writes-then, writes-as}
 use Rattle.sample.specs.Reply.{refused-line, told}
@@ -83,12 +84,8 @@ told-same (passed t) h o u e = go (ltb (length o) (length (t .bytes))) refl
 -- ---- the operation from `(shape)`
 
 module _ (text document : Bytes) where
-  abbrev judged : (published lent : List ℕ) → Judged Text-out
-  judged published lent =
-      judge-work published lent
-      >>= λ w. judge-text 1 standard read-shape text
-      >>= λ s. judge-text 2 standard read-json document
-      >>= λ v. shape-out standard (join s (shape-of v))
+  abbrev judged : Judged Text-out
+  judged = infer-judged read-json standard text document
 
   document-numbered : Numbered (read-json standard document)
   document-numbered = go (read-json standard document) refl
@@ -97,38 +94,32 @@ module _ (text document : Bytes) where
       go (ok v) e = tt
       go (refused n p) e = json-proper .numbered standard document n p e
 
-  positive : (published lent : List ℕ) → Positive (judged published lent)
-  positive published lent =
-      bind-positive _ _ (work-positive published lent) λ w.
-      bind-positive _ _ (text-positive 1 standard read-shape text (numbered-shape standard text)) λ s.
-      bind-positive _ _ (text-positive 2 standard read-json document document-numbered) λ v.
+  positive : Positive judged
+  unfolding infer-judged
+  positive =
+      bind-positive _ _ (both-positive standard read-shape text read-json document (numbered-shape standard text) document-numbered) λ (s, v).
       shape-out-positive standard (join s (shape-of v))
 
   abbrev alone : Bytes → Done
-  alone out = infer-operation read-json [] [] standard text document out
+  alone out = finish out judged
 
   -- in the work slices as published
   abbrev pub on-slices : Bytes → (shapes nodes pool : List ℕ) → Done
   on-slices out shapes nodes pool =
-      infer-operation read-json (1024 ∷ 1536 ∷ 4607 ∷ []) (length shapes ∷ length nodes ∷ length pool ∷ []) standard text document out
-
-  slices-long
-      : (shapes nodes pool : List ℕ) → 1024 ≤ length shapes → 1536 ≤ length nodes → 4607 ≤ length pool
-      → judge-work (1024 ∷ 1536 ∷ 4607 ∷ []) (length shapes ∷ length nodes ∷ length pool ∷ []) ≡ judge-work [] []
-  unfolding slices-short
-  slices-long shapes nodes pool a b c =
-      work-long _ _ (rw (le-ltb _ _ a, le-ltb _ _ b, le-ltb _ _ c) refl) ∙ sym (work-long [] [] refl)
+      infer-operation read-json (infer-slices standard) (length shapes ∷ length nodes ∷ length pool ∷ []) standard text document out
 
   same : (out : Bytes) → on-slices out (replicate 1024 0) (replicate 1536 0) (replicate 4607 0) ≡ alone out
-  unfolding infer-operation
+  unfolding infer-operation standard
   same out =
-      rw (slices-long (replicate 1024 0) (replicate 1536 0) (replicate 4607 0) (omega (arith, length-replicate {A = ℕ} 1024 0)) (omega (arith, length-replicate {A = ℕ} 1536 0)) (omega (arith, length-replicate {A = ℕ} 4607 0)))
-      refl
+      ap (λ j. finish out j)
+      (prelude-long (infer-slices standard) (length (replicate {A = ℕ} 1024 0) ∷ length (replicate {A = ℕ} 1536 0) ∷ length (replicate {A = ℕ} 4607 0) ∷ []) judged
+      (three-long 1024 1536 4607 _ _ _ (omega (arith, length-replicate {A = ℕ} 1024 0)) (omega (arith, length-replicate {A = ℕ} 1536 0))
+      (omega (arith, length-replicate {A = ℕ} 4607 0))))
 
   fits : (out : Bytes) → alone out .answer .number ≡ 0 → alone out .answer .length ≤ length (alone out .output)
-  unfolding infer-operation written
+  unfolding written
   fits out e =
-      let (t, p, h) = finish-zero out (judged [] []) (positive [] []) e in
+      let (t, p, h) = finish-zero out judged positive e in
       let w = finish-written out t p h in
       let k : alone out .answer .length ≡ length (t .bytes) = ap (λ (d : Done). d .answer .length) w in
       let l : alone out .output ≡ t .bytes ++ drop (length (t .bytes)) out = ap (λ (d : Done). d .output) w in
@@ -136,8 +127,7 @@ module _ (text document : Bytes) where
 
   -- the output is as long as the zeros of the definition
   told-alone : (out : Bytes) → length out ≡ 16384 → told (alone out) ≡ told (alone (replicate 16384 0))
-  unfolding infer-operation
-  told-alone out h = told-same (judged [] []) (positive [] []) out (replicate 16384 0) (h ∙ sym (length-replicate {A = ℕ} 16384 0))
+  told-alone out h = told-same judged positive out (replicate 16384 0) (h ∙ sym (length-replicate {A = ℕ} 16384 0))
 
   module _
       (out : Bytes) {out′ : Bytes} {r : Answer} (long : length out ≡ 16384)

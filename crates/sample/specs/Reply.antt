@@ -1,14 +1,14 @@
 -- What the program writes of a document. Assumes nothing.
 use Prim.Native.Nat.{ℕ}
 use mathlib.Core.Bool.{true, false}
-use mathlib.Core.List.{[], _++_}
+use mathlib.Core.List.{_++_}
 use lib.Dec.{eqb}
 use lib.ListN.{take, replicate}
 use Rattle.definitions.specs.Bytes.{Bytes, bytes}
 use Rattle.definitions.specs.Limits.{standard}
 use Rattle.definitions.specs.Json.{read-json}
 use Rattle.definitions.specs.Plain.{decimal}
-use Rattle.definitions.specs.Operations.{Done, infer-operation}
+use Rattle.definitions.specs.Operations.{Done, finish, infer-judged}
 
 -- "`refused N at P` and a line feed"
 unfoldable pub refused-line : (number place : ℕ) → Bytes
@@ -24,5 +24,4 @@ told d =
 
 -- "inferred from `(shape)`", into an output as long as a shape text may be; no work slice is short
 unfoldable pub reply-to : (document : Bytes) → Bytes
-reply-to document =
-    told (infer-operation read-json [] [] standard (bytes "(shape)") document (replicate 16384 0))
+reply-to document = told (finish (replicate 16384 0) (infer-judged read-json standard (bytes "(shape)") document))

@@ -4,9 +4,9 @@ use Prim.Native.Nat.{ℕ, _≤_, _<_}
 use native.Mathlib.Omega.{arith}
 use mathlib.Core.Path.{_≡_, refl, ap, _∙_}
 use mathlib.Core.Bool.{true, false}
-use mathlib.Core.List.{[]}
 use borrow.Author.Tests.{eq-eqb, ne-eqb}
 use lib.ListN.{length, take, replicate, length-replicate}
+use Rattle.definitions.specs.declared.Answer.{Answer}
 use Rattle.definitions.specs.Bytes.{Bytes, bytes}
 use Rattle.definitions.specs.Limits.{standard}
 use Rattle.definitions.specs.Outcome.{ok, refused}
@@ -15,11 +15,11 @@ use Rattle.definitions.specs.Shape.{nothing}
 use Rattle.definitions.specs.Json.{read-json}
 use Rattle.definitions.specs.Join.{join, shape-of}
 use Rattle.definitions.specs.ShapeText.{read-shape, write-shape}
-use Rattle.definitions.specs.Operations.{Done, Judged, passed, stopped, _>>=_, refusal, in-text, judge-text, slices-short, judge-work, Text-out, shape-out, finish, infer-operation}
+use Rattle.definitions.specs.Operations.{Done, Judged, passed, stopped, refusal, judge-text, Text-out, shape-out, finish, infer-judged}
 use Rattle.definitions.specs.Evaluate.{evaluate}
-use Rattle.laws.specs.Tests.{lt-ltb, le-ltb}
+use Rattle.laws.specs.Tests.{lt-ltb}
 use Rattle.laws.specs.JoinLaws.{join-nothing-left}
-use Rattle.laws.specs.Judging.{bind-of, bind-stopped, work-long, text-long, text-short, text-reads, shape-over, shape-out-over, shape-out-fits, shape-fits, finish-written, front}
+use Rattle.laws.specs.Judging.{bind-of, bind-stopped, second-stops, both-pass, text-long, text-refused, text-reads, shape-over, shape-out-over, shape-out-fits, shape-fits, finish-written, front}
 use Rattle.laws.specs.Theorems.{json-proper}
 use Rattle.sample.specs.Reply.{refused-line, told, reply-to}
 
@@ -45,26 +45,24 @@ short-text = omega arith
 
 module _ (document : Bytes) where
   abbrev judged : Judged Text-out
-  judged =
-      judge-work [] []
-      >>= λ w. judge-text 1 standard read-shape (bytes "(shape)")
-      >>= λ s. judge-text 2 standard read-json document
-      >>= λ v. shape-out standard (join s (shape-of v))
+  judged = infer-judged read-json standard (bytes "(shape)") document
 
-  behind : judged ≡ (judge-text 2 standard read-json document >>= λ v. shape-out standard (join nothing (shape-of v)))
-  unfolding slices-short
-  behind =
-      bind-of _ (work-long [] [] refl)
-      ∙ bind-of _ (text-reads 1 standard read-shape (bytes "(shape)") nothing short-text from-nothing)
+  starts : judge-text 1 standard read-shape (bytes "(shape)") ≡ passed nothing
+  starts = text-reads 1 standard read-shape (bytes "(shape)") nothing short-text from-nothing
+
+  -- a refused document
+  document-stops : {r : Answer} → judge-text 2 standard read-json document ≡ stopped r → judged ≡ stopped r
+  unfolding infer-judged
+  document-stops e = bind-stopped _ (second-stops standard read-shape (bytes "(shape)") read-json document starts e)
 
   reply-stopped : (n k p : ℕ) → 0 < n → judged ≡ stopped (refusal n k p) → reply-to document ≡ refused-line n p
-  unfolding reply-to infer-operation finish refusal
+  unfolding reply-to finish refusal
   reply-stopped n k p h e =
       ap (λ m. told (finish (replicate 16384 0) m)) e
       ∙ told-line (finish (replicate 16384 0) (stopped (refusal n k p))) (λ z. omega (arith, z, h))
 
   reply-passed : (t : Text-out) → length (t .bytes) ≤ 16384 → judged ≡ passed t → reply-to document ≡ t .bytes
-  unfolding reply-to infer-operation
+  unfolding reply-to
   reply-passed t h e =
       let o : Bytes = replicate 16384 0 in
       let f = front o t (finish o judged) (finish-written o t e (omega (arith, h, length-replicate {A = ℕ} 16384 0))) in
@@ -76,22 +74,21 @@ module _ (document : Bytes) where
   pub long-refused : 16384 < length document → reply-to document ≡ refused-line 2 0
   unfolding standard
   long-refused h =
-      reply-stopped 2 2 0 (omega arith) (behind ∙ bind-stopped _ (text-long 2 standard read-json document (lt-ltb _ _ h)))
+      reply-stopped 2 2 0 (omega arith) (document-stops (text-long 2 standard read-json document (lt-ltb _ _ h)))
 
   module _ (h : length document ≤ 16384) where
     -- one that is no JSON within the limits
     pub unread-refused : (n p : ℕ) → read-json standard document ≡ refused n p → reply-to document ≡ refused-line n p
-    unfolding standard in-text
+    unfolding standard
     unread-refused n p e =
         reply-stopped n 2 p (json-proper .numbered standard document n p e)
-        (behind ∙ bind-stopped _ (text-short 2 standard read-json document (le-ltb _ _ h) ∙ ap (λ o. in-text 2 o) e))
+        (document-stops (text-refused 2 standard read-json document n p h e))
 
     module _ (v : Value) (e : read-json standard document ≡ ok v) where
       shown : judged ≡ shape-out standard (shape-of v)
-      unfolding standard
+      unfolding standard infer-judged
       shown =
-          behind
-          ∙ bind-of _ (text-reads 2 standard read-json document v h e)
+          bind-of _ (both-pass standard read-shape (bytes "(shape)") read-json document starts (text-reads 2 standard read-json document v h e))
           ∙ ap (λ s. shape-out standard s) (join-nothing-left (shape-of v))
 
       -- one whose shape is too large

@@ -1,0 +1,2 @@
+pub mod FewValues
+pub mod Reading

@@ -1,0 +1,2 @@
+pub mod ShapeTexts
+pub mod Pairs

@@ -1,0 +1,96 @@
+-- What reading the texts of an operation asks and answers. Assumes nothing.
+use Prim.Native.Nat.{ℕ, _+_, _*_, _≤_, _<_}
+use mathlib.Core.Path.{_≡_}
+use mathlib.Core.Bool.{true, false}
+use mathlib.Core.List.{List, [], _∷_}
+use lib.ListN.{length, take}
+use Rattle.definitions.specs.declared.Limits.{Limits}
+use Rattle.definitions.specs.Bytes.{Bytes}
+use Rattle.definitions.specs.Value.{Value}
+use Rattle.definitions.specs.Shape.{Shape, ascending, forms, levels}
+use Rattle.definitions.specs.ShapeText.{read-shape}
+use Rattle.definitions.specs.Operations.{Reading, passed, stopped, refusal, judge-text, judge-both, slices-short}
+use Rattle.definitions.specs.WorkSlices.{form-words, name-words, for-shape-document, for-two-shapes}
+use Rattle.shapes.specs.Shapes.{Shape-rows}
+use Rattle.shaperead.specs.declared.ShapeRead.{ShapeRead}
+use Rattle.shaperead.specs.declared.ShapeRead.the-variants as shape-read
+use Rattle.documents.specs.Documents.{Value-table}
+use Rattle.slices.specs.Small.{Small}
+use Rattle.inputs.specs.declared.Texts.{Texts}
+use Rattle.inputs.specs.declared.Texts.the-variants.{Read, Refused}
+
+-- ---- a shape
+
+-- the first words of a table hold a shape, its names in the first `top` words of the pool
+pub record Shape-table (l : Limits) (shapes pool : List ℕ) (words top : ℕ) (s : Shape) : Type 0 where
+  pub rows : Shape-rows (take top pool) 0 s (take words shapes)
+  pub counted : words ≡ 2 * forms s
+  pub ascends : ascending s ≡ true
+  pub nests : levels s ≤ l .nesting
+  pub within : top ≤ length pool
+  pub small : top < 65536
+
+-- the tables have room for this text, if it is short enough to be read, behind the first `top` words of the pool
+pub record Shape-room (text : Bytes) (shapes pool : List ℕ) (top : ℕ) (l : Limits) : Type 0 where
+  pub rows : form-words l ≤ length shapes
+  pub names : top + name-words l (length text) ≤ length pool
+  pub low : top ≤ 16384
+  pub small : Small l
+
+-- the text is a shape, which the tables hold; what the pool p had before `top` is kept in p′
+pub record Shape-passes (l : Limits) (text : Bytes) (p shapes′ p′ : List ℕ) (top words top′ : ℕ) : Type 0 where
+  pub shape : Shape
+  pub judged : (k : ℕ) → judge-text k l read-shape text ≡ passed shape
+  pub table : Shape-table l shapes′ p′ words top′ shape
+  pub grows : top ≤ top′
+  pub front : take top p′ ≡ take top p
+
+abbrev pub Judges-shape : Limits → Bytes → (p shapes′ p′ : List ℕ) (top : ℕ) → ShapeRead → Type 0
+Judges-shape l text p shapes′ p′ top (shape-read.Read words top′) = Shape-passes l text p shapes′ p′ top words top′
+Judges-shape l text p shapes′ p′ top (shape-read.Refused n place) =
+    (k : ℕ) → judge-text k l read-shape text ≡ stopped (refusal n k place)
+
+-- ---- the first text of two: its names take as many words as one text's can
+
+abbrev pub Judges-first : Limits → Bytes → (p shapes′ p′ : List ℕ) → ShapeRead → Type 0
+Judges-first l text p shapes′ p′ r =
+    Judges-shape l text p shapes′ p′ 0 r
+    × ((words top : ℕ) → r ≡ shape-read.Read words top → top ≤ name-words l (length text))
+
+-- ---- both
+
+-- both texts passed, and the tables hold what they mean
+pub record Both-pass
+    {A B : Type 0} (l : Limits) (read : Reading A) (s : Bytes) (read′ : Reading B) (t : Bytes) (Held : A → B → Type 0) : Type 0 where
+  pub first : A
+  pub second : B
+  pub judged : judge-both l read s read′ t ≡ passed (first, second)
+  pub held : Held first second
+
+abbrev pub Answers-both
+    : {A B : Type 0} → Limits → Reading A → Bytes → Reading B → Bytes → (ℕ → ℕ → ℕ → A → B → Type 0) → Texts → Type 0
+Answers-both l read s read′ t Held (Read a b top) = Both-pass l read s read′ t (Held a b top)
+Answers-both l read s read′ t Held (Refused n k place) = judge-both l read s read′ t ≡ stopped (refusal n k place)
+
+-- ---- a shape and a document
+
+pub record Shape-document-slices (shape document : Bytes) (shapes nodes pool : List ℕ) (l : Limits) : Type 0 where
+  pub long
+      : slices-short (for-shape-document l (length shape) (length document)) (length shapes ∷ length nodes ∷ length pool ∷ [])
+      ≡ false
+  pub small : Small l
+
+pub record Shape-document-held (l : Limits) (shapes nodes pool : List ℕ) (a b top : ℕ) (s : Shape) (v : Value) : Type 0 where
+  pub shape : Shape-table l shapes pool a top s
+  pub value : Value-table nodes pool b top v
+
+-- ---- two shapes
+
+pub record Two-shapes-slices (one two : Bytes) (shapes others pool : List ℕ) (l : Limits) : Type 0 where
+  pub long
+      : slices-short (for-two-shapes l (length one) (length two)) (length shapes ∷ length others ∷ length pool ∷ []) ≡ false
+  pub small : Small l
+
+pub record Two-shapes-held (l : Limits) (shapes others pool : List ℕ) (a b top : ℕ) (s t : Shape) : Type 0 where
+  pub one : Shape-table l shapes pool a top s
+  pub other : Shape-table l others pool b top t

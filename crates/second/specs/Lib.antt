@@ -1,2 +1,0 @@
-pub mod Second
-pub mod Ends
