@@ -1,39 +1,24 @@
 -- A document read under limits that are no tighter than they need be, and judged. Assumes nothing.
 use Prim.Native.Nat.{ℕ, _+_, _≤_, _<_, min}
-use native.Mathlib.Omega.{arith}
-use mathlib.Core.Path.{_≡_, sym, ap, _∙_, subst}
+use mathlib.Core.Path.{_≡_, sym, ap, _∙_}
 use mathlib.Core.List.{List}
-use lib.ListN.{length, take}
+use lib.ListN.{length}
 use Rattle.definitions.specs.declared.Limits.{Limits}
 use Rattle.definitions.specs.Bytes.{Bytes}
 use Rattle.definitions.specs.Outcome.{ok, refused}
 use Rattle.definitions.specs.Json.{read-json}
-use Rattle.definitions.specs.Operations.{Source, judge-text, stopped, refusal}
+use Rattle.definitions.specs.declared.Format.{Format}
+use Rattle.definitions.specs.declared.Format.the-variants.{Json}
+use Rattle.definitions.specs.Operations.{Source, source, judge-text, stopped, refusal}
 use Rattle.laws.specs.Judging.{text-long, text-reads, text-refused}
 use Rattle.laws.specs.Tests.{lt-ltb}
 use Rattle.laws.specs.RoundLaws.{json-read-good}
 use Rattle.laws.specs.JsonAdequate.{json-distinct}
 use Rattle.json.specs.declared.DocumentRead.{DocumentRead}
 use Rattle.json.specs.declared.DocumentRead.the-variants.{Read, Refused}
-use Rattle.json.specs.JsonRead.{Tables, Document-answer}
-use Rattle.documents.specs.Documents.{Document-room, Reads-as, Judges-document}
+use Rattle.json.specs.JsonRead.{Document-answer}
+use Rattle.documents.specs.Documents.{Reads-as, Judges-document}
 use Rattle.documents.proofs.FewValues.{with-values, few-values}
-
--- room for a document that is short enough
-pub roomy
-    : {doc : Bytes} {nodes pool : List ℕ} {top : ℕ} {l : Limits} (v : ℕ) → Document-room doc nodes pool top l → length doc ≤ l .bytes
-    → v ≡ min (l .values) (length doc + 1) → Tables doc nodes pool top v
-roomy {doc} {nodes} {pool} {top} {l} v r h e =
-    let n : ℕ = length doc in
-    let s : min (l .bytes) (length doc) ≡ length doc = omega arith in
-    record {
-      rows = omega (arith, r .rows);
-      texts = omega (arith, r .texts);
-      used = omega (arith, r .texts);
-      low = r .low;
-      short = omega (arith, r .small .bytes);
-      few = omega (arith, r .small .values);
-    }
 
 -- what was read under fewer values was read under the limits themselves
 pub read-as
@@ -59,13 +44,15 @@ read-as l doc v p nodes′ p′ top (Read words top′) e a =
     )
 read-as l doc v p nodes′ p′ top (Refused n q) e a = sym (ap (λ (n : ℕ). read-json (with-values l n) doc) e ∙ few-values l doc) ∙ a
 
-pub judges-read
-    : (source : Source) (l : Limits) (doc : Bytes) (p nodes′ p′ : List ℕ) (top : ℕ) (r : DocumentRead) → length doc ≤ l .bytes
-    → Reads-as source l doc p nodes′ p′ top r → Judges-document source l doc p nodes′ p′ top r
-judges-read source l doc p nodes′ p′ top (Read words top′) h (v, e, d) = (v, λ k. text-reads k l source doc v h e, d)
-judges-read source l doc p nodes′ p′ top (Refused n q) h e = λ k. text-refused k l source doc n q h e
+-- JSON is the one format
+pub judges-json
+    : (f : Format) (l : Limits) (doc : Bytes) (p nodes′ p′ : List ℕ) (top : ℕ) (r : DocumentRead) → length doc ≤ l .bytes
+    → Reads-as read-json l doc p nodes′ p′ top r → Judges-document (source f) l doc p nodes′ p′ top r
+unfolding source
+judges-json Json l doc p nodes′ p′ top (Read words top′) h (v, e, d) = (v, λ k. text-reads k l read-json doc v h e, d)
+judges-json Json l doc p nodes′ p′ top (Refused n q) h e = λ k. text-refused k l read-json doc n q h e
 
 pub judges-long
-    : (source : Source) (l : Limits) (doc : Bytes) (k : ℕ) → l .bytes < length doc
-    → judge-text k l source doc ≡ stopped (refusal 2 k 0)
-judges-long source l doc k h = text-long k l source doc (lt-ltb _ _ h)
+    : (src : Source) (l : Limits) (doc : Bytes) (k : ℕ) → l .bytes < length doc
+    → judge-text k l src doc ≡ stopped (refusal 2 k 0)
+judges-long src l doc k h = text-long k l src doc (lt-ltb _ _ h)

@@ -32,8 +32,8 @@ module _ (out : Bytes) (v : Value) (steps : ℕ) {n : ℕ} where
   unfolding deliver written
   delivered {out′} h f =
       rw (le-ltb (length out) (length (plain v)) h, deliver)
-      (ap (λ (k : ℕ). record { answer = written k steps; output = plain v ++ drop k out }) (sym (f .size))
-      ∙ ap (λ (o : Bytes). record { answer = written n steps; output = o }) (sym (f .bytes)))
+      (ap (λ (k : ℕ). record { answer = written k steps false; output = plain v ++ drop k out }) (sym (f .size))
+      ∙ ap (λ (o : Bytes). record { answer = written n steps false; output = o }) (sym (f .bytes)))
 
 -- ---- for every value that stands at the first row
 

@@ -13,7 +13,8 @@ use lib.Seq.{length-take-le}
 use Rattle.definitions.specs.declared.Limits.{Limits}
 use Rattle.definitions.specs.Bytes.{Bytes, same}
 use Rattle.definitions.specs.Outcome.{refused}
-use Rattle.definitions.specs.Tokens.{opening, closing, quoted, word, broken, want-open, full-forms}
+use Rattle.definitions.specs.Limits.{over}
+use Rattle.definitions.specs.Tokens.{opening, closing, quoted, word, broken, want-open}
 use Rattle.definitions.specs.Tokens as Tokens
 use Rattle.definitions.specs.ShapeText.{Around, shape-open, shape-word, want, depth, want-step}
 use Rattle.laws.specs.Names.{same-eq, eq-same}
@@ -111,8 +112,7 @@ module _ {text : Bytes} {at top : ℕ} {p₀ p : List ℕ} {r : Token} (x : Next
 
 module _ {l : Limits} {o : Around} {values left : ℕ} (a : Limited l o values left) (n : ℕ) where
   -- below the limit of values the nesting decides
-  full-nesting : n < values → eqb left 0 ≡ full-forms l (suc n) (suc (depth o))
-  unfolding full-forms
+  full-nesting : n < values → eqb left 0 ≡ over l (suc n) (suc (depth o))
   full-nesting h = rw (le-ltb (l .values) (suc n) (omega (arith, a .most))) (pick (eqb left 0) refl)
     where
       pick : (t : Bool) → eqb left 0 ≡ t → t ≡ ltb (l .nesting) (suc (depth o))
@@ -122,8 +122,7 @@ module _ {l : Limits} {o : Around} {values left : ℕ} (a : Limited l o values l
           (le-ltb (l .nesting) (suc (depth o))
           (let k : left ≡ 0 → ⊥ = eqb-false left 0 e in omega (arith, a .nests)))
 
-  full-values : values ≤ n → true ≡ full-forms l (suc n) (suc (depth o))
-  unfolding full-forms
+  full-values : values ≤ n → true ≡ over l (suc n) (suc (depth o))
   full-values h = rw (lt-ltb (l .values) (suc n) (omega (arith, a .most)))
 
 pub judges-nesting : {values left begun : ℕ} → begun < values → Judges values left begun (eqb left 0)

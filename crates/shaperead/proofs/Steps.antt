@@ -11,7 +11,8 @@ use Rattle.definitions.specs.declared.Limits.{Limits}
 use Rattle.definitions.specs.Bytes.{Bytes, bytes, same}
 use Rattle.definitions.specs.Outcome.{refused}
 use Rattle.definitions.specs.Shape.{Shape}
-use Rattle.definitions.specs.Tokens.{opening, closing, quoted, word, broken, Placed, at-place, Step, misplaced, go, opens, want-open, want-close, want-text, want-word, where-some, look-word, want-named, full-forms, judge-step, or-end, read-tokens}
+use Rattle.definitions.specs.Limits.{over}
+use Rattle.definitions.specs.Tokens.{opening, closing, quoted, word, broken, Placed, at-place, Step, misplaced, go, opens, want-open, want-close, want-text, want-word, where-some, look-word, want-named, judge-step, or-end, read-tokens}
 use Rattle.definitions.specs.Tokens as Tokens
 use Rattle.definitions.specs.ShapeText.{Parts, Around, Want, shape-open, shape-word, kind-word, member-open, member-word, member-name, member-close, State, want, whole, no-parts, shape-words, member-words, want-step, member-step, step, finished}
 use Rattle.laws.specs.Names.{same-eq, same-refl}
@@ -62,13 +63,13 @@ module _ (l : Limits) (n : ℕ) {text : Bytes} {at : ℕ} where
   -- the bracket of a shape
   pub opens-on
       : (w : Want) {t : Tokens.Token} {place end d : ℕ} {q : State} → Found text at t place end → want-step w t ≡ opens d q
-      → full-forms l (suc n) d ≡ false → reading l n text (want w) at ≡ reading l (suc n) text q end
+      → over l (suc n) d ≡ false → reading l n text (want w) at ≡ reading l (suc n) text q end
   unfolding step judge-step at-place
   opens-on w f e h = found-step (want w) f ∙ rw e (rw (h, judge-step))
 
   pub opens-full
       : (w : Want) {t : Tokens.Token} {place end d : ℕ} {q : State} → Found text at t place end → want-step w t ≡ opens d q
-      → full-forms l (suc n) d ≡ true → reading l n text (want w) at ≡ refused 8 place
+      → over l (suc n) d ≡ true → reading l n text (want w) at ≡ refused 8 place
   unfolding step judge-step at-place
   opens-full w f e h = found-step (want w) f ∙ rw e (rw (h, judge-step))
 

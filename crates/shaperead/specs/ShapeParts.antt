@@ -11,7 +11,8 @@ use Rattle.definitions.specs.declared.Limits.{Limits}
 use Rattle.definitions.specs.Bytes.{Bytes}
 use Rattle.definitions.specs.Outcome.{Outcome, refused}
 use Rattle.definitions.specs.Shape.{Kind, among, Shape, Element, no-list, Fields, no-fields, field, has-list}
-use Rattle.definitions.specs.Tokens.{read-tokens, full-forms, misplaced}
+use Rattle.definitions.specs.Limits.{over}
+use Rattle.definitions.specs.Tokens.{read-tokens, misplaced}
 use Rattle.definitions.specs.Tokens as Tokens
 use Rattle.definitions.specs.ShapeText.{Parts, Around, as-element, as-member, Want, shape-open, kind-word, member-open, member-word, State, want, no-parts, put, depth, build, numeric-from, in-order, may-follow, name-fits, want-step, step, finished}
 use Rattle.pool.specs.Pool.{words, text-in}
@@ -47,7 +48,7 @@ pub record Limited (l : Limits) (o : Around) (values left : ℕ) : Type 0 where
 
 -- whether a shape that begins now is one too many or too deep
 pub record Judges (values left begun : ℕ) (r : Bool) : Type 0 where
-  pub judged : (l : Limits) (o : Around) → Limited l o values left → r ≡ full-forms l (suc begun) (suc (depth o))
+  pub judged : (l : Limits) (o : Around) → Limited l o values left → r ≡ over l (suc begun) (suc (depth o))
   pub within : r ≡ false → (begun < values) × (0 < left)
 
 -- only this token may stand there

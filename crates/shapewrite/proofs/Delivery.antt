@@ -141,8 +141,8 @@ module _ (shapes pool : List ℕ) (l : Limits) (out : Bytes) {m : Measured} (j :
       (λ s h.
       ap (finish out) (fitted e s h .0)
       ∙ rw (le-ltb (length out) (length (write-shape s)) (omega (arith, t, fitted e s h .1)), deliver)
-      (ap (λ (a : ℕ). record { answer = written a 0; output = write-shape s ++ drop a out }) (sym (fitted e s h .1))
-      ∙ ap (λ (o : Bytes). record { answer = written n 0; output = o }) (sym (front s h))
+      (ap (λ (a : ℕ). record { answer = written a 0 false; output = write-shape s ++ drop a out }) (sym (fitted e s h .1))
+      ∙ ap (λ (o : Bytes). record { answer = written n 0 false; output = o }) (sym (front s h))
       ∙ ap (λ (a : Answer). record { answer = a; output = o₂ }) (sym f)))
     where
       both : (s : Shape) → Holds-shape shapes pool 0 s → Prints out o₂ 0 (write s 0 ++ (0x0A ∷ [])) i
