@@ -9,7 +9,7 @@ use Rattle.definitions.specs.Outcome.{ok, refused}
 use Rattle.definitions.specs.Json.{read-json}
 use Rattle.definitions.specs.declared.Format.{Format}
 use Rattle.definitions.specs.declared.Format.the-variants.{Json}
-use Rattle.definitions.specs.Operations.{Source, source, judge-text, stopped, refusal}
+use Rattle.definitions.specs.Operations.{Source, source}
 use Rattle.laws.specs.Judging.{text-long, text-reads, text-refused}
 use Rattle.laws.specs.Tests.{lt-ltb}
 use Rattle.laws.specs.RoundLaws.{json-read-good}
@@ -49,10 +49,11 @@ pub judges-json
     : (f : Format) (l : Limits) (doc : Bytes) (p nodes′ p′ : List ℕ) (top : ℕ) (r : DocumentRead) → length doc ≤ l .bytes
     → Reads-as read-json l doc p nodes′ p′ top r → Judges-document (source f) l doc p nodes′ p′ top r
 unfolding source
-judges-json Json l doc p nodes′ p′ top (Read words top′) h (v, e, d) = (v, λ k. text-reads k l read-json doc v h e, d)
-judges-json Json l doc p nodes′ p′ top (Refused n q) h e = λ k. text-refused k l read-json doc n q h e
+judges-json Json l doc p nodes′ p′ top (Read words top′) h (v, e, d) =
+    record { answer = (v, λ k. text-reads k l read-json doc v h e, d) }
+judges-json Json l doc p nodes′ p′ top (Refused n q) h e = record { answer = λ k. text-refused k l read-json doc n q h e }
 
 pub judges-long
-    : (src : Source) (l : Limits) (doc : Bytes) (k : ℕ) → l .bytes < length doc
-    → judge-text k l src doc ≡ stopped (refusal 2 k 0)
-judges-long src l doc k h = text-long k l src doc (lt-ltb _ _ h)
+    : (src : Source) (l : Limits) (doc : Bytes) (p nodes′ p′ : List ℕ) (top : ℕ) → l .bytes < length doc
+    → Judges-document src l doc p nodes′ p′ top (Refused 2 0)
+judges-long src l doc p nodes′ p′ top h = record { answer = λ k. text-long k l src doc (lt-ltb _ _ h) }

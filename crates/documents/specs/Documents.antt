@@ -46,8 +46,12 @@ Reads-as source l document p nodes′ p′ top (Read words top′) =
 Reads-as source l document p nodes′ p′ top (Refused n place) = source l document ≡ refused n place
 
 -- and judged, whichever of an operation's texts it is
-abbrev pub Judges-document : Source → Limits → Bytes → (p nodes′ p′ : List ℕ) (top : ℕ) → DocumentRead → Type 0
-Judges-document source l document p nodes′ p′ top (Read words top′) =
+abbrev pub Document-outcome : Source → Limits → Bytes → (p nodes′ p′ : List ℕ) (top : ℕ) → DocumentRead → Type 0
+Document-outcome source l document p nodes′ p′ top (Read words top′) =
     (v : Value) × ((k : ℕ) → judge-text k l source document ≡ passed v) × Document-held v p nodes′ p′ top words top′
-Judges-document source l document p nodes′ p′ top (Refused n place) =
+Document-outcome source l document p nodes′ p′ top (Refused n place) =
     (k : ℕ) → judge-text k l source document ≡ stopped (refusal n k place)
+
+pub record Judges-document
+    (source : Source) (l : Limits) (document : Bytes) (p nodes′ p′ : List ℕ) (top : ℕ) (r : DocumentRead) : Type 0 where
+  pub answer : Document-outcome source l document p nodes′ p′ top r

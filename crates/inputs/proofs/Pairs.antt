@@ -15,8 +15,8 @@ use Rattle.shaperead.specs.declared.ShapeRead.the-variants.{Read, Refused}
 use Rattle.json.specs.declared.DocumentRead.{DocumentRead}
 use Rattle.json.specs.declared.DocumentRead.the-variants as document-read
 use Rattle.slices.specs.Long.{long-three}
-use Rattle.documents.specs.Documents.{Document-room, Judges-document}
-use Rattle.inputs.specs.Inputs.{Shape-room, Shape-passes, Judges-shape, Judges-first, Both-pass, Shape-document-slices, Shape-document-held, Two-shapes-slices, Two-shapes-held}
+use Rattle.documents.specs.Documents.{Document-room, Document-outcome, Judges-document}
+use Rattle.inputs.specs.Inputs.{Shape-room, Shape-passes, Shape-outcome, Judges-shape, Judges-first, Both-pass, Shape-document-slices, Shape-document-held, Two-shapes-slices, Two-shapes-held}
 use Rattle.inputs.proofs.ShapeTexts.{table-grown}
 
 -- ---- the first text
@@ -25,10 +25,10 @@ module _ {l : Limits} {text : Bytes} {p shapes′ p′ : List ℕ} {r : ShapeRea
   pub first-refused
       : {B : Type 0} {n q : ℕ} (read : Reading B) (t : Bytes) → r ≡ Refused n q
       → judge-both l read-shape text read t ≡ stopped (refusal n 1 q)
-  first-refused read t e = first-stops l read-shape text read t (subst (Judges-shape l text p shapes′ p′ 0) e (j .0) 1)
+  first-refused read t e = first-stops l read-shape text read t (subst (Shape-outcome l text p shapes′ p′ 0) e (j .answer) 1)
 
   pub first-passes : {words top : ℕ} → r ≡ Read words top → Shape-passes l text p shapes′ p′ 0 words top
-  first-passes e = subst (Judges-shape l text p shapes′ p′ 0) e (j .0)
+  first-passes e = subst (Shape-outcome l text p shapes′ p′ 0) e (j .answer)
 
 -- ---- a shape and a document
 
@@ -69,13 +69,13 @@ module _
     pub document-refused
         : {n q : ℕ} → r ≡ document-read.Refused n q → judge-both l read-shape shape source document ≡ stopped (refusal n 2 q)
     document-refused e =
-        second-stops l read-shape shape source document (f .judged 1) (subst (Judges-document source l document p′ nodes′ p″ top) e j 2)
+        second-stops l read-shape shape source document (f .judged 1) (subst (Document-outcome source l document p′ nodes′ p″ top) e (j .answer) 2)
 
     pub document-passes
         : {second end : ℕ} → r ≡ document-read.Read second end
         → Both-pass l read-shape shape source document (Shape-document-held l shapes′ nodes′ p″ words second end)
     document-passes {second} {end} e =
-        let (v, passes, held) = subst (Judges-document source l document p′ nodes′ p″ top) e j in
+        let (v, passes, held) = subst (Document-outcome source l document p′ nodes′ p″ top) e (j .answer) in
         record {
           first = f .shape;
           second = v;
@@ -123,13 +123,13 @@ module _
     (two : Bytes) {others′ p″ : List ℕ} {r : ShapeRead} (j : Judges-shape l two p′ others′ p″ top r)
   where
     pub second-refused : {n q : ℕ} → r ≡ Refused n q → judge-both l read-shape one read-shape two ≡ stopped (refusal n 2 q)
-    second-refused e = second-stops l read-shape one read-shape two (f .judged 1) (subst (Judges-shape l two p′ others′ p″ top) e j 2)
+    second-refused e = second-stops l read-shape one read-shape two (f .judged 1) (subst (Shape-outcome l two p′ others′ p″ top) e (j .answer) 2)
 
     pub second-passes
         : {second end : ℕ} → r ≡ Read second end
         → Both-pass l read-shape one read-shape two (Two-shapes-held l shapes′ others′ p″ words second end)
     second-passes {second} {end} e =
-        let g = subst (Judges-shape l two p′ others′ p″ top) e j in
+        let g = subst (Shape-outcome l two p′ others′ p″ top) e (j .answer) in
         record {
           first = f .shape;
           second = g .shape;

@@ -1,15 +1,14 @@
 -- A shape text judged and read, and the first of two texts, whose names stand in a part of the pool. Assumes nothing.
-use Prim.Native.Nat.{ℕ, _+_, _≤_, _<_, min}
+use Prim.Native.Nat.{ℕ, _≤_, _<_}
 use native.Mathlib.Omega.{arith}
 use mathlib.Core.Path.{_≡_, refl, sym, ap, _∙_, subst}
 use mathlib.Core.List.{List, _++_}
-use lib.ListN.{length, take, drop, length-append, length-drop, take-append-drop}
+use lib.ListN.{length, take, drop, length-append, take-append-drop}
 use lib.Seq.{length-take-le, take-append-le, take-take}
 use Rattle.definitions.specs.declared.Limits.{Limits}
 use Rattle.definitions.specs.Bytes.{Bytes}
 use Rattle.definitions.specs.Shape.{Shape}
 use Rattle.definitions.specs.ShapeText.{read-shape}
-use Rattle.definitions.specs.Operations.{judge-text, stopped, refusal}
 use Rattle.definitions.specs.WorkSlices.{name-words}
 use Rattle.laws.specs.Tests.{lt-ltb}
 use Rattle.laws.specs.ShapeForms.{shape-accepted-to, shape-ascending}
@@ -18,8 +17,8 @@ use Rattle.shapes.specs.Shapes.{Shape-rows}
 use Rattle.shapes.specs.ShapesLaws.{shape-rows-grow}
 use Rattle.shaperead.specs.declared.ShapeRead.{ShapeRead}
 use Rattle.shaperead.specs.declared.ShapeRead.the-variants.{Read, Refused}
-use Rattle.shaperead.specs.ShapeReads.{Tables, Shape-answer}
-use Rattle.inputs.specs.Inputs.{Shape-table, Shape-room, Shape-passes, Judges-shape, Judges-first}
+use Rattle.shaperead.specs.ShapeReads.{Shape-answer, Reads-shape}
+use Rattle.inputs.specs.Inputs.{Shape-table, Shape-room, Shape-passes, Shape-outcome, Judges-shape, Judges-first}
 
 -- ---- a table
 
@@ -42,43 +41,34 @@ table-grown {l} {shapes} {p} {words} {top} {s} p′ top′ t e h within small =
 
 -- ---- a text
 
-pub roomy
-    : {text : Bytes} {shapes pool : List ℕ} {top : ℕ} {l : Limits} → Shape-room text shapes pool top l → length text ≤ l .bytes
-    → Tables text shapes pool top (l .values)
-roomy {text} {l = l} r h =
-    let s : min (l .bytes) (length text) ≡ length text = omega arith in
-    record {
-      rows = r .rows;
-      texts = omega (arith, r .names);
-      short = omega (arith, r .small .bytes);
-      few = omega (arith, r .small .values);
-      small = omega (arith, r .low, r .small .bytes);
-    }
-
 pub judges-long
-    : (l : Limits) (text : Bytes) (k : ℕ) → l .bytes < length text → judge-text k l read-shape text ≡ stopped (refusal 2 k 0)
-judges-long l text k h = text-long k l read-shape text (lt-ltb _ _ h)
+    : (l : Limits) (text : Bytes) (p shapes′ : List ℕ) (top : ℕ) → l .bytes < length text
+    → Judges-shape l text p shapes′ p top (Refused 2 0)
+judges-long l text p shapes′ top h = record { answer = λ k. text-long k l read-shape text (lt-ltb _ _ h); kept = refl }
 
 pub judges-read
-    : (l : Limits) (text : Bytes) (p shapes′ p′ : List ℕ) (top : ℕ) (r : ShapeRead) → length text ≤ l .bytes
-    → Shape-answer l text shapes′ p p′ top r → Judges-shape l text p shapes′ p′ top r
-judges-read l text p shapes′ p′ top (Read words top′) h a =
-    record {
-      shape = a .form;
-      judged = λ k. text-reads k l read-shape text (a .form) h (a .read);
-      table =
-          record {
-            rows = a .held;
-            counted = a .counted;
-            ascends = shape-ascending l text (a .form) (a .read);
-            nests = shape-accepted-to l text (a .form) (a .read) .2;
-            within = a .within;
-            small = a .small;
-          };
-      grows = a .grows;
-      front = a .front;
-    }
-judges-read l text p shapes′ p′ top (Refused n q) h e = λ k. text-refused k l read-shape text n q h e
+    : {l : Limits} {text : Bytes} {shapes p shapes′ p′ : List ℕ} {top : ℕ} {r : ShapeRead} → length text ≤ l .bytes
+    → Reads-shape l text shapes p shapes′ p′ top r → Judges-shape l text p shapes′ p′ top r
+judges-read {l} {text} {shapes} {p} {shapes′} {p′} {top} {r} h d = record { answer = go r (d .answer); kept = d .pool-kept }
+  where
+    go : (r : ShapeRead) → Shape-answer l text shapes′ p p′ top r → Shape-outcome l text p shapes′ p′ top r
+    go (Read words top′) a =
+        record {
+          shape = a .form;
+          judged = λ k. text-reads k l read-shape text (a .form) h (a .read);
+          table =
+              record {
+                rows = a .held;
+                counted = a .counted;
+                ascends = shape-ascending l text (a .form) (a .read);
+                nests = shape-accepted-to l text (a .form) (a .read) .2;
+                within = a .within;
+                small = a .small;
+              };
+          grows = a .grows;
+          front = a .front;
+        }
+    go (Refused n q) e = λ k. text-refused k l read-shape text n q h e
 
 -- ---- the first text, in the first n words of the pool
 
@@ -90,15 +80,18 @@ module _ (l : Limits) (text : Bytes) (shapes pool : List ℕ) (n : ℕ) (same : 
 
   -- what stands behind the part is as it was
   pub first-judged
-      : (shapes′ part : List ℕ) (r : ShapeRead) → length part ≡ length (take n pool) → n ≤ length pool
-      → Judges-shape l text (take n pool) shapes′ part 0 r
+      : (shapes′ part : List ℕ) (r : ShapeRead) → n ≤ length pool → Judges-shape l text (take n pool) shapes′ part 0 r
       → Judges-first l text pool shapes′ (part ++ drop n pool) r
-  first-judged shapes′ part r e h j = (go r j, λ words top f. low words top (subst (Judges-shape l text (take n pool) shapes′ part 0) f j))
+  first-judged shapes′ part r h j =
+      record {
+        answer = go r (j .answer);
+        low = λ words top f. low words top (subst (Shape-outcome l text (take n pool) shapes′ part 0) f (j .answer));
+      }
     where
       low : (words top : ℕ) → Shape-passes l text (take n pool) shapes′ part 0 words top → top ≤ name-words l (length text)
-      low words top p = omega (arith, p .table .within, e, length-take-le n pool h)
+      low words top p = omega (arith, p .table .within, j .kept, length-take-le n pool h)
 
-      go : (r : ShapeRead) → Judges-shape l text (take n pool) shapes′ part 0 r → Judges-shape l text pool shapes′ (part ++ drop n pool) 0 r
+      go : (r : ShapeRead) → Shape-outcome l text (take n pool) shapes′ part 0 r → Shape-outcome l text pool shapes′ (part ++ drop n pool) 0 r
       go (Read words top) p =
           let t = p .table in
           record {

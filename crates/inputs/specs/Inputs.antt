@@ -45,17 +45,20 @@ pub record Shape-passes (l : Limits) (text : Bytes) (p shapes′ p′ : List ℕ
   pub grows : top ≤ top′
   pub front : take top p′ ≡ take top p
 
-abbrev pub Judges-shape : Limits → Bytes → (p shapes′ p′ : List ℕ) (top : ℕ) → ShapeRead → Type 0
-Judges-shape l text p shapes′ p′ top (shape-read.Read words top′) = Shape-passes l text p shapes′ p′ top words top′
-Judges-shape l text p shapes′ p′ top (shape-read.Refused n place) =
+abbrev pub Shape-outcome : Limits → Bytes → (p shapes′ p′ : List ℕ) (top : ℕ) → ShapeRead → Type 0
+Shape-outcome l text p shapes′ p′ top (shape-read.Read words top′) = Shape-passes l text p shapes′ p′ top words top′
+Shape-outcome l text p shapes′ p′ top (shape-read.Refused n place) =
     (k : ℕ) → judge-text k l read-shape text ≡ stopped (refusal n k place)
 
--- ---- the first text of two: its names take as many words as one text's can
+pub record Judges-shape (l : Limits) (text : Bytes) (p shapes′ p′ : List ℕ) (top : ℕ) (r : ShapeRead) : Type 0 where
+  pub answer : Shape-outcome l text p shapes′ p′ top r
+  pub kept : length p′ ≡ length p
 
-abbrev pub Judges-first : Limits → Bytes → (p shapes′ p′ : List ℕ) → ShapeRead → Type 0
-Judges-first l text p shapes′ p′ r =
-    Judges-shape l text p shapes′ p′ 0 r
-    × ((words top : ℕ) → r ≡ shape-read.Read words top → top ≤ name-words l (length text))
+-- ---- the first text of two: its names take no more words than one text's can
+
+pub record Judges-first (l : Limits) (text : Bytes) (p shapes′ p′ : List ℕ) (r : ShapeRead) : Type 0 where
+  pub answer : Shape-outcome l text p shapes′ p′ 0 r
+  pub low : (words top : ℕ) → r ≡ shape-read.Read words top → top ≤ name-words l (length text)
 
 -- ---- both
 
@@ -67,10 +70,15 @@ pub record Both-pass
   pub judged : judge-both l read s read′ t ≡ passed (first, second)
   pub held : Held first second
 
-abbrev pub Answers-both
+abbrev pub Both-outcome
     : {A B : Type 0} → Limits → Reading A → Bytes → Reading B → Bytes → (ℕ → ℕ → ℕ → A → B → Type 0) → Texts → Type 0
-Answers-both l read s read′ t Held (Read a b top) = Both-pass l read s read′ t (Held a b top)
-Answers-both l read s read′ t Held (Refused n k place) = judge-both l read s read′ t ≡ stopped (refusal n k place)
+Both-outcome l read s read′ t Held (Read a b top) = Both-pass l read s read′ t (Held a b top)
+Both-outcome l read s read′ t Held (Refused n k place) = judge-both l read s read′ t ≡ stopped (refusal n k place)
+
+pub record Judges-both
+    {A B : Type 0} (l : Limits) (read : Reading A) (s : Bytes) (read′ : Reading B) (t : Bytes)
+    (Held : ℕ → ℕ → ℕ → A → B → Type 0) (r : Texts) : Type 0 where
+  pub answer : Both-outcome l read s read′ t Held r
 
 -- ---- a shape and a document
 

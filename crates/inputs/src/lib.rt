@@ -1,7 +1,7 @@
 // The texts of an operation, judged in order and read: all of the first one's causes go before any of the second's.
 ghost use Rattle.definitions.specs.ShapeText.{read-shape};
 ghost use Rattle.definitions.specs.Operations.{source};
-ghost use Rattle.inputs.specs.Inputs.{Shape-room, Judges-shape, Judges-first, Answers-both};
+ghost use Rattle.inputs.specs.Inputs.{Shape-room, Judges-shape, Judges-first, Judges-both};
 ghost use Rattle.inputs.specs.Inputs.{Shape-document-slices, Shape-document-held, Two-shapes-slices, Two-shapes-held};
 use definitions::Format;
 use definitions::Limits;
@@ -63,7 +63,7 @@ pub fn shape_document(
 ) -> Texts
     requires { ⌜ Shape-document-slices (now shape) (now document) (now shapes) (now nodes) (now pool) limits ⌝ }
     ensures judged { λ r. ⌜
-        Answers-both limits read-shape (now (shape .entry)) (source format) (now (document .entry))
+        Judges-both limits read-shape (now (shape .entry)) (source format) (now (document .entry))
         (Shape-document-held limits (now (shapes .exit)) (now (nodes .exit)) (now (pool .exit))) r ⌝ }
 {
     match first_shape(shape, shapes, pool, limits) {
@@ -103,7 +103,7 @@ pub fn two_shapes(
 ) -> Texts
     requires { ⌜ Two-shapes-slices (now first) (now second) (now shapes) (now others) (now pool) limits ⌝ }
     ensures judged { λ r. ⌜
-        Answers-both limits read-shape (now (first .entry)) read-shape (now (second .entry))
+        Judges-both limits read-shape (now (first .entry)) read-shape (now (second .entry))
         (Two-shapes-held limits (now (shapes .exit)) (now (others .exit)) (now (pool .exit))) r ⌝ }
 {
     match first_shape(first, shapes, pool, limits) {

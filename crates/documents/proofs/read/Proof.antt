@@ -9,7 +9,7 @@ returns : tie.Need-returns
 returns c =
     let at-start = c .before .before .before .before .before in
     let a = at-start .args in
-    λ k. judges-long (source (a .format)) (a .limits) (a .document .now) k (c .if1 .taken)
+    judges-long (source (a .format)) (a .limits) (a .document .now) (a .pool .now) (a .nodes .now) (a .pool .now) (a .top) (c .if1 .taken)
 
 returns-2 : tie.Need-returns-2
 returns-2 c =
