@@ -15,7 +15,8 @@ use Rattle.shaperead.specs.declared.ShapeRead.the-variants.{Read, Refused}
 use Rattle.json.specs.declared.DocumentRead.{DocumentRead}
 use Rattle.json.specs.declared.DocumentRead.the-variants as document-read
 use Rattle.slices.specs.Long.{long-three}
-use Rattle.documents.specs.Documents.{Document-room, Document-outcome, Judges-document}
+use Rattle.documents.specs.Documents.{Document-room, Judges-document}
+use Rattle.documents.specs.DocumentsLaws.{document-passes as judged-passes, document-refused as judged-refused}
 use Rattle.inputs.specs.Inputs.{Shape-room, Shape-passes, Shape-outcome, Judges-shape, Judges-first, Both-pass, Shape-document-slices, Shape-document-held, Two-shapes-slices, Two-shapes-held}
 use Rattle.inputs.proofs.ShapeTexts.{table-grown}
 
@@ -69,13 +70,13 @@ module _
     pub document-refused
         : {n q : ℕ} → r ≡ document-read.Refused n q → judge-both l read-shape shape source document ≡ stopped (refusal n 2 q)
     document-refused e =
-        second-stops l read-shape shape source document (f .judged 1) (subst (Document-outcome source l document p′ nodes′ p″ top) e (j .answer) 2)
+        second-stops l read-shape shape source document (f .judged 1) (judged-refused j e 2)
 
     pub document-passes
         : {second end : ℕ} → r ≡ document-read.Read second end
         → Both-pass l read-shape shape source document (Shape-document-held l shapes′ nodes′ p″ words second end)
     document-passes {second} {end} e =
-        let (v, passes, held) = subst (Document-outcome source l document p′ nodes′ p″ top) e (j .answer) in
+        let (v, passes, held) = judged-passes j e in
         record {
           first = f .shape;
           second = v;

@@ -9,6 +9,12 @@ use Rattle.definitions.specs.declared.Limits.{Limits}
 use Rattle.definitions.specs.Value.{Value}
 use Rattle.definitions.specs.Shape.{Shape, forms}
 use Rattle.definitions.specs.Join.{join, shape-of}
+use Rattle.definitions.specs.declared.Answer.{Answer}
+use Rattle.definitions.specs.Bytes.{Bytes}
+use Rattle.definitions.specs.Operations.{refusal, shape-out, finish}
+use Rattle.laws.specs.Tests.{lt-ltb}
+use Rattle.laws.specs.Judging.{shape-out-over}
+use Rattle.laws.specs.Ends.{Comes, stopped-keeps}
 use Rattle.plain.specs.Table.{Used, Holds}
 use Rattle.plain.specs.TableLaws.{holds-front}
 use Rattle.plain.specs.GoodBounded.{good-bounded}
@@ -19,11 +25,24 @@ use Rattle.shapes.specs.HeldLaws.{held-front}
 use Rattle.join.specs.declared.Joined.{Joined}
 use Rattle.join.specs.declared.Joined.the-variants.{Grown, Full}
 use Rattle.join.specs.Replacing.{Becomes}
-use Rattle.join.specs.Joining.{Joins, Joins-to}
-use Rattle.infer.specs.Inferring.{Meets, Joins as Infer-joins}
+use Rattle.join.specs.Joining.{Joins, Joinable, Joins-to}
+use Rattle.infer.specs.Inferring.{Meets, Inferable, Joins as Infer-joins}
+use Rattle.order.specs.Comparing.{Shapes-asked}
+use Rattle.admits.specs.Admission.{Value-asked}
 use Rattle.documents.specs.Documents.{Value-table}
 use Rattle.inputs.specs.Inputs.{Shape-table, Shape-document-held, Two-shapes-held}
 use Rattle.perform.specs.Perform.{Grows-to}
+
+-- ---- a table that grew, or was full
+
+module _ (u : Shape) (grown : Joined) (shapes pool : List ℕ) (l : Limits) (g : Grows-to u grown shapes pool l) where
+  pub grown-holds : {words : ℕ} → grown ≡ Grown words → Holds-shape shapes pool 0 u
+  grown-holds e = subst (λ j. Grows-to u j shapes pool l) e g
+
+  pub full-keeps : {r : Answer} (out : Bytes) → grown ≡ Full → r ≡ refusal 11 0 0 → Comes (finish out (shape-out l u)) r out
+  full-keeps out e f =
+      let h : l .values < forms u = subst (λ j. Grows-to u j shapes pool l) e g in
+      stopped-keeps out f (shape-out-over l u (rw (lt-ltb (l .values) (forms u) h) refl))
 
 -- ---- a value
 
@@ -71,7 +90,7 @@ module _ {l : Limits} {shapes pool : List ℕ} {used top : ℕ} {s : Shape} (t :
 -- ---- a value into a shape
 
 module _ {l : Limits} {shapes nodes pool : List ℕ} {used words top : ℕ} {s : Shape} {v : Value} (h : Shape-document-held l shapes nodes pool used words top s v) where
-  pub meets : Meets shapes nodes pool used 0 0 (take top pool) 0 s 0 v
+  meets : Meets shapes nodes pool used 0 0 (take top pool) 0 s 0 v
   meets =
       record {
         pooled = front-used pool top (h .shape .within) (h .shape .small);
@@ -87,6 +106,13 @@ module _ {l : Limits} {shapes nodes pool : List ℕ} {used words top : ℕ} {s :
         bounded = good-bounded (h .value .good);
       }
 
+  pub inferable : Inferable shapes nodes pool used 0 0
+  inferable = record { part = take top pool; name = 0; old = s; label = 0; value = v; meets = meets }
+
+  -- what `admits` asks
+  pub admission : Value-asked shapes 0 nodes 0 pool
+  admission = record { shape = s; held = shape-held (h .shape); value = v; holds = value-held (h .value) }
+
   pub inferred
       : (shapes′ : List ℕ) (r : Joined) → 2 * l .values ≤ length shapes → Infer-joins shapes nodes pool shapes′ used 0 0 r
       → Grows-to (join s (shape-of v)) r shapes′ pool l
@@ -96,7 +122,7 @@ module _ {l : Limits} {shapes nodes pool : List ℕ} {used words top : ℕ} {s :
 -- ---- a shape into a shape
 
 module _ {l : Limits} {shapes others pool : List ℕ} {used words top : ℕ} {s t : Shape} (h : Two-shapes-held l shapes others pool used words top s t) where
-  pub joins : Joins shapes others pool (take top pool) used 0 0 0 0 (l .nesting) s t
+  joins : Joins shapes others pool (take top pool) used 0 0 0 0 (l .nesting) s t
   joins =
       record {
         both =
@@ -111,6 +137,13 @@ module _ {l : Limits} {shapes others pool : List ℕ} {used words top : ℕ} {s 
         nests = h .other .nests;
         pooled = front-used pool top (h .one .within) (h .one .small);
       }
+
+  pub joinable : length shapes ≤ 65536 → Joinable shapes others pool used 0 0 (l .nesting)
+  joinable k = record { p = take top pool; name = 0; other-name = 0; ours = s; theirs = t; joins = joins; small = k }
+
+  -- what `below` asks
+  pub comparison : Shapes-asked shapes 0 others 0 pool (l .nesting)
+  comparison = record { shape = s; held = shape-held (h .one); other = t; holds = shape-held (h .other); deep = h .one .nests }
 
   pub joined
       : (shapes′ : List ℕ) (r : Joined) → 2 * l .values ≤ length shapes → Joins-to join shapes shapes′ others pool used 0 0 (l .nesting) r
