@@ -19,7 +19,7 @@ pub fn plain(document: &[u8], output: &mut [u8], nodes: &mut [u64], pool: &mut [
         plain-operation read-json (plain-slices standard) (length (now (nodes .entry)) ∷ length (now (pool .entry)) ∷ []) standard
         (now (document .entry)) (now (output .entry)) .output ⌝ }
 {
-    let limits = slices::standard();
+    let limits = slices::STANDARD;
     if slices::document_short(limits, nodes.len(), pool.len()) {
         return answers::refusal(1, 0, 0);
     }
@@ -44,7 +44,7 @@ pub fn infer(
         (length (now (shapes .entry)) ∷ length (now (nodes .entry)) ∷ length (now (pool .entry)) ∷ []) standard
         (now (shape .entry)) (now (document .entry)) (now (output .entry)) .output ⌝ }
 {
-    let limits = slices::standard();
+    let limits = slices::STANDARD;
     if slices::shape_document_short(limits, shapes.len(), nodes.len(), pool.len()) {
         return answers::refusal(1, 0, 0);
     }
@@ -79,7 +79,7 @@ pub fn join(
         (length (now (shapes .entry)) ∷ length (now (others .entry)) ∷ length (now (pool .entry)) ∷ []) standard
         (now (first .entry)) (now (second .entry)) (now (output .entry)) .output ⌝ }
 {
-    let limits = slices::standard();
+    let limits = slices::STANDARD;
     if slices::two_shapes_short(limits, shapes.len(), others.len(), pool.len()) {
         return answers::refusal(1, 0, 0);
     }
@@ -108,7 +108,7 @@ pub fn below(
         (length (now (shapes .entry)) ∷ length (now (others .entry)) ∷ length (now (pool .entry)) ∷ []) standard
         (now (first .entry)) (now (second .entry)) ⌝ }
 {
-    let limits = slices::standard();
+    let limits = slices::STANDARD;
     if slices::two_shapes_short(limits, shapes.len(), others.len(), pool.len()) {
         return answers::refusal(1, 0, 0);
     }
@@ -128,7 +128,7 @@ pub fn admits(
         (length (now (shapes .entry)) ∷ length (now (nodes .entry)) ∷ length (now (pool .entry)) ∷ []) standard
         (now (shape .entry)) (now (document .entry)) ⌝ }
 {
-    let limits = slices::standard();
+    let limits = slices::STANDARD;
     if slices::shape_document_short(limits, shapes.len(), nodes.len(), pool.len()) {
         return answers::refusal(1, 0, 0);
     }

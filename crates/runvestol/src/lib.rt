@@ -19,7 +19,7 @@ pub extern "C" fn runvestol_plain(document: &[u8], output: &mut [u8], answer: &m
     if answer.len() < 40 {
         return 1;
     }
-    let done = workspace::plain(Format::Json, slices::standard(), document, output);
+    let done = workspace::plain(Format::Json, slices::STANDARD, document, output);
     answers::put_answer(answer, done);
     done.number
 }
@@ -45,7 +45,7 @@ pub extern "C" fn runvestol_infer(
     if answer.len() < 40 {
         return 1;
     }
-    let done = workspace::infer(Format::Json, slices::standard(), shape, document, output);
+    let done = workspace::infer(Format::Json, slices::STANDARD, shape, document, output);
     answers::put_answer(answer, done);
     done.number
 }
@@ -68,7 +68,7 @@ pub extern "C" fn runvestol_join(
     if answer.len() < 40 {
         return 1;
     }
-    let done = workspace::join(slices::standard(), first, second, output);
+    let done = workspace::join(slices::STANDARD, first, second, output);
     answers::put_answer(answer, done);
     done.number
 }
@@ -83,7 +83,7 @@ pub extern "C" fn runvestol_below(first: &[u8], second: &[u8], answer: &mut [u8]
     if answer.len() < 40 {
         return 1;
     }
-    let done = workspace::below(slices::standard(), first, second);
+    let done = workspace::below(slices::STANDARD, first, second);
     answers::put_answer(answer, done);
     done.number
 }
@@ -99,7 +99,7 @@ pub extern "C" fn runvestol_admits(shape: &[u8], document: &[u8], answer: &mut [
     if answer.len() < 40 {
         return 1;
     }
-    let done = workspace::admits(Format::Json, slices::standard(), shape, document);
+    let done = workspace::admits(Format::Json, slices::STANDARD, shape, document);
     answers::put_answer(answer, done);
     done.number
 }

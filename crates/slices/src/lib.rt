@@ -2,23 +2,18 @@
 ghost use mathlib.Core.Path.{_≡_};
 ghost use mathlib.Core.List.{[], _∷_};
 ghost use Prim.Native.Nat.{min};
-ghost use Rattle.definitions.specs.Limits.{standard};
 ghost use Rattle.definitions.specs.Operations.{slices-short};
 ghost use Rattle.definitions.specs.WorkSlices.{form-words, name-words, value-words, text-words, plain-slices, infer-slices, join-slices};
 ghost use Rattle.slices.specs.Small.{Small};
 use definitions::Limits;
 
-// The paper's limits.
-pub fn standard() -> Limits
-    ensures set { λ r. ⌜ r ≡ standard ⌝ }
-{
-    Limits {
-        bytes: 16384,
-        values: 512,
-        nesting: 32,
-        steps: 65536,
-    }
-}
+// The paper's limits, `standard` of the definitions.
+pub const STANDARD: Limits = Limits {
+    bytes: 16384,
+    values: 512,
+    nesting: 32,
+    steps: 65536,
+};
 
 // The smaller of two numbers.
 pub fn least(a: usize, b: usize) -> usize

@@ -1,0 +1,75 @@
+-- Lent work slices that are as long as published are long enough for every text; of a longer table of shapes only as much is
+-- handed on as a shape may take. Assumes nothing.
+use Prim.Native.Nat.{ℕ, _+_, _*_, _≤_}
+use native.Mathlib.Omega.{arith}
+use mathlib.Core.Path.{_≡_}
+use mathlib.Core.Bool.{false}
+use mathlib.Core.List.{List, [], _∷_}
+use lib.ListN.{length, take}
+use lib.Seq.{length-take-le}
+use Rattle.definitions.specs.declared.Limits.{Limits}
+use Rattle.definitions.specs.Bytes.{Bytes}
+use Rattle.definitions.specs.Operations.{slices-short}
+use Rattle.definitions.specs.WorkSlices.{form-words, name-words, value-words, text-words, plain-slices, infer-slices, join-slices}
+use Rattle.slices.specs.Small.{Small}
+use Rattle.slices.specs.Long.{three-long, long-three, long-for-document, long-for-shape-document, long-for-two-shapes}
+use Rattle.inputs.specs.Inputs.{Shape-document-slices, Two-shapes-slices}
+use Rattle.perform.specs.Perform.{Document-slices}
+
+module _ (l : Limits) (small : Small l) where
+  pub for-one
+      : (document : Bytes) (nodes pool : List ℕ) → slices-short (plain-slices l) (length nodes ∷ length pool ∷ []) ≡ false
+      → Document-slices document nodes pool l
+  for-one document nodes pool e =
+      record { long = long-for-document l (length nodes) (length pool) (length document) e; small = small }
+
+  module _ (shape document : Bytes) (shapes nodes pool : List ℕ) (e : slices-short (infer-slices l) (length shapes ∷ length nodes ∷ length pool ∷ []) ≡ false) where
+    pub for-both : Shape-document-slices shape document shapes nodes pool l
+    for-both =
+        record {
+          long = long-for-shape-document l (length shapes) (length nodes) (length pool) (length shape) (length document) e;
+          small = small;
+        }
+
+    -- the first words of the table
+    pub enough : 2 * l .values ≤ length shapes
+    enough =
+        long-three (form-words l) (value-words l (l .bytes)) (name-words l (l .bytes) + text-words l (l .bytes)) (length shapes)
+        (length nodes) (length pool) e .0
+
+    pub for-cut : Shape-document-slices shape document (take (2 * l .values) shapes) nodes pool l
+    for-cut =
+        let (h, g, f) =
+            long-three (form-words l) (value-words l (length document)) (name-words l (length shape) + text-words l (length document))
+            (length shapes) (length nodes) (length pool) (for-both .long) in
+        record {
+          long =
+              three-long (form-words l) (value-words l (length document)) (name-words l (length shape) + text-words l (length document))
+              (length (take (2 * l .values) shapes)) (length nodes) (length pool) (omega (arith, length-take-le (2 * l .values) shapes enough)) g f;
+          small = small;
+        }
+
+  module _ (one two : Bytes) (shapes others pool : List ℕ) (e : slices-short (join-slices l) (length shapes ∷ length others ∷ length pool ∷ []) ≡ false) where
+    pub for-pair : Two-shapes-slices one two shapes others pool l
+    for-pair =
+        record {
+          long = long-for-two-shapes l (length shapes) (length others) (length pool) (length one) (length two) e;
+          small = small;
+        }
+
+    pub enough-pair : 2 * l .values ≤ length shapes
+    enough-pair =
+        long-three (form-words l) (form-words l) (name-words l (l .bytes) + name-words l (l .bytes)) (length shapes) (length others)
+        (length pool) e .0
+
+    pub for-cut-pair : Two-shapes-slices one two (take (2 * l .values) shapes) others pool l
+    for-cut-pair =
+        let (h, g, f) =
+            long-three (form-words l) (form-words l) (name-words l (length one) + name-words l (length two)) (length shapes)
+            (length others) (length pool) (for-pair .long) in
+        record {
+          long =
+              three-long (form-words l) (form-words l) (name-words l (length one) + name-words l (length two))
+              (length (take (2 * l .values) shapes)) (length others) (length pool) (omega (arith, length-take-le (2 * l .values) shapes enough-pair)) g f;
+          small = small;
+        }
