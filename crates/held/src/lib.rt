@@ -17,7 +17,7 @@ fn short_plain(document: &[u8], output: &mut [u8]) -> Answer
 {
     let mut nodes = [0u64; 768];
     let mut pool = [0u64; 287];
-    operations::plain_within(document, output, &mut nodes, &mut pool)
+    texts::plain_within(document, output, &mut nodes, &mut pool)
 }
 
 // `plain` on a document of any length.
@@ -27,7 +27,7 @@ fn long_plain(document: &[u8], output: &mut [u8]) -> Answer
 {
     let mut nodes = [0u64; 1536];
     let mut pool = [0u64; 2559];
-    operations::plain_within(document, output, &mut nodes, &mut pool)
+    texts::plain_within(document, output, &mut nodes, &mut pool)
 }
 
 // `plain` with work slices of its own.
@@ -58,7 +58,7 @@ fn short_infer(shape: &[u8], document: &[u8], output: &mut [u8]) -> Answer
         &mut shapes,
         &mut nodes,
         &mut pool,
-        operations::limits(512),
+        texts::limits(512),
     )
 }
 
@@ -103,7 +103,7 @@ fn short_join(first: &[u8], second: &[u8], output: &mut [u8]) -> Answer
         &mut shapes,
         &mut others,
         &mut pool,
-        operations::limits(512),
+        texts::limits(512),
     )
 }
 
@@ -146,7 +146,7 @@ fn short_below(first: &[u8], second: &[u8]) -> Answer
         &mut shapes,
         &mut others,
         &mut pool,
-        operations::limits(512),
+        texts::limits(512),
     )
 }
 
@@ -187,7 +187,7 @@ fn short_admits(shape: &[u8], document: &[u8]) -> Answer
         &mut shapes,
         &mut nodes,
         &mut pool,
-        operations::limits(512),
+        texts::limits(512),
     )
 }
 

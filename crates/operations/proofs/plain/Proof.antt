@@ -2,7 +2,7 @@
 use native.Mathlib.Omega.{arith}
 use borrow.Author.Needs.{needs}
 use lib.ListN.{length}
-use Rattle.operations.proofs.PlainCauses.{ends, nodes-asked, pool-asked, asked-published, nodes-short, pool-short, published-same, says-same}
+use Rattle.texts.specs.PlainCauses.{ends, nodes-asked, pool-asked, asked-published, nodes-short, pool-short, published-same, says-same}
 use Rattle.operations.proofs.plain.Statement.{statement}
 use Rattle.operations.proofs.plain.Tie as tie
 

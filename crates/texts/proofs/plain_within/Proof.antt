@@ -1,11 +1,11 @@
--- `operations::plain_within` meets its contract: each return is one cause of the definition. Assumes nothing.
+-- `texts::plain_within` meets its contract: each return is one cause of the definition. Assumes nothing.
 use native.Mathlib.Omega.{arith}
 use borrow.Author.Needs.{needs}
 use lib.ListN.{length}
 use Prim.Native.Nat.{_≤_, _<_}
-use Rattle.operations.proofs.PlainCauses.{ends, nodes-asked, pool-asked, roomy, nodes-short, pool-short, text-too-long, document-refused, read-refused, read-held, delivered, limits-of}
-use Rattle.operations.proofs.plain_within.Statement.{statement}
-use Rattle.operations.proofs.plain_within.Tie as tie
+use Rattle.texts.specs.PlainCauses.{ends, nodes-asked, pool-asked, roomy, nodes-short, pool-short, text-too-long, document-refused, read-refused, read-held, delivered, limits-of}
+use Rattle.texts.proofs.plain_within.Statement.{statement}
+use Rattle.texts.proofs.plain_within.Tie as tie
 
 returns : tie.Need-returns
 returns c =

@@ -23,7 +23,7 @@ use Rattle.json.specs.JsonRead.{Tables, Document-held, Document-answer, Reads-d
 use Rattle.plain.specs.Table.{Holds, Held}
 use Rattle.plain.specs.TableLaws.{holds-front}
 use Rattle.plain.specs.GoodBounded.{good-bounded}
-use Rattle.operations.proofs.FewValues.{limits-for, few-values}
+use Rattle.texts.specs.FewValues.{limits-for, few-values}
 
 -- a refusal: its answer, and the output kept
 abbrev pub refuses : ℕ → ℕ → ℕ → Bytes → Done

@@ -1,2 +1,0 @@
-pub mod FewValues
-pub mod PlainCauses
