@@ -14,6 +14,8 @@ MOST, SLOW = 2, 20
 # Each public function has this many of its own code.
 EACH = 2
 AGAINST = re.compile(r"^# against: (\w+)\s*$", re.M)
+# The words and signs that make up the shape of code: a proof walks along them, so an edit that keeps them fails by a fact.
+SHAPE = re.compile(r"[{}()\[\];]|\b(?:if|else|match|while|loop|for|let|return|break|continue)\b")
 
 # The scope document's worthless versions and traps, in its words.
 WORTHLESS = (
@@ -55,6 +57,10 @@ class Edit:
     def at(self):
         return f"{self.place}:{self.line}"
 
+    def keeps_shape(self):
+        shapes = [[SHAPE.findall(text.partition("//")[0]) for text in change[1:]] for change in self.changes]
+        return all(old == new for old, new in shapes)
+
     def log(self):
         return self.root / "target/must-fail" / self.crate / self.name / ".log"
 
@@ -94,8 +100,11 @@ def chosen(root):
         for source in sources(root, f"crates/{crate}/src/**/*.rt"):
             for function in functions(source):
                 if function.public or function.exported:
-                    own = [edit for edit in found if edit.crate == crate and function.name in changed[edit]]
+                    own = [edit for edit in found if edit.crate == crate and function.name in changed[edit] and edit.keeps_shape()]
                     yield from ((source.place(function.at), words) for words in too_few(function, own))
+    if not (root / GATE).is_file():
+        yield GATE, "there is none: nothing says which must-fail edits there are to be"
+        return
     yield from counted(root, found)
     yield from worthless(root, {f"{edit.crate}/{edit.name}" for edit in found})
 
@@ -117,7 +126,7 @@ def functions_changed(edit):
 def too_few(function, own):
     """What a public function's edits lack."""
     if len(own) < EACH:
-        yield f"the public function {function.name} has {len(own)} must-fail edits of its code, and is to have {EACH}"
+        yield f"the public function {function.name} has {len(own)} must-fail edits that keep its code's shape, and is to have {EACH}"
     if function.writes() and not any("written" in edit.against for edit in own):
         yield f"no must-fail edit of the public function {function.name} is marked `# against: written`"
 
@@ -157,10 +166,8 @@ def worthless(root, there):
 
 def table(root, first, least):
     """The rows of the table of docs/GATE.md whose heading begins so, as (line, cells), with so many cells or more."""
-    path, inside = root / GATE, False
-    if not path.is_file():
-        return
-    for number, line in enumerate(path.read_text(encoding="utf-8", errors="replace").split("\n"), 1):
+    inside = False
+    for number, line in enumerate((root / GATE).read_text(encoding="utf-8", errors="replace").split("\n"), 1):
         cells = [cell.strip() for cell in line.split("|")[1:-1]]
         if inside and len(cells) >= least and not set(cells[0]) <= set("-: "):
             yield number, cells

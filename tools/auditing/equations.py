@@ -149,7 +149,8 @@ def stated(function, value, ends):
     ends = {label: end for label, end in ends.items() if label != "written" or function.writes()}
     labels = [clause.label for clause in function.of("ensures")]
     if labels != list(ends):
-        yield function.at, f"the clauses of {function.name} are {', '.join(labels) or 'none'}, and not {', '.join(ends)}"
+        told = ", ".join(label or "one without a name" for label in labels) or "none"
+        yield function.at, f"the clauses of {function.name} are {told}, and not {', '.join(ends)}"
     for clause in function.of("ensures"):
         if clause.label in ends:
             side, part = ends[clause.label]
