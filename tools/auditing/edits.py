@@ -3,7 +3,7 @@ import re
 
 from .contracts import CITED, PUBLIC
 from .functions import functions
-from .refusals import other_reason
+from .refusals import other_reason, returns_refused
 from .sources import Source, sources
 
 GATE = "docs/GATE.md"
@@ -81,9 +81,23 @@ def facts(root):
         if not log.is_file():
             yield edit.at(), f"never tried: there is no {log.relative_to(root).as_posix()}"
             continue
-        reason = other_reason(log.read_text(encoding="utf-8", errors="replace"), f"/{edit.name}/")
-        if reason:
-            yield edit.at(), reason
+        yield from ((edit.at(), reason) for reason in reasons(edit, log.read_text(encoding="utf-8", errors="replace")))
+
+
+def reasons(edit, log):
+    """Why an edit's log does not show what the edit is for. One that changes several public functions shows a fact for each of
+    them, and one that is against a clause shows it where each returns: which clause it is, the log does not tell."""
+    folder, reason = f"/{edit.name}/", other_reason(log, f"/{edit.name}/")
+    changed = [name for name in functions_changed(edit) if name] if edit.crate in PUBLIC else []
+    if reason:
+        yield reason
+        return
+    for name in changed:
+        wrong = other_reason(log, folder, name) if len(changed) > 1 else ""
+        if not wrong and edit.against and not returns_refused(log, folder, name):
+            wrong = f"it is against {', '.join(edit.against)}, and no fact fails where the function returns"
+        if wrong:
+            yield f"of {name}: {wrong}"
 
 
 # ---- which there are
