@@ -14,7 +14,7 @@ use Rattle.definitions.specs.Number.{most-coefficient}
 use Rattle.definitions.specs.Value.{Value, size}
 use Rattle.definitions.specs.Json.{read-json}
 use Rattle.laws.specs.JsonAdequate.{json-accepted-to, json-accepted-from, json-distinct, json-refused}
-use Rattle.laws.specs.TokenLaws.{tokens-by-the-grammar}
+use Rattle.laws.specs.TokenLaws.{tokens-are-derived}
 use Rattle.laws.specs.ShapeForms.{shape-accepted-to, shape-accepted-from, shape-ascending}
 use Rattle.laws.specs.ShapeCauses.{shape-refused}
 use Rattle.laws.specs.CauseRefuses.{json-cause-refuses, shape-cause-refuses, reader-cause-refuses}
@@ -46,8 +46,8 @@ documents-refused-for-cause = json-refused
 pub documents-refused-for-the-least : Documents-refused-for-the-least
 documents-refused-for-the-least = json-cause-refuses
 
-pub tokens-are-by-the-grammar : Tokens-by-the-grammar
-tokens-are-by-the-grammar = tokens-by-the-grammar
+pub tokens-by-the-grammar : Tokens-by-the-grammar
+tokens-by-the-grammar = tokens-are-derived
 
 pub shapes-refused-for-cause : Shapes-refused-for-cause
 shapes-refused-for-cause = shape-refused

@@ -218,7 +218,7 @@ pub tokens-of-one : {p : ℕ} {s : Bytes} {ts us : List Placed} → Tokens-of p 
 tokens-of-one g h = sym (grammar-lex g) ∙ grammar-lex h
 
 -- the lexer's tokens of a text are the grammar's
-pub tokens-by-the-grammar : (s : Bytes) (ts : List Placed) → (tokens s ≡ ts) ↔ Tokens-of 0 s ts
+pub tokens-are-derived : (s : Bytes) (ts : List Placed) → (tokens s ≡ ts) ↔ Tokens-of 0 s ts
 unfolding tokens
-tokens-by-the-grammar s ts =
+tokens-are-derived s ts =
     (λ e. subst (Tokens-of 0 s) e (lex-lexed s 0 (outside no-word) 0 [] begun), grammar-lex)

@@ -40,8 +40,8 @@ module _ (l : Limits) (small : Small l) where
     pub for-cut : Shape-document-slices shape document (take (2 * l .values) shapes) nodes pool l
     for-cut =
         let (h, g, f) =
-            long-three (form-words l) (value-words l (length document)) (name-words l (length shape) + text-words l (length document))
-            (length shapes) (length nodes) (length pool) (for-both .long) in
+        long-three (form-words l) (value-words l (length document)) (name-words l (length shape) + text-words l (length document))
+        (length shapes) (length nodes) (length pool) (for-both .long) in
         record {
           long =
               three-long (form-words l) (value-words l (length document)) (name-words l (length shape) + text-words l (length document))
@@ -65,8 +65,8 @@ module _ (l : Limits) (small : Small l) where
     pub for-cut-pair : Two-shapes-slices one two (take (2 * l .values) shapes) others pool l
     for-cut-pair =
         let (h, g, f) =
-            long-three (form-words l) (form-words l) (name-words l (length one) + name-words l (length two)) (length shapes)
-            (length others) (length pool) (for-pair .long) in
+        long-three (form-words l) (form-words l) (name-words l (length one) + name-words l (length two)) (length shapes)
+        (length others) (length pool) (for-pair .long) in
         record {
           long =
               three-long (form-words l) (form-words l) (name-words l (length one) + name-words l (length two))

@@ -45,10 +45,10 @@ pub fn infer(
         (now (shape .entry)) (now (document .entry)) (now (output .entry)) .output ⌝ }
 {
     let limits = slices::STANDARD;
-    if slices::shape_document_short(limits, shapes.len(), nodes.len(), pool.len()) {
+    if slices::shape_document_short(limits, shapes.len(), nodes.len(), pool.len()) { // a shape and a document
         return answers::refusal(1, 0, 0);
     }
-    let rows = 2 * limits.values;
+    let rows = 2 * limits.values; // the table grows to the result, and not past 11
     perform::infer(
         Format::Json,
         shape,
@@ -80,10 +80,10 @@ pub fn join(
         (now (first .entry)) (now (second .entry)) (now (output .entry)) .output ⌝ }
 {
     let limits = slices::STANDARD;
-    if slices::two_shapes_short(limits, shapes.len(), others.len(), pool.len()) {
+    if slices::two_shapes_short(limits, shapes.len(), others.len(), pool.len()) { // two shapes
         return answers::refusal(1, 0, 0);
     }
-    let rows = 2 * limits.values;
+    let rows = 2 * limits.values; // as for infer
     perform::join(
         first,
         second,
@@ -109,7 +109,7 @@ pub fn below(
         (now (first .entry)) (now (second .entry)) ⌝ }
 {
     let limits = slices::STANDARD;
-    if slices::two_shapes_short(limits, shapes.len(), others.len(), pool.len()) {
+    if slices::two_shapes_short(limits, shapes.len(), others.len(), pool.len()) { // as for join
         return answers::refusal(1, 0, 0);
     }
     perform::below(first, second, shapes, others, pool, limits)
@@ -129,7 +129,7 @@ pub fn admits(
         (now (shape .entry)) (now (document .entry)) ⌝ }
 {
     let limits = slices::STANDARD;
-    if slices::shape_document_short(limits, shapes.len(), nodes.len(), pool.len()) {
+    if slices::shape_document_short(limits, shapes.len(), nodes.len(), pool.len()) { // as for infer
         return answers::refusal(1, 0, 0);
     }
     perform::admits(Format::Json, shape, document, shapes, nodes, pool, limits)

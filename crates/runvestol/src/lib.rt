@@ -16,12 +16,12 @@ pub extern "C" fn runvestol_plain(document: &[u8], output: &mut [u8], answer: &m
     ensures written { λ _. ⌜ now (output .exit) ≡
         plain-call read-json standard (now (document .entry)) (now (output .entry)) (now (answer .entry)) .output ⌝ }
 {
-    if answer.len() < 40 {
+    if answer.len() < 40 { // five words
         return 1;
     }
     let done = workspace::plain(Format::Json, slices::STANDARD, document, output);
     answers::put_answer(answer, done);
-    done.number
+    done.number // the other values are in the buffer
 }
 
 // Joins the shape of a document into a shape, and writes it. Returns the answer's number.

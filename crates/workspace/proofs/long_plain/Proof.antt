@@ -16,4 +16,4 @@ plain-requires c κs =
 pub long-plain-spec : {M : Type 1} → statement M
 long-plain-spec =
     tie.close (tie.spec (λ c. search needs) (λ c. search needs) plain-requires (λ c. search needs)
-    (λ c. search needs) )
+    (λ c. search needs))

@@ -16,4 +16,4 @@ below-requires c κs =
 pub short-below-spec : {M : Type 1} → statement M
 short-below-spec =
     tie.close (tie.spec (λ c. search needs) (λ c. search needs) (λ c. search needs) below-requires
-    (λ c. search needs) )
+    (λ c. search needs))

@@ -10,11 +10,13 @@ use Rattle.workspace.proofs.short_infer.Tie as tie
 infer-requires : tie.Need-infer-requires
 infer-requires c κs =
     let at-start = c .before .before .before .before .before .before .before in
-    let a = at-start .args in
-    (short-both (a .limits) (at-start .pre .0) (a .shape .now) (a .document .now) (replicate 1024 0) (replicate 1536 0) (replicate 1151 0)
-    (length-replicate {A = ℕ} 1024 0) (length-replicate {A = ℕ} 1536 0) (length-replicate {A = ℕ} 1151 0) (at-start .pre .1 .0) (at-start .pre .1 .1), omega (arith, length-replicate {A = ℕ} 1024 0))
+    let a = at-start .args in (
+      short-both (a .limits) (at-start .pre .0) (a .shape .now) (a .document .now) (replicate 1024 0) (replicate 1536 0) (replicate 1151 0)
+          (length-replicate {A = ℕ} 1024 0) (length-replicate {A = ℕ} 1536 0) (length-replicate {A = ℕ} 1151 0) (at-start .pre .1 .0) (at-start .pre .1 .1),
+      omega (arith, length-replicate {A = ℕ} 1024 0),
+    )
 
 pub short-infer-spec : {M : Type 1} → statement M
 short-infer-spec =
     tie.close (tie.spec (λ c. search needs) (λ c. search needs) (λ c. search needs) infer-requires
-    (λ c. search needs) (λ c. search needs) )
+    (λ c. search needs) (λ c. search needs))
