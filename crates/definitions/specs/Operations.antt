@@ -107,15 +107,15 @@ prelude published lent judged = judge-work published lent >>= λ w. judged
 
 -- ---- what is to be written
 
--- what an operation has to write, the steps that it counted, and what it says beside (of request Q-3; false without it)
+-- what an operation has to write, the steps that it counted, and whether it says yes beside (of request Q-3; false without it)
 pub record Text-out : Type 0 where
   pub bytes : Bytes
   pub steps : ℕ
-  pub yes : Bool
+  pub told : Bool
 
 -- a text to be written in so many steps
 abbrev pub to-write : Bytes → (steps : ℕ) → Text-out
-to-write b n = record { bytes = b; steps = n; yes = false }
+to-write b n = record { bytes = b; steps = n; told = false }
 
 -- refusal 11: "a shape to be written has over 512 shape forms, nesting over 32 or over 16,384 bytes"
 unfoldable pub shape-out : Limits → Shape → Judged Text-out
@@ -142,7 +142,7 @@ deliver output t =
       | true ↦ record { answer = output-short (length (t .bytes)); output = output }
       | false ↦
           record {
-            answer = written (length (t .bytes)) (t .steps) (t .yes);
+            answer = written (length (t .bytes)) (t .steps) (t .told);
             output = t .bytes ++ drop (length (t .bytes)) output;
           }
     ]

@@ -112,7 +112,7 @@ deliver-short output t e = rw (e, deliver)
 pub deliver-room
     : (output : Bytes) (t : Text-out) → ltb (length output) (length (t .bytes)) ≡ false
     → deliver output t
-    ≡ record { answer = written (length (t .bytes)) (t .steps) (t .yes); output = t .bytes ++ drop (length (t .bytes)) output }
+    ≡ record { answer = written (length (t .bytes)) (t .steps) (t .told); output = t .bytes ++ drop (length (t .bytes)) output }
 unfolding deliver
 deliver-room output t e = rw (e, deliver)
 
@@ -316,14 +316,14 @@ finish-zero output (stopped r) h e = absurd (let z : ⊥ = omega arith in z)
 pub finish-written
     : (output : Bytes) {m : Judged Text-out} (t : Text-out) → m ≡ passed t → length (t .bytes) ≤ length output
     → finish output m
-    ≡ record { answer = written (length (t .bytes)) (t .steps) (t .yes); output = t .bytes ++ drop (length (t .bytes)) output }
+    ≡ record { answer = written (length (t .bytes)) (t .steps) (t .told); output = t .bytes ++ drop (length (t .bytes)) output }
 unfolding finish
 finish-written output t e h = ap (λ m. finish output m) e ∙ deliver-room output t (le-ltb _ _ h)
 
 -- what is written stands at the front of the output
 pub front
     : (output : Bytes) (t : Text-out) (d : Done)
-    → d ≡ record { answer = written (length (t .bytes)) (t .steps) (t .yes); output = t .bytes ++ drop (length (t .bytes)) output }
+    → d ≡ record { answer = written (length (t .bytes)) (t .steps) (t .told); output = t .bytes ++ drop (length (t .bytes)) output }
     → (d .answer .number ≡ 0) × (take (d .answer .length) (d .output) ≡ t .bytes)
 unfolding written
 front output t d e = rw e (refl, take-append-seam (t .bytes) _)
