@@ -1,9 +1,9 @@
 -- Checking a reader against a shape: "parts left to right, then the form itself; a part that is refused stops the form
 -- that holds it." Refusals 9 and 10 stand at the form's bracket. Assumes nothing.
 use Prim.Native.Nat.{ℕ}
-use mathlib.Core.Bool.{Bool, true, false}
+use mathlib.Core.Bool.{true, false}
 use mathlib.Core.List.{List, [], _∷_}
-use mathlib.Core.Option.{Option, none, some}
+use mathlib.Core.Option.{none, some}
 use lib.ListN.{getD}
 use Rattle.definitions.specs.Bytes.{Bytes}
 use Rattle.definitions.specs.Outcome.{Outcome, ok, refused, _>>=_}

@@ -7,9 +7,8 @@ use mathlib.Core.List.{List, [], _∷_, _++_, map}
 use lib.Dec.{eqb, ltb}
 use lib.ListN.{length, take, drop}
 use Rattle.definitions.specs.declared.Limits.{Limits}
-use Rattle.definitions.specs.declared.Answer.{Answer}
 use Rattle.definitions.specs.Bytes.{Bytes, bytes}
-use Rattle.definitions.specs.Outcome.{Outcome, ok, refused}
+use Rattle.definitions.specs.Outcome.{ok, refused}
 use Rattle.definitions.specs.Value.{Value, size, nesting}
 use Rattle.definitions.specs.Plain.{plain}
 use Rattle.definitions.specs.Shape.{Shape, ascending}

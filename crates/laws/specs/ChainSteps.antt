@@ -1,10 +1,9 @@
 -- One infer call: exactly when it is accepted, and what it leaves. Assumes nothing.
-use Prim.Native.Nat.{ℕ, zero, suc, _≤_, _<_}
-use mathlib.Core.Path.{_≡_, refl, sym, ap, _∙_, subst}
-use mathlib.Core.Bool.{Bool, true, false}
-use mathlib.Core.List.{List, [], _∷_, _++_}
-use lib.Dec.{ltb, eqb, lit<}
-use lib.ListN.{length, take, drop}
+use Prim.Native.Nat.{ℕ, _≤_}
+use mathlib.Core.Path.{_≡_, refl, _∙_, subst}
+use mathlib.Core.Bool.{true, false}
+use mathlib.Core.List.{List}
+use lib.ListN.{length, take}
 use Rattle.definitions.specs.declared.Limits.{Limits}
 use Rattle.definitions.specs.Bytes.{Bytes}
 use Rattle.definitions.specs.Outcome.{Outcome, ok, refused}
@@ -12,9 +11,10 @@ use Rattle.definitions.specs.Value.{Value}
 use Rattle.definitions.specs.Shape.{Shape}
 use Rattle.definitions.specs.Join.{join, shape-of}
 use Rattle.definitions.specs.ShapeText.{read-shape, write-shape}
-use Rattle.definitions.specs.Operations.{Done, Source, Judged, passed, stopped, _>>=_, judge-text, slices-short, judge-work, Text-out, shape-out, finish, infer-operation}
+use Rattle.definitions.specs.Operations.{Source, Judged, passed, _>>=_, judge-text, slices-short, judge-work, Text-out, shape-out, finish, infer-operation}
 use Rattle.laws.specs.Tests.{eqb-eq, eq-eqb}
-use Rattle.laws.specs.Judging.{Numbered, Positive, bind-positive, work-positive, text-positive, shape-out-positive, bind-passed, bind-of, work-passed, work-long, text-passed, text-reads, shape-over, shape-out-passed, shape-out-fits, finish-zero, finish-written, front}
+use Rattle.laws.specs.Judging.{Numbered, Positive, bind-positive, work-positive, text-positive, shape-out-positive, bind-passed, bind-of, work-passed}
+use Rattle.laws.specs.Judging.{work-long, text-passed, text-reads, shape-over, shape-out-passed, shape-out-fits, finish-zero, finish-written, front}
 use Rattle.laws.specs.Chain.{Call, infers, takes, left-by, Reads, Proper-source}
 
 module _ (source : Source) (published : List ℕ) (l : Limits) where

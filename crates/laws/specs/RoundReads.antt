@@ -8,7 +8,8 @@ use lib.ListN.{replicate}
 use Rattle.definitions.specs.declared.Limits.{Limits}
 use Rattle.definitions.specs.Bytes.{Bytes, bytes}
 use Rattle.definitions.specs.Plain.{plain-text}
-use Rattle.definitions.specs.Tokens.{Token, opening, closing, quoted, word, Placed, at-place, no-word, outside, lex, Step, go, opens, full-forms, judge-step, read-tokens}
+use Rattle.definitions.specs.Tokens.{Token, opening, closing, quoted, word, Placed, at-place, no-word}
+use Rattle.definitions.specs.Tokens.{outside, lex, Step, go, opens, full-forms, judge-step, read-tokens}
 use Rattle.definitions.specs.ShapeText.{State, step, finished, new-line}
 use Rattle.laws.specs.Rfc3629.{UTF8-octets}
 use Rattle.laws.specs.LexLaws.{lex-text, is-word, Bordered, lex-word, lex-space, lex-line, lex-open, lex-close}

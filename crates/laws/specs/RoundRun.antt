@@ -17,8 +17,11 @@ use Rattle.definitions.specs.Shape.{Kind, among}
 use Rattle.definitions.specs.Admits.{kind-of}
 use Rattle.definitions.specs.Reader.{Place, Result, Pairs}
 use Rattle.definitions.specs.Checking.{field-kinds, convert-kinds, list-kinds}
-use Rattle.definitions.specs.Running.{Ran, gives, enter, stuck-unless, member-of, members-of, field-value, converted, items-of, int-value, test-kinds, truth, run-place, run-items, run, run-pairs, run-reader}
-use Rattle.laws.specs.Good.{Good-value, good-null, good-bool, good-number, good-text, good-list, good-rec, Good-items, good-no-items, good-item, Good-members, good-no-members, good-member, Good-reader, good-convert, good-keep, good-count, good-each, good-when, good-choose, good-literal, good-pack, Good-pairs, good-no-pairs, good-pair}
+use Rattle.definitions.specs.Running.{Ran, gives, enter, stuck-unless, member-of, members-of, field-value, converted, items-of}
+use Rattle.definitions.specs.Running.{int-value, test-kinds, truth, run-place, run-items, run, run-pairs, run-reader}
+use Rattle.laws.specs.Good.{Good-value, good-null, good-bool, good-number, good-text, good-list, good-rec, Good-items, good-no-items}
+use Rattle.laws.specs.Good.{good-item, Good-members, good-no-members, good-member, Good-reader, good-convert, good-keep, good-count}
+use Rattle.laws.specs.Good.{good-each, good-when, good-choose, good-literal, good-pack, Good-pairs, good-no-pairs, good-pair}
 use Rattle.laws.specs.RoundOutcome.{Gives, gives-ok, gives-refused, gives-holds, gives-then, gives-map, gives-if}
 
 -- ---- values of places

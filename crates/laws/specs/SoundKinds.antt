@@ -2,22 +2,22 @@
 -- the branches of `when` admit. Assumes nothing.
 use Prim.Native.Nat.{ℕ}
 use mathlib.Core.Path.{_≡_, refl, sym, _∙_, ap, subst}
-use mathlib.Core.Logic.{⊎-elim}
 use mathlib.Core.Bool.{Bool, true, false, not, _&&_, _||_, false≢true}
-use mathlib.Core.List.{List, [], _∷_}
+use mathlib.Core.List.{List}
 use mathlib.Core.Option.{none, some}
-use lib.Dec.{T, eqb, eqb→eq}
-use lib.ListN.{getD}
 use Rattle.definitions.specs.Number.{Number, is-int}
 use Rattle.definitions.specs.Outcome.{Outcome, refused}
 use Rattle.definitions.specs.Value.{Value}
-use Rattle.definitions.specs.Shape.{Kind, all-kinds, rank, among, every, Numeric, no-number, int-only, int-and-dec, Shape, shape, Element, no-list, list-of, Record, no-rec, rec-of, has, has-int, has-dec, has-list, has-rec, within, element-of, record-of, ascending, ascending-element, ascending-record, only-numeric, only-bool, only-text}
+use Rattle.definitions.specs.Shape.{Kind, all-kinds, rank, among, every, Numeric, no-number, int-only, int-and-dec, Shape, shape, Element}
+use Rattle.definitions.specs.Shape.{no-list, list-of, Record, no-rec, rec-of, has, has-int, has-dec, has-list, has-rec, within, element-of}
+use Rattle.definitions.specs.Shape.{record-of, ascending, ascending-element, ascending-record, only-numeric, only-bool, only-text}
 use Rattle.definitions.specs.Admits.{kind-of, missing-have-null, admits, admitted, admitted-items, admitted-members}
 use Rattle.definitions.specs.Reader.{Conversion, to-int, to-dec, to-bool, to-text, Test}
 use Rattle.definitions.specs.Checking.{convert-kinds, if-kinds, convert-shape, element-shape, cut-int, take-out-int, cut-to, taken-out}
 use Rattle.definitions.specs.Running.{items-of, int-value, test-kinds, truth}
-use Rattle.laws.specs.Bools.{and-left, and-right, and-intro, or-cases, clash}
+use Rattle.laws.specs.Bools.{and-left, and-right, and-intro, clash, implied}
 use Rattle.laws.specs.SoundHolds.{Holds}
+use Rattle.laws.specs.OrderParts.{every-kind}
 
 -- ---- seven kinds
 
@@ -32,15 +32,6 @@ by-kind P a b c d e f g Kind.dec = d
 by-kind P a b c d e f g Kind.text = e
 by-kind P a b c d e f g Kind.list = f
 by-kind P a b c d e f g Kind.rec = g
-
--- a kind's place tells which it is
-unranked : (k : Kind) → getD all-kinds (rank k) Kind.null ≡ k
-unfolding all-kinds rank
-unranked = by-kind (λ k. getD all-kinds (rank k) Kind.null ≡ k) refl refl refl refl refl refl refl
-
-known : (k : Kind) → among k all-kinds ≡ true
-unfolding all-kinds rank among
-known = by-kind (λ k. among k all-kinds ≡ true) refl refl refl refl refl refl refl
 
 -- ---- the kind of an admitted value
 
@@ -76,28 +67,6 @@ admits-flat (Value.number x) s h p q = h
 admits-flat (Value.text t) s h p q = h
 admits-flat (Value.list vs) s h p q = clash h p
 admits-flat (Value.rec ms) s h p q = clash h q
-
-rank-injective : (j k : Kind) → rank j ≡ rank k → j ≡ k
-rank-injective j k e = sym (unranked j) ∙ ap (λ n. getD all-kinds n Kind.null) e ∙ unranked k
-
-same-rank : (j k : Kind) → eqb (rank j) (rank k) ≡ true → j ≡ k
-same-rank j k e = rank-injective j k (eqb→eq (rank j) (rank k) (subst T (sym e) tt))
-
-every-among : (p : Kind → Bool) (ks : List Kind) (k : Kind) → every p ks ≡ true → among k ks ≡ true → p k ≡ true
-unfolding every among
-every-among p [] k h a = absurd (false≢true a)
-every-among p (j ∷ js) k h a =
-    ⊎-elim
-    (λ e. ap p (same-rank k j e) ∙ and-left (p j) (every p js) h)
-    (λ a′. every-among p js k (and-right (p j) (every p js) h) a′)
-    (or-cases (eqb (rank k) (rank j)) (among k js) a)
-
-every-kind : (p : Kind → Bool) → every p all-kinds ≡ true → (k : Kind) → p k ≡ true
-every-kind p h k = every-among p all-kinds k h (known k)
-
-implied : (a b : Bool) → not a || b ≡ true → a ≡ true → b ≡ true
-implied true b h e = h
-implied false b h e = absurd (false≢true e)
 
 -- a kind of the shape is among those that its kinds are within
 within-has : (ks : List Kind) (s : Shape) (k : Kind) → within ks s ≡ true → has k s ≡ true → among k ks ≡ true
