@@ -99,9 +99,10 @@ below-claims t = (
 -- the first test is passed
 passed
     : (t : ℕ) (c : below-lts.Else1 (below-claims t) (below-at t) below.Reads.Post)
-    → Passed (c .before .before .before .before .before .before .args .first .now) (c .before .before .before .before .before .before .args .a)
-    (c .before .before .before .before .before .before .args .second .now) (c .before .before .before .before .before .before .args .b)
-    (c .before .before .before .before .before .before .args .pool .now)
+    → let at-start = c .before .before .before .before .before .before in
+    Passed (at-start .args .first .now) (at-start .args .a)
+    (at-start .args .second .now) (at-start .args .b)
+    (at-start .args .pool .now)
 passed t c =
     let at-start = c .before .before .before .before .before .before in
     kinds-pass (at-start .args .first .now) (at-start .args .a) (at-start .args .second .now) (at-start .args .b) (at-start .args .pool .now)

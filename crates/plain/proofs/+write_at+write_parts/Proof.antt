@@ -94,7 +94,8 @@ rec-at t c =
 -- behind the parts there is room for the bracket
 list-end
     : (t : ℕ) (c : write-at-lts.After-slice-known3 (at-claims t) (write-at-at t) write-at.Post)
-    → c .before .before .write-parts .result < length (c .before .before .write-parts .last .0)
+    → let after-write-parts = c .before .before in
+    after-write-parts .write-parts .result < length (after-write-parts .write-parts .last .0)
 list-end t c =
     let after-write-parts = c .before .before in
     let s = after-write-parts .before .before .before .before .before .before .before .before .before in
@@ -110,7 +111,8 @@ list-end t c =
 
 rec-end
     : (t : ℕ) (c : write-at-lts.After-slice-known4 (at-claims t) (write-at-at t) write-at.Post)
-    → c .before .before .write-parts2 .result < length (c .before .before .write-parts2 .last .0)
+    → let after-write-parts2 = c .before .before in
+    after-write-parts2 .write-parts2 .result < length (after-write-parts2 .write-parts2 .last .0)
 rec-end t c =
     let after-write-parts2 = c .before .before in
     let s = after-write-parts2 .before .before .before .before .before .before .before .before .before in
@@ -256,11 +258,13 @@ write-parts-μ-loop out₀ at nodes row end pool named i₀ j₀ out i j = end -
 -- the words of the part that the caller has
 step
     : (t : ℕ) (c : write-parts-lts.After-row-size (parts-claims t) (write-parts-at t) write-parts.Post write-parts-Inv-loop write-parts-μ-loop)
-    → c .row-size .result
+    → let in-loop = c .before .before .before .before .before .before .before .before .before in
+    let at-start = in-loop .before .before .before .before .before in
+    c .row-size .result
     ≡ 3
-    * size (turn (c .before .before .before .before .before .before .before .before .before .before .before .before .before .before .pre .1)
-    (c .before .before .before .before .before .before .before .before .before .before .loop .inv)
-    (c .before .before .before .before .before .before .before .before .before .loop-test .taken) .value)
+    * size (turn (at-start .pre .1)
+    (in-loop .before .loop .inv)
+    (in-loop .loop-test .taken) .value)
 step t c =
     let in-loop = c .before .before .before .before .before .before .before .before .before in
     let at-start = in-loop .before .before .before .before .before in

@@ -30,7 +30,8 @@ write-reference-requires c κs =
     }
 
 -- behind the name there is room for the colon
-within : (c : tie.After-slice-known3) → c .before .before .write-reference .result < length (c .before .before .write-reference .last .0)
+within : (c : tie.After-slice-known3) → let after-write-reference = c .before .before in
+    after-write-reference .write-reference .result < length (after-write-reference .write-reference .last .0)
 within c =
     let after-write-reference = c .before .before in
     let after-write-comma = after-write-reference .before .before .before .before .before .before in

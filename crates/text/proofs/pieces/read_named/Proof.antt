@@ -47,15 +47,15 @@ copy-requires c κs =
 
 add-t20 : tie.Need-add-t20
 add-t20 c =
-    let at-match-keys1 = c .before .before .before .before .before .before .before .before .before in
-    let after-read-unicode = at-match-keys1 .before in
+    let after-encoded = c .before .before .before .before .before in
+    let after-read-unicode = after-encoded .before .before .before .before .before in
     let a = after-read-unicode .before .before .before .args in
     let p = after-read-unicode .before .before .before .pre in
-    let g = c .before .before .before .before .before .before .before .before .value .given in
+    let g = after-encoded .before .before .before .value .given in
     let h
     : Code-read (a .doc .now) (Inside.digits none 0 0) (a .i + 2) (g .0 .0) (g .0 .1 .0) =
     subst (Reads-code (a .doc .now) (Inside.digits none 0 0) (a .i + 2)) (g .1) (after-read-unicode .read-unicode .ensures) in
-    let k = c .before .before .before .before .before .before .encoded-length in
+    let k = after-encoded .before .encoded-length in
     let m = h .within in
     let l = h .ahead in
     let e = k .ensures in
