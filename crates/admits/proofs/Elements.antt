@@ -1,11 +1,11 @@
 -- The walk over the elements of a list. Assumes nothing.
-use Prim.Native.Nat.{ℕ, _+_, _*_, _≤_, _<_}
+use Prim.Native.Nat.{ℕ, _+_, _≤_, _<_}
 use mathlib.Core.Path.{_≡_, refl, sym, ap, _∙_, subst}
 use mathlib.Core.Bool.{Bool, true, false, not, _&&_}
 use mathlib.Core.List.{List}
 use native.Mathlib.Omega.{arith}
 use lib.ListN.{length}
-use Rattle.definitions.specs.Value.{Value, Items, no-items, item, size}
+use Rattle.definitions.specs.Value.{Value, Items, item}
 use Rattle.definitions.specs.Shape.{Shape}
 use Rattle.definitions.specs.Admits.{admits, admitted, admitted-items}
 use Rattle.laws.specs.Bools.{not-true}

@@ -6,7 +6,7 @@ use mathlib.Core.Bool.{Bool, true, false}
 use native.Mathlib.Omega.{arith}
 use Rattle.definitions.specs.Number.{Number, is-int, most-scale}
 use Rattle.definitions.specs.Value.{Value}
-use Rattle.definitions.specs.Shape.{Kind, Shape, shape, Element, no-list, list-of, Record, no-rec, rec-of, has, has-list, has-rec, element-of, record-of}
+use Rattle.definitions.specs.Shape.{Shape, shape, no-list, list-of, no-rec, rec-of, has, has-list, has-rec, element-of, record-of}
 use Rattle.definitions.specs.Admits.{kind-of, admits, admitted}
 use Rattle.laws.specs.Bools.{clash}
 use Rattle.nodes.specs.Nodes.{kind-code, head-word}
@@ -26,13 +26,20 @@ pub record Told (k b : ℕ) : Type 0 where
 
 pub bit-told : (v : Value) → Told (kind-code v) (kind-bit (kind-of v))
 unfolding kind-code kind-bit kind-of
-bit-told Value.null = record { as-null = λ e. omega arith; as-bool = λ e f. omega arith; as-text = λ e. omega arith; as-list = λ e. omega arith; as-rec = λ e. omega arith }
-bit-told (Value.bool true) = record { as-null = λ e. omega arith; as-bool = λ e f. omega arith; as-text = λ e. omega arith; as-list = λ e. omega arith; as-rec = λ e. omega arith }
-bit-told (Value.bool false) = record { as-null = λ e. omega arith; as-bool = λ e f. omega arith; as-text = λ e. omega arith; as-list = λ e. omega arith; as-rec = λ e. omega arith }
-bit-told (Value.number x) = record { as-null = λ e. omega arith; as-bool = λ e f. omega arith; as-text = λ e. omega arith; as-list = λ e. omega arith; as-rec = λ e. omega arith }
-bit-told (Value.text t) = record { as-null = λ e. omega arith; as-bool = λ e f. omega arith; as-text = λ e. omega arith; as-list = λ e. omega arith; as-rec = λ e. omega arith }
-bit-told (Value.list vs) = record { as-null = λ e. omega arith; as-bool = λ e f. omega arith; as-text = λ e. omega arith; as-list = λ e. omega arith; as-rec = λ e. omega arith }
-bit-told (Value.rec ms) = record { as-null = λ e. omega arith; as-bool = λ e f. omega arith; as-text = λ e. omega arith; as-list = λ e. omega arith; as-rec = λ e. omega arith }
+bit-told Value.null =
+    record { as-null = λ e. omega arith; as-bool = λ e f. omega arith; as-text = λ e. omega arith; as-list = λ e. omega arith; as-rec = λ e. omega arith }
+bit-told (Value.bool true) =
+    record { as-null = λ e. omega arith; as-bool = λ e f. omega arith; as-text = λ e. omega arith; as-list = λ e. omega arith; as-rec = λ e. omega arith }
+bit-told (Value.bool false) =
+    record { as-null = λ e. omega arith; as-bool = λ e f. omega arith; as-text = λ e. omega arith; as-list = λ e. omega arith; as-rec = λ e. omega arith }
+bit-told (Value.number x) =
+    record { as-null = λ e. omega arith; as-bool = λ e f. omega arith; as-text = λ e. omega arith; as-list = λ e. omega arith; as-rec = λ e. omega arith }
+bit-told (Value.text t) =
+    record { as-null = λ e. omega arith; as-bool = λ e f. omega arith; as-text = λ e. omega arith; as-list = λ e. omega arith; as-rec = λ e. omega arith }
+bit-told (Value.list vs) =
+    record { as-null = λ e. omega arith; as-bool = λ e f. omega arith; as-text = λ e. omega arith; as-list = λ e. omega arith; as-rec = λ e. omega arith }
+bit-told (Value.rec ms) =
+    record { as-null = λ e. omega arith; as-bool = λ e f. omega arith; as-text = λ e. omega arith; as-list = λ e. omega arith; as-rec = λ e. omega arith }
 
 -- the code that a first word tells
 pub code-told : {kind n : ℕ} (v : Value) → kind ≡ n % 8 → n ≡ head-word v → kind ≡ kind-code v

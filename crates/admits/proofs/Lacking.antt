@@ -1,15 +1,14 @@
 -- Members that a value lacks: the walk over the members of a shape. Assumes nothing.
-use Prim.Native.Nat.{ℕ, _+_, _*_, _/_, _%_, _≤_, _<_}
+use Prim.Native.Nat.{ℕ, _+_, _/_, _%_, _≤_, _<_}
 use mathlib.Core.Path.{_≡_, refl, sym, ap, ap₂, _∙_, subst}
 use mathlib.Core.Bool.{Bool, true, false, not, _&&_, _||_}
 use mathlib.Core.List.{List}
-use native.Mathlib.Omega.{arith}
 use lib.ListN.{length, take, getD}
 use Rattle.definitions.specs.Bytes.{Bytes}
 use Rattle.definitions.specs.Value.{Members, has-name}
-use Rattle.definitions.specs.Shape.{Kind, Shape, Fields, no-fields, field, has, forms}
+use Rattle.definitions.specs.Shape.{Kind, Fields, has}
 use Rattle.definitions.specs.Admits.{missing-have-null}
-use Rattle.laws.specs.Bools.{or-right, not-true}
+use Rattle.laws.specs.Bools.{or-right, not-true, or-second}
 use Rattle.pool.specs.Pool.{text-in}
 use Rattle.nodes.specs.Standing.{Members-stand, Members-held}
 use Rattle.shapes.specs.Shapes.{kind-bit, has-bit, size-at}
@@ -33,10 +32,6 @@ null-told shapes row {pool} e f g ms h =
     sym
     (or-right (has-name (text-in pool (getD shapes (row + 1) 0 % 65536) (getD shapes (row + 1) 0 / 65536)) ms)
     (ap (λ (x : ℕ). has-bit x 1) (sym e) ∙ sym f ∙ g))
-
-or-second : (a : Bool) {b : Bool} → b ≡ false → a ≡ (a || b)
-or-second true e = refl
-or-second false e = sym e
 
 -- it has none
 pub member-told

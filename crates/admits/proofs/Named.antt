@@ -1,13 +1,13 @@
 -- The walk over the members of a record. Assumes nothing.
-use Prim.Native.Nat.{ℕ, _+_, _*_, _/_, _%_, _≤_, _<_}
+use Prim.Native.Nat.{ℕ, _+_, _/_, _%_, _≤_, _<_}
 use mathlib.Core.Path.{_≡_, refl, sym, ap, _∙_, subst}
 use mathlib.Core.Bool.{Bool, true, false, not, _&&_}
 use mathlib.Core.List.{List}
-use mathlib.Core.Option.{Option, none, some}
+use mathlib.Core.Option.{Option, none}
 use native.Mathlib.Omega.{arith}
 use lib.ListN.{length, getD}
 use Rattle.definitions.specs.Bytes.{Bytes}
-use Rattle.definitions.specs.Value.{Value, Members, no-members, member, size}
+use Rattle.definitions.specs.Value.{Value, Members, member}
 use Rattle.definitions.specs.Shape.{Shape, Fields, find}
 use Rattle.definitions.specs.Admits.{admits, admitted, admitted-members}
 use Rattle.laws.specs.Bools.{not-true}

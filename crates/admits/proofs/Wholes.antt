@@ -1,5 +1,5 @@
 -- A shape and a value: what the kind tells, and where the parts of a list and of a record stand. Assumes nothing.
-use Prim.Native.Nat.{ℕ, _+_, _*_, _%_, _≤_, _<_}
+use Prim.Native.Nat.{ℕ, _+_, _%_, _≤_, _<_}
 use mathlib.Core.Path.{_≡_, refl, sym, ap, ap₂, _∙_, subst}
 use mathlib.Core.Bool.{Bool, true, false, not, _&&_}
 use mathlib.Core.List.{List}
@@ -7,10 +7,9 @@ use native.Mathlib.Omega.{arith}
 use lib.ListN.{length, getD}
 use Rattle.definitions.specs.Number.{Number, is-int}
 use Rattle.definitions.specs.Value.{Value, Items, Members, size}
-use Rattle.definitions.specs.Shape.{Kind, Shape, shape, Element, no-list, list-of, Record, no-rec, rec-of, Fields, has, has-list, has-rec, element-of, record-of, forms}
+use Rattle.definitions.specs.Shape.{Shape, shape, no-list, list-of, no-rec, rec-of, Fields, has, has-list, has-rec, element-of, record-of}
 use Rattle.definitions.specs.Admits.{kind-of, admits, admitted, admitted-items, admitted-members, missing-have-null}
 use Rattle.laws.specs.Bools.{not-true, clash}
-use Rattle.laws.specs.AdmitsParts.{admitted-list, admitted-rec}
 use Rattle.nodes.specs.Nodes.{head-word, row-size}
 use Rattle.nodes.specs.Standing.{Value-stands}
 use Rattle.nodes.specs.StandingLaws.{value-head, value-size, value-within, list-stands, rec-stands, size-some}
@@ -137,11 +136,18 @@ module _
       pub list-asks : Value-asked shapes row nodes at pool → Items-asked shapes (row + 2) nodes (at + 3) (at + n) pool
       list-asks a =
           let p = list-of-both (a .shape) (a .held) (a .value) (a .holds) in
-          record { shape = p .element; held = p .held; items = p .items; holds = subst (λ (x : ℕ). Holds-items nodes pool (at + 3) (at + x) (p .items)) (sym sized) (p .holds) }
+          record {
+            shape = p .element;
+            held = p .held;
+            items = p .items;
+            holds = subst (λ (x : ℕ). Holds-items nodes pool (at + 3) (at + x) (p .items)) (sym sized) (p .holds);
+          }
 
       pub list-told : {q : Bool} → Items-told shapes (row + 2) nodes (at + 3) (at + n) pool q → Value-told shapes row nodes at pool q
       list-told t s h v g =
-          let p = list-of-both s h v g in t (p .element) (p .held) (p .items) (subst (λ (x : ℕ). Holds-items nodes pool (at + 3) (at + x) (p .items)) (sym sized) (p .holds)) ∙ sym (p .told)
+          let p = list-of-both s h v g in
+          t (p .element) (p .held) (p .items) (subst (λ (x : ℕ). Holds-items nodes pool (at + 3) (at + x) (p .items)) (sym sized) (p .holds))
+          ∙ sym (p .told)
 
     module _ (l : 32 ≤ bit) (other : bit ≡ 32 → ⊥) {from size : ℕ} (begun : from ≡ members-at shapes row) (wide : size ≡ size-at shapes row) where
       rec-of-both

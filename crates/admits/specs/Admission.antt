@@ -1,10 +1,10 @@
 -- What admitting asks and answers: of a shape that a shape table holds and a value that a node table holds, the names and
 -- texts of both in one pool. Assumes nothing.
-use Prim.Native.Nat.{ℕ, _+_, _/_, _%_, _<_}
+use Prim.Native.Nat.{ℕ, _+_, _/_, _%_}
 use mathlib.Core.Path.{_≡_}
 use mathlib.Core.Bool.{Bool, _||_}
 use mathlib.Core.List.{List}
-use lib.ListN.{length, take, getD}
+use lib.ListN.{getD}
 use Rattle.definitions.specs.Value.{Value, Items, Members, has-name}
 use Rattle.definitions.specs.Shape.{Shape, Fields}
 use Rattle.definitions.specs.Admits.{admits, admitted-items, admitted-members, missing-have-null}

@@ -1,9 +1,9 @@
 -- Which values a shape admits. Assumes nothing.
 use mathlib.Core.Bool.{Bool, true, false, _&&_, _||_}
-use mathlib.Core.Option.{Option, none, some}
-use Rattle.definitions.specs.Number.{Number, is-int}
+use mathlib.Core.Option.{none, some}
+use Rattle.definitions.specs.Number.{is-int}
 use Rattle.definitions.specs.Value.{Value, Items, no-items, item, Members, no-members, member, has-name}
-use Rattle.definitions.specs.Shape.{Kind, Shape, Element, no-list, list-of, Record, no-rec, rec-of, Fields, no-fields, field, has, element-of, record-of, find}
+use Rattle.definitions.specs.Shape.{Kind, Shape, no-list, list-of, no-rec, rec-of, Fields, no-fields, field, has, element-of, record-of, find}
 
 -- the kind of a value: of a number int or dec
 unfoldable pub kind-of : Value → Kind

@@ -1,7 +1,7 @@
 -- The join of two shapes, and the shape of a value. Assumes nothing.
-use Prim.Native.Nat.{Ordering, Ordering·lt, Ordering·eq, Ordering·gt}
-use mathlib.Core.Bool.{Bool, true, false, _||_}
-use mathlib.Core.Option.{Option, none, some}
+use Prim.Native.Nat.{Ordering·lt, Ordering·eq, Ordering·gt}
+use mathlib.Core.Bool.{true, false, _||_}
+use mathlib.Core.Option.{none, some}
 use Rattle.definitions.specs.Bytes.{Bytes, order}
 use Rattle.definitions.specs.Number.{Number, is-int}
 use Rattle.definitions.specs.Value.{Value, Items, no-items, item, Members, no-members, member}

@@ -1,6 +1,6 @@
 -- The order of shapes. "Order goes down both shapes together." Assumes nothing.
 use mathlib.Core.Bool.{Bool, true, false, not, _&&_, _||_}
-use mathlib.Core.Option.{Option, none, some}
+use mathlib.Core.Option.{none, some}
 use Rattle.definitions.specs.Bytes.{found}
 use Rattle.definitions.specs.Shape.{Kind, all-kinds, every, Shape, shape, Element, no-list, list-of, Record, no-rec, rec-of, Fields, no-fields, field, has, element-of, record-of, find}
 

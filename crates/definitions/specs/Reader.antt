@@ -1,5 +1,5 @@
 -- Readers: "A reader is one result form." Their forms, and reading them token by token. Assumes nothing.
-use Prim.Native.Nat.{ℕ, zero, suc}
+use Prim.Native.Nat.{ℕ, suc}
 use mathlib.Core.Bool.{Bool, true, false, not, _&&_, _||_}
 use mathlib.Core.List.{List, [], _∷_}
 use mathlib.Core.Option.{Option, none, some}
@@ -7,7 +7,7 @@ use lib.Dec.{ltb, eqb}
 use lib.ListN.{length}
 use Rattle.definitions.specs.declared.Limits.{Limits}
 use Rattle.definitions.specs.Bytes.{Bytes, bytes, same}
-use Rattle.definitions.specs.Outcome.{Outcome, ok, refused}
+use Rattle.definitions.specs.Outcome.{Outcome, refused}
 use Rattle.definitions.specs.Number.{Numeral, no-digits, beyond, number-of, begin, spelled}
 use Rattle.definitions.specs.Value.{Value}
 use Rattle.definitions.specs.Tokens.{Token, opening, closing, quoted, word, broken, Placed, tokens, Step, misplaced, go, opens, want-open, want-close, want-text, want-word, where-true, where-some, Named, named, want-named, read-tokens}

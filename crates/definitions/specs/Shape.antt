@@ -1,7 +1,7 @@
 -- Shapes: "a set of kinds from null, bool, int, dec, text, list, rec; dec only together with int. With list it has one
 -- element shape; with rec it has members, each a name and a shape". These hold by construction; "names strictly
 -- ascending by bytes" is `ascending`. Assumes nothing.
-use Prim.Native.Nat.{ℕ, suc, _+_, max, Ordering, Ordering·lt, Ordering·eq, Ordering·gt}
+use Prim.Native.Nat.{ℕ, suc, _+_, max, Ordering·lt, Ordering·eq, Ordering·gt}
 use mathlib.Core.Bool.{Bool, true, false, not, _&&_, _||_}
 use mathlib.Core.List.{List, [], _∷_}
 use mathlib.Core.Option.{Option, none, some}

@@ -7,7 +7,7 @@ use mathlib.Core.List.{List, [], _∷_, reverseAux}
 use mathlib.Core.Option.{Option, none, some}
 use lib.Dec.{leb, ltb, eqb}
 use Rattle.definitions.specs.Bytes.{Bytes, Row, one, span, between, look, is}
-use Rattle.definitions.specs.Utf8.{Tails, tails, head-table, encode}
+use Rattle.definitions.specs.Utf8.{tails, head-table, encode}
 
 -- where in a text a byte stands
 pub data Inside : Type 0 where

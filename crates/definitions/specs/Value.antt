@@ -1,7 +1,7 @@
 -- Values: "A value is null, a bool, an int, a decimal, a text, a list or a record. A value holds lists and records, and
 -- these hold values." Assumes nothing.
-use Prim.Native.Nat.{ℕ, zero, suc, _+_, max}
-use mathlib.Core.Bool.{Bool, true, false, _||_}
+use Prim.Native.Nat.{ℕ, suc, _+_, max}
+use mathlib.Core.Bool.{Bool, false, _||_}
 use Rattle.definitions.specs.Bytes.{Bytes, same}
 use Rattle.definitions.specs.Number.{Number}
 

@@ -8,7 +8,8 @@ use lib.Bits.{bitOr}
 use lib.ListN.{length, getD, take, drop}
 use lib.Seq.{getD-drop}
 use Rattle.definitions.specs.Value.{Value}
-use Rattle.definitions.specs.Shape.{Numeric, Shape, shape, Element, no-list, list-of, Record, no-rec, rec-of, Fields, no-fields, nothing, has-list, has-rec, element-of, record-of, only-null, only-list, only-rec, forms}
+use Rattle.definitions.specs.Shape.{Numeric, Shape, shape, Element, no-list, list-of, Record, no-rec, rec-of, Fields, no-fields}
+use Rattle.definitions.specs.Shape.{nothing, has-list, has-rec, element-of, record-of, only-null, only-list, only-rec, forms}
 use Rattle.definitions.specs.Join.{with-null, join, join-element, join-record, shape-of, numeric-of, join-fields, add-null}
 use Rattle.nodes.specs.Nodes.{kind-code}
 use Rattle.shapes.specs.Shapes.{head-of, head-word, bit, numeric-bits, kind-bits, size-at, Shape-rows, shape-rows, Element-rows, Record-rows, Stands}

@@ -102,7 +102,8 @@ module _
           }
 
       pub items-on
-          : {shapes′ : List ℕ} {words : ℕ} → Put shapes shapes′ (used + grown) words row (2 * forms (here .reached)) (Shape-rows p m (infer-into (next .value) (here .reached)))
+          : {shapes′ : List ℕ} {words : ℕ}
+          → Put shapes shapes′ (used + grown) words row (2 * forms (here .reached)) (Shape-rows p m (infer-into (next .value) (here .reached)))
           → Items-going shapes₀ nodes used row end p m s vs shapes′ (i + row-size nodes i) (grown + words)
       items-on q =
           record {

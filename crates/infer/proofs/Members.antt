@@ -18,7 +18,8 @@ use Rattle.join.specs.declared.Joined.{Joined}
 use Rattle.join.specs.declared.Joined.the-variants.{Grown, Full}
 use Rattle.infer.specs.Infer.{member-start, place, infer-into}
 use Rattle.infer.specs.InferForms.{place-eq, forms-some}
-use Rattle.infer.specs.Inferring.{Room, New-row, Meets, Inferable, Infers, Meets-fields, Fields-become, Meets-member, Member-inferable, Infers-member, Finds}
+use Rattle.infer.specs.Inferring.{Room, New-row, Meets, Inferable, Infers, Meets-fields}
+use Rattle.infer.specs.Inferring.{Fields-become, Meets-member, Member-inferable, Infers-member, Finds}
 use Rattle.infer.proofs.Steps.{split-as, replaced-then, fields-split}
 
 -- ---- the start of a new member
@@ -238,7 +239,8 @@ module _
           same = o .same;
         }
 
-    module _ {shapes₁ : List ℕ} {opened kinds name : ℕ} (told : kinds ≡ kind-bits (member-start had)) (named : name ≡ k) (q : Put shapes shapes₁ used opened row 0 (New-row kinds name)) where
+    module _ {shapes₁ : List ℕ} {opened kinds name : ℕ} (told : kinds ≡ kind-bits (member-start had)) (named : name ≡ k)
+        (q : Put shapes shapes₁ used opened row 0 (New-row kinds name)) where
       first-rows : Shape-rows p k (member-start had) (q .rows)
       first-rows =
           subst
@@ -287,7 +289,8 @@ module _
           }
 
       pub new-put
-          : {shapes₂ : List ℕ} {words : ℕ} → Put shapes₁ shapes₂ (used + opened) words row (2 * forms (member-start had)) (Shape-rows p k (infer-into v (member-start had)))
+          : {shapes₂ : List ℕ} {words : ℕ}
+          → Put shapes₁ shapes₂ (used + opened) words row (2 * forms (member-start had)) (Shape-rows p k (infer-into v (member-start had)))
           → Put shapes shapes₂ used (opened + words) first (2 * forms-fields fs) (Field-rows p (place n (member-start had) (λ s. infer-into v s) fs))
       new-put {shapes₂} {words} o =
           subst
@@ -353,7 +356,8 @@ module _
       pub new-inside : Member-inferable shapes nodes pool used first last at → row ≤ used
       new-inside w = gap-inside had (w .meets) room (place-new (w .meets))
 
-      module _ {kinds : ℕ} (shapes₁ : List ℕ) (o₁ : Joined) (told : kinds ≡ kind-bits (member-start had)) (q₁ : Puts shapes shapes₁ used row 0 2 (New-row kinds name) o₁) where
+      module _ {kinds : ℕ} (shapes₁ : List ℕ) (o₁ : Joined) (told : kinds ≡ kind-bits (member-start had))
+          (q₁ : Puts shapes shapes₁ used row 0 2 (New-row kinds name) o₁) where
         pub new-full-first : o₁ ≡ Full → Infers-member shapes nodes pool shapes₁ used first last at had Full
         new-full-first e p fs n k v h =
             new-unready had h room (place-new h) (subst (λ (x : Joined). Puts shapes shapes₁ used row 0 2 (New-row kinds name) x) e q₁)

@@ -20,10 +20,11 @@ use Rattle.shapes.specs.ShapesLaws.{length-shape-rows, stands-name, stands-size
 use Rattle.join.specs.Replacing.{Put}
 use Rattle.join.specs.ReplacingLaws.{Split, split-used, split-inner, split-outer, split-stands, replaced-split, split-replaced}
 use Rattle.infer.specs.Infer.{null-if-lacked, null-lacked, null-others}
-use Rattle.infer.specs.InferForms.{forms-some, forms-null}
+use Rattle.infer.specs.InferForms.{forms-some}
 use Rattle.infer.specs.Inferring.{Room, Meets-listed, Listed-held, Nulls-listed, Meets-members, Members-inferable, Nulls}
 use Rattle.infer.proofs.Steps.{split-as, fields-split}
 use Rattle.infer.proofs.Heads.{null-parts, bits-with-null, raise-fits, kinds-put, kept-put}
+use Rattle.laws.specs.FieldsPut.{forms-with-null}
 
 -- ---- one member
 
@@ -70,8 +71,8 @@ pub null-fits
 null-fits h room =
     let s = h .old in (
       omega (arith, stands-row (h .meets .stands)),
-      raise-fits 1 0 (with-null s) (h .meets .stands) (bits-with-null s) (omega (arith, forms-null s))
-          (omega (arith, forms-null s, h .meets .within, room .enough, room .small)),
+      raise-fits 1 0 (with-null s) (h .meets .stands) (bits-with-null s) (omega (arith, forms-with-null s))
+          (omega (arith, forms-with-null s, h .meets .within, room .enough, room .small)),
     )
 
 -- ---- the members one after the other
@@ -168,7 +169,8 @@ module _ {shapes₀ shapes : List ℕ} {used first last : ℕ} {p : List ℕ} {f
     pub turn-some : 1 ≤ 2 * forms (h .shape)
     turn-some = omega (arith, forms-some (h .shape))
 
-    module _ {shapes′ : List ℕ} (q : Put shapes shapes′ used 0 row (2 * forms (h .shape)) (Shape-rows p (h .word) (null-if-lacked (has-name (h .name) ms) (h .shape)))) where
+    module _ {shapes′ : List ℕ}
+        (q : Put shapes shapes′ used 0 row (2 * forms (h .shape)) (Shape-rows p (h .word) (null-if-lacked (has-name (h .name) ms) (h .shape)))) where
       after
           : Split
           shapes′

@@ -7,12 +7,14 @@ use mathlib.Core.List.{List, [], _∷_, _++_, append-nil}
 use lib.Bits.{bitOr}
 use lib.ListN.{length, getD, take, drop}
 use Rattle.definitions.specs.Value.{Value, Members}
-use Rattle.definitions.specs.Shape.{Kind, Shape, shape, Element, Record, rec-of, Fields, has, has-rec, element-of, record-of, forms, forms-element, forms-fields}
+use Rattle.definitions.specs.Shape.{Kind, Shape, shape, Element, Record, rec-of, Fields, has, has-rec}
+use Rattle.definitions.specs.Shape.{element-of, record-of, forms, forms-element, forms-fields}
 use Rattle.nodes.specs.Nodes.{row-size}
 use Rattle.nodes.specs.Standing.{Value-stands, Members-stand}
 use Rattle.nodes.specs.StandingLaws.{rec-stands}
 use Rattle.plain.specs.Table.{Bounded-numbers, Bounded-members}
-use Rattle.shapes.specs.Shapes.{kind-bit, has-bit, head-of, head-word, size-at, members-at, Shape-rows, Element-rows, Record-rows, no-record-rows, record-rows, Field-rows, no-field-rows, Stands, Fields-stand}
+use Rattle.shapes.specs.Shapes.{kind-bit, has-bit, head-of, head-word, size-at, members-at, Shape-rows, Element-rows}
+use Rattle.shapes.specs.Shapes.{Record-rows, no-record-rows, record-rows, Field-rows, no-field-rows, Stands, Fields-stand}
 use Rattle.shapes.specs.ShapesLaws.{has-kind, stands-kinds, stands-size, stands-row, members-at-is, length-field-rows, length-element-rows}
 use Rattle.join.specs.Replacing.{Put, Over}
 use Rattle.join.specs.ReplacingLaws.{Split, stands-split, split-inner, split-outer, split-fields, replaced-split}

@@ -4,7 +4,8 @@ use Prim.Native.Nat.{Ordering·lt, Ordering·eq, Ordering·gt}
 use mathlib.Core.Bool.{Bool, true, false}
 use Rattle.definitions.specs.Bytes.{Bytes, order}
 use Rattle.definitions.specs.Value.{Value, Items, no-items, item, Members, no-members, member, has-name}
-use Rattle.definitions.specs.Shape.{Numeric, Shape, shape, Element, no-list, list-of, Record, no-rec, rec-of, Fields, no-fields, field, nothing, only-null, has-rec, element-of, record-of}
+use Rattle.definitions.specs.Shape.{Numeric, Shape, shape, Element, no-list, list-of, Record, no-rec, rec-of}
+use Rattle.definitions.specs.Shape.{Fields, no-fields, field, nothing, only-null, has-rec, element-of, record-of}
 use Rattle.definitions.specs.Join.{with-null, join-numeric, numeric-of}
 
 -- ---- a kind added

@@ -8,15 +8,14 @@ use native.Mathlib.Omega.{arith}
 use Rattle.definitions.specs.Bytes.{Bytes, order}
 use Rattle.definitions.specs.Number.{Number}
 use Rattle.definitions.specs.Value.{Value, Items, no-items, item, Members, no-members, member, has-name}
-use Rattle.definitions.specs.Shape.{Shape, shape, Element, no-list, list-of, Record, no-rec, rec-of, Fields, no-fields, field, nothing, has-rec, element-of, record-of, forms, forms-element, forms-record, forms-fields}
-use Rattle.definitions.specs.Join.{with-null, numeric-of}
-use Rattle.infer.specs.Infer.{with-bool, with-numeric, with-text, with-element, with-fields, element-start, fields-start, member-start, place, null-if-lacked, null-lacked, null-others, infer-into, infer-items, infer-members}
+use Rattle.definitions.specs.Shape.{Shape, shape, Element, no-list, list-of, Record, no-rec, rec-of, Fields, no-fields, field}
+use Rattle.definitions.specs.Shape.{nothing, has-rec, element-of, record-of, forms, forms-element, forms-record, forms-fields}
+use Rattle.definitions.specs.Join.{numeric-of}
+use Rattle.infer.specs.Infer.{with-bool, with-numeric, with-text, with-element, with-fields, element-start, fields-start}
+use Rattle.infer.specs.Infer.{member-start, place, null-if-lacked, null-lacked, null-others, infer-into, infer-items, infer-members}
+use Rattle.laws.specs.FieldsPut.{forms-with-null}
 
 -- ---- kinds
-
-pub forms-null : (s : Shape) → forms (with-null s) ≡ forms s
-unfolding forms with-null
-forms-null (shape n b m t e r) = refl
 
 pub forms-by : (s : Shape) → forms s ≡ 1 + (forms-element (element-of s) + forms-record (record-of s))
 unfolding forms element-of record-of
@@ -85,7 +84,7 @@ forms-place n st f h (field m b gs) = go (forms-place n st f h gs) (order n m) r
 forms-if-lacked : (b : Bool) (s : Shape) → forms (null-if-lacked b s) ≡ forms s
 unfolding null-if-lacked
 forms-if-lacked true s = refl
-forms-if-lacked false s = forms-null s
+forms-if-lacked false s = forms-with-null s
 
 pub forms-lacked : (ms : Members) (fs : Fields) → forms-fields (null-lacked ms fs) ≡ forms-fields fs
 unfolding forms null-lacked
@@ -115,7 +114,7 @@ mutual
   unfolding infer-into
 
   pub forms-infer : (v : Value) (s : Shape) → forms s ≤ forms (infer-into v s)
-  forms-infer Value.null s = omega (arith, forms-null s)
+  forms-infer Value.null s = omega (arith, forms-with-null s)
   forms-infer (Value.bool b) s = omega (arith, forms-bool s)
   forms-infer (Value.number x) s = forms-numeric x s
   forms-infer (Value.text t) s = omega (arith, forms-text s)

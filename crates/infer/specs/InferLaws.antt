@@ -7,8 +7,11 @@ use mathlib.Core.Bool.{Bool, true, false, not, _&&_, or-true, or-false}
 use mathlib.Core.Option.{Option, none, some}
 use Rattle.definitions.specs.Bytes.{Bytes, order, same, found}
 use Rattle.definitions.specs.Value.{Value, Items, no-items, item, Members, no-members, member, has-name}
-use Rattle.definitions.specs.Shape.{Numeric, no-number, int-only, int-and-dec, Shape, shape, Element, no-list, list-of, Record, no-rec, rec-of, Fields, no-fields, field, nothing, find, has-rec, element-of, record-of, behind, ascending, ascending-element, ascending-record, ascending-fields, only-null, only-bool, only-numeric, only-text, only-list, only-rec}
-use Rattle.definitions.specs.Join.{with-null, join-numeric, add-null, insert, numeric-of, join, join-element, join-record, join-fields, shape-of, join-items, fields-of}
+use Rattle.definitions.specs.Shape.{Numeric, Shape, shape, Element, no-list, list-of, Record, no-rec, rec-of}
+use Rattle.definitions.specs.Shape.{Fields, no-fields, field, nothing, find, has-rec, element-of, record-of, behind, ascending, ascending-element}
+use Rattle.definitions.specs.Shape.{ascending-record, ascending-fields, only-null, only-bool, only-numeric, only-text, only-list, only-rec}
+use Rattle.definitions.specs.Join.{with-null, join-numeric, add-null, insert, numeric-of, join}
+use Rattle.definitions.specs.Join.{join-element, join-record, join-fields, shape-of, join-items, fields-of}
 use Rattle.laws.specs.Bools.{tell, and-left, and-right, not-true, clash}
 use Rattle.laws.specs.Distinct.{distinct, distinct-items, distinct-members}
 use Rattle.laws.specs.Names.{order-eq, same-eq, eq-same, before-lt, before-gt, before-other-sym}
@@ -16,27 +19,13 @@ use Rattle.laws.specs.Fields.{find-here, find-there, find-behind, ascending-fir
 use Rattle.laws.specs.FieldsPut.{with-null-ascending, find-insert-here, find-insert-there, insert-ascending, add-null-ascending}
 use Rattle.laws.specs.OrderInduction.{InOption, Ascending, ascending-of-element, ascending-of-record, ascending-found}
 use Rattle.laws.specs.JoinParts.{join-option, find-join, join-fields-ascending}
-use Rattle.laws.specs.JoinLaws.{nothing-ascending, join-nothing-left, join-nothing-right, join-assoc, join-ascending, shape-of-ascending, fields-of-ascending}
+use Rattle.laws.specs.JoinLaws.{nothing-ascending, join-nothing-left, join-nothing-right, join-assoc, join-ascending}
+use Rattle.laws.specs.JoinLaws.{shape-of-ascending, fields-of-ascending, numeric-nothing, element-nothing, record-nothing}
 use Rattle.laws.specs.AdmitsParts.{find-shape-here, find-shape-there, found-shape}
-use Rattle.infer.specs.Infer.{with-bool, with-numeric, with-text, with-element, with-fields, element-start, fields-start, member-start, place, null-if-lacked, null-lacked, null-others, infer-into, infer-items, infer-members}
+use Rattle.infer.specs.Infer.{with-bool, with-numeric, with-text, with-element, with-fields, element-start, fields-start}
+use Rattle.infer.specs.Infer.{member-start, place, null-if-lacked, null-lacked, null-others, infer-into, infer-items, infer-members}
 
 -- ---- kinds
-
-numeric-nothing : (m : Numeric) → join-numeric m no-number ≡ m
-unfolding join-numeric
-numeric-nothing no-number = refl
-numeric-nothing int-only = refl
-numeric-nothing int-and-dec = refl
-
-element-nothing : (e : Element) → join-element e no-list ≡ e
-unfolding join
-element-nothing no-list = refl
-element-nothing (list-of a) = refl
-
-record-nothing : (r : Record) → join-record r no-rec ≡ r
-unfolding join
-record-nothing no-rec = refl
-record-nothing (rec-of fs) = refl
 
 pub null-is : (s : Shape) → join s only-null ≡ with-null s
 unfolding join only-null with-null

@@ -25,7 +25,8 @@ fn number_kinds(int: bool) -> u64
 
 // The kinds of a value that holds no others.
 pub fn scalar_kinds(nodes: &[u64], at: usize) -> u64
-    ensures told { λ r. ⌜ ((p : List ℕ) (k : ℕ) (v : Value) → Value-stands (now (nodes .entry)) p at k v → Bounded-numbers v → kind-code v < 5 → r ≡ kind-bits (shape-of v)) ⌝ }
+    ensures told { λ r. ⌜ ((p : List ℕ) (k : ℕ) (v : Value) → Value-stands (now (nodes .entry)) p at k v → Bounded-numbers v → kind-code v < 5
+        → r ≡ kind-bits (shape-of v)) ⌝ }
 {
     let kind = nodes::row_kind(nodes, at);
     if kind == nodes::NULL {

@@ -3,7 +3,8 @@
 ghost use Prim.Native.Nat.{_%_};
 ghost use mathlib.Core.Path.{_≡_};
 ghost use lib.ListN.{getD};
-ghost use Rattle.infer.specs.Inferring.{Room, Inferable, Infers, Joins, Items-inferable, Infers-items, Member-inferable, Infers-member, Members-inferable, Infers-members};
+ghost use Rattle.infer.specs.Inferring.{Room, Inferable, Infers, Joins, Items-inferable, Infers-items};
+ghost use Rattle.infer.specs.Inferring.{Member-inferable, Infers-member, Members-inferable, Infers-members};
 use join::Joined;
 use shapes::Shape;
 
@@ -119,7 +120,8 @@ fn infer_members(
 ) -> Joined
     requires { ⌜ Members-inferable (now shapes) (now nodes) (now pool) used first last at end ⌝ }
     requires room { ⌜ Room (now shapes) used ⌝ }
-    ensures inferred { λ r. ⌜ Infers-members (now (shapes .entry)) (now (nodes .entry)) (now (pool .entry)) (now (shapes .exit)) used first last at end had r ⌝ }
+    ensures inferred { λ r. ⌜ Infers-members (now (shapes .entry)) (now (nodes .entry)) (now (pool .entry)) (now (shapes .exit)) used
+        first last at end had r ⌝ }
 {
     let mut i = at;
     let mut grown: usize = 0;

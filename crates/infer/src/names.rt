@@ -19,7 +19,8 @@ pub struct Place {
 
 // The texts of two references in byte order.
 fn compare_names(pool: &[u64], a: u64, b: u64) -> Comparison
-    ensures compared { λ r. ⌜ ordering-of r ≡ order (text-in (now (pool .entry)) (a % 65536) (a / 65536)) (text-in (now (pool .entry)) (b % 65536) (b / 65536)) ⌝ }
+    ensures compared { λ r. ⌜ ordering-of r
+        ≡ order (text-in (now (pool .entry)) (a % 65536) (a / 65536)) (text-in (now (pool .entry)) (b % 65536) (b / 65536)) ⌝ }
 {
     pool::compare(
         pool,
@@ -41,7 +42,8 @@ pub fn find_place(
 ) -> Place
     requires { ⌜ Fields-held (now shapes) (now pool) used first last ⌝ }
     requires room { ⌜ Room (now shapes) used ⌝ }
-    ensures found { λ r. ⌜ ((p : List ℕ) (fs : Fields) (n : Bytes) → Meets-fields (now (shapes .entry)) (now (pool .entry)) used first last p fs → Refers p n name → Finds (now (shapes .entry)) first last n p fs (r .row) (r .listed)) ⌝ }
+    ensures found { λ r. ⌜ ((p : List ℕ) (fs : Fields) (n : Bytes) → Meets-fields (now (shapes .entry)) (now (pool .entry)) used first last p fs
+        → Refers p n name → Finds (now (shapes .entry)) first last n p fs (r .row) (r .listed)) ⌝ }
 {
     let mut row = first;
     while row < last {

@@ -42,7 +42,9 @@ pub fn ready_element(shapes: &mut [u64], used: usize, row: usize) -> Joined
 pub fn raise(shapes: &mut [u64], row: usize, kinds: u64, words: usize)
     requires { ⌜ row < length (now shapes) ⌝ }
     requires fits { ⌜ head-of (bitOr (getD (now shapes) row 0 % 128) kinds) (size-at (now shapes) row + words) < 2 ^ 64 ⌝ }
-    ensures raised { λ _. ⌜ now (shapes .exit) ≡ take row (now (shapes .entry)) ++ head-of (bitOr (getD (now (shapes .entry)) row 0 % 128) kinds) (size-at (now (shapes .entry)) row + words) ∷ drop (row + 1) (now (shapes .entry)) ⌝ }
+    ensures raised { λ _. ⌜ now (shapes .exit)
+        ≡ take row (now (shapes .entry)) ++ head-of (bitOr (getD (now (shapes .entry)) row 0 % 128) kinds) (size-at (now (shapes .entry)) row + words)
+        ∷ drop (row + 1) (now (shapes .entry)) ⌝ }
 {
     let all = shapes::kinds(shapes, row) | kinds;
     let size = shapes::size(shapes, row) + words;

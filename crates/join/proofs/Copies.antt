@@ -1,13 +1,12 @@
 -- Words of a second table copied into a first, and put where a gap was opened. Assumes nothing.
-use Prim.Native.Nat.{ℕ, zero, suc, _+_, _-_, _≤_, _<_}
+use Prim.Native.Nat.{ℕ, _+_, _-_, _≤_, _<_}
 use native.Mathlib.Numerals.{add-one}
 use native.Mathlib.Omega.{arith}
 use mathlib.Core.Path.{_≡_, refl, sym, ap, _∙_}
-use mathlib.Core.List.{List, [], _∷_, _++_, append-assoc}
-use lib.ListN.{length, getD, take, drop, set, length-append, length-set, length-take, length-drop, take-append-drop}
-use lib.Seq.{length-take-le, take-take, take-at, drop-at, drop-drop, take-all, take-add, drop-append-le, getD-drop, paste, paste-zero, paste-suc, length-paste}
-use Rattle.join.specs.Replacing.{Opened, Replaced, Put, Over}
-use Rattle.join.specs.Joining.{Insertable, Copied}
+use mathlib.Core.List.{List, _++_, append-assoc}
+use lib.ListN.{length, getD, take, drop, set, length-append, length-set, length-drop}
+use lib.Seq.{length-take-le, take-at, drop-at, drop-drop, take-all, take-add, drop-append-le, getD-drop, paste, paste-zero, paste-suc}
+use Rattle.join.specs.Replacing.{Opened, Replaced}
 
 -- ---- copied one by one
 

@@ -5,7 +5,8 @@ use mathlib.Core.Path.{_≡_, refl, sym, ap, subst}
 use mathlib.Core.Bool.{Bool, true, false}
 use mathlib.Core.List.{List, _∷_, _++_}
 use lib.ListN.{length, getD, take, drop}
-use Rattle.definitions.specs.Shape.{Numeric, Shape, shape, Element, no-list, list-of, Record, no-rec, rec-of, Fields, element-of, record-of, has-list, has-rec, ascending, forms, forms-fields, levels}
+use Rattle.definitions.specs.Shape.{Numeric, Shape, shape, Element, no-list, list-of, Record, no-rec, rec-of, Fields}
+use Rattle.definitions.specs.Shape.{element-of, record-of, has-list, has-rec, ascending, forms, forms-fields, levels}
 use Rattle.definitions.specs.Join.{join, join-element, join-record}
 use Rattle.laws.specs.OrderInduction.{ascending-of-element, ascending-of-record}
 use Rattle.shapes.specs.Shapes.{bit, has-bit, Shape-rows, element-rows, record-rows, Field-rows, Fields-stand, size-at, members-at}
@@ -117,7 +118,8 @@ module _ {shapes second pool p : List ℕ} {used row m other k left : ℕ} where
         record-full g (shape n c x y e no-rec) t j = clash b refl (bit-rec (j .both .ours))
         record-full g (shape n c x y e (rec-of fs)) (shape n′ c′ x′ y′ e′ no-rec) j = clash d refl (bit-rec (j .both .theirs))
         record-full g (shape n c x y e (rec-of fs)) (shape n′ c′ x′ y′ e′ (rec-of gs)) j =
-            let o = full-of shapes shapes₁ used at (2 * forms-fields fs) (2 * forms-fields (merge fs gs)) (Field-rows p (merge fs gs)) g (f p fs gs (span-walks j)) in
+            let o = full-of shapes shapes₁ used at (2 * forms-fields fs) (2 * forms-fields (merge fs gs)) (Field-rows p (merge fs gs)) g
+            (f p fs gs (span-walks j)) in
             record { over = omega (arith, o .over); same = o .same }
 
         pub record-inner

@@ -1,19 +1,17 @@
 -- A member of the second put into the first, with null added. Assumes nothing.
 use Prim.Native.Nat.{ℕ, _+_, _*_, _≤_, _<_}
 use native.Mathlib.Omega.{arith}
-use mathlib.Core.Path.{_≡_, refl, sym, ap, subst, _∙_}
-use mathlib.Core.List.{List, [], _∷_, _++_}
-use lib.ListN.{length, getD, take, drop, length-append}
+use mathlib.Core.Path.{_≡_, sym, ap, subst, _∙_}
+use mathlib.Core.List.{List, _∷_, _++_}
+use lib.ListN.{length, getD, take, drop}
 use lib.Seq.{take-at}
 use Rattle.definitions.specs.Shape.{Shape, forms}
 use Rattle.definitions.specs.Join.{with-null}
-use Rattle.shapes.specs.Shapes.{head-word, kind-bits, Shape-rows, Stands, size-at}
-use Rattle.shapes.specs.ShapesLaws.{length-shape-rows, stands-size, stands-within, forms-some, kind-bits-lt}
-use Rattle.join.specs.declared.Joined.{Joined}
-use Rattle.join.specs.declared.Joined.the-variants.{Grown, Full}
-use Rattle.join.specs.Replacing.{Replaced, Put, Over, Puts}
-use Rattle.join.specs.ReplacingLaws.{Split, split-of, split-as, split-head, split-stands, replaced-split, replaced-then}
-use Rattle.join.specs.Joining.{Insertable, Copied, Puttable, null-head}
+use Rattle.shapes.specs.Shapes.{Shape-rows, Stands, size-at}
+use Rattle.shapes.specs.ShapesLaws.{length-shape-rows, stands-size, stands-within, forms-some}
+use Rattle.join.specs.Replacing.{Put, Over}
+use Rattle.join.specs.ReplacingLaws.{split-of, split-stands, replaced-split, replaced-then}
+use Rattle.join.specs.Joining.{Copied, null-head}
 use Rattle.join.proofs.Rows.{nulled}
 
 -- the words copied are the shape's rows

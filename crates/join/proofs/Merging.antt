@@ -1,5 +1,5 @@
 -- The members of two shapes joined in place, turn by turn. Assumes nothing.
-use Prim.Native.Nat.{ℕ, _+_, _-_, _*_, _≤_, _<_}
+use Prim.Native.Nat.{ℕ, _+_, _*_, _≤_, _<_}
 use native.Mathlib.Omega.{arith}
 use mathlib.Core.Path.{_≡_, refl, sym, ap, subst, _∙_}
 use mathlib.Core.Bool.{true}
@@ -7,18 +7,17 @@ use mathlib.Core.List.{List, [], _∷_, _++_, append-assoc, append-nil}
 use lib.ListN.{length, take, drop, length-append}
 use lib.Seq.{length-take-le}
 use Rattle.definitions.specs.Bytes.{Bytes}
-use Rattle.definitions.specs.Shape.{Shape, Fields, no-fields, field, behind, ascending-fields, forms, forms-fields, levels, levels-fields}
-use Rattle.definitions.specs.Join.{with-null, join}
+use Rattle.definitions.specs.Shape.{Shape, Fields, no-fields, field, ascending-fields, forms, forms-fields, levels, levels-fields}
 use Rattle.laws.specs.Fields.{ascending-rest}
 use Rattle.pool.specs.declared.Comparison.{Comparison}
-use Rattle.pool.specs.declared.Comparison.the-variants.{Less, Equal, Greater}
 use Rattle.plain.specs.Table.{Used}
-use Rattle.shapes.specs.Shapes.{Shape-rows, Field-rows, no-field-rows, field-rows, Stands, Fields-stand, size-at}
-use Rattle.shapes.specs.ShapesLaws.{length-shape-rows, length-field-rows, stands-size, forms-some, fields-none, fields-some, fields-first, fields-rest, fields-end, fields-within}
-use Rattle.join.specs.Replacing.{Replaced, Put, Over}
-use Rattle.join.specs.ReplacingLaws.{Split, split-of, split-as, split-behind-as, fields-split, split-stands, split-fields, replaced-split, split-replaced, split-first, split-next, split-back, split-used}
+use Rattle.shapes.specs.Shapes.{Field-rows, no-field-rows, field-rows, Stands, Fields-stand, size-at}
+use Rattle.shapes.specs.ShapesLaws.{length-shape-rows, length-field-rows, stands-size, forms-some, fields-first, fields-rest, fields-end}
+use Rattle.join.specs.Replacing.{Put, Over}
+use Rattle.join.specs.ReplacingLaws.{Split, split-of, split-as, split-behind-as, fields-split, split-stands, split-fields}
+use Rattle.join.specs.ReplacingLaws.{replaced-split, split-replaced, split-first, split-next, split-back, split-used}
 use Rattle.join.specs.Merge.{merge, merge-none, merge-first, merge-second, merge-both, forms-merge}
-use Rattle.join.specs.Joining.{Walk, Walks, Turn, turn-first, turn-second, turn-both, Next, Member-rows, passed-words, Mergeable, Turns}
+use Rattle.join.specs.Joining.{Walks, Turn, turn-first, turn-second, turn-both, Member-rows, passed-words}
 
 empty : (l : List ℕ) → length l ≡ 0 → l ≡ []
 empty [] e = refl
@@ -284,7 +283,9 @@ module _
               )
 
     -- nothing is left
-    nothing-left : (end : ℕ) → row + 2 * forms-fields fs ≡ end → end + words + to ≤ i + j → (hs ks : Fields) → hs ≡ m .ours → ks ≡ m .theirs → (hs ≡ no-fields) × (ks ≡ no-fields)
+    nothing-left
+        : (end : ℕ) → row + 2 * forms-fields fs ≡ end → end + words + to ≤ i + j → (hs ks : Fields) → hs ≡ m .ours → ks ≡ m .theirs
+        → (hs ≡ no-fields) × (ks ≡ no-fields)
     unfolding forms
     nothing-left end e h no-fields no-fields f g = (refl, refl)
     nothing-left end e h (field n a hs) ks f g =
@@ -307,7 +308,8 @@ module _
               (append-nil (m .done))
               (m .goes
               []
-              (subst (λ (y : Fields). Field-rows p y []) (sym (ap (λ (y : Fields). merge y (m .theirs)) (z .0) ∙ ap (merge no-fields) (z .1) ∙ merge-none)) no-field-rows));
+              (subst (λ (y : Fields). Field-rows p y [])
+              (sym (ap (λ (y : Fields). merge y (m .theirs)) (z .0) ∙ ap (merge no-fields) (z .1) ∙ merge-none)) no-field-rows));
           replaced = split-replaced
               (split-of shapes₀ used row (2 * forms-fields fs) (omega arith) l)
               (split-as

@@ -3,16 +3,18 @@ use Prim.Native.Nat.{ℕ, _+_, _-_, _*_, _%_, _≤_, _<_}
 use native.Mathlib.Omega.{arith}
 use mathlib.Core.Path.{_≡_, refl, sym, ap, subst, _∙_}
 use mathlib.Core.Bool.{Bool, true, false, false≢true}
-use mathlib.Core.List.{List, [], _∷_, _++_}
-use lib.ListN.{length, getD, take, drop, length-append, List·getD-append}
+use mathlib.Core.List.{List, _∷_, _++_}
+use lib.ListN.{length, getD, take, drop, List·getD-append}
 use lib.Seq.{take-at, getD-take, length-take-le}
-use Rattle.definitions.specs.Shape.{Numeric, Shape, shape, Element, no-list, list-of, Record, no-rec, rec-of, Fields, element-of, record-of, has-list, has-rec, forms, forms-element, forms-record, forms-fields}
-use Rattle.definitions.specs.Join.{join, join-element, join-record}
-use Rattle.shapes.specs.Shapes.{bit, has-bit, Shape-rows, Element-rows, element-rows, Record-rows, record-rows, Field-rows, Stands, Fields-stand, size-at, members-at}
-use Rattle.shapes.specs.ShapesLaws.{has-list-bit, has-rec-bit, stands-kinds, stands-size, stands-within, stands-row, stands-element, stands-members, members-at-is, fields-end, fields-within, forms-some, length-field-rows}
-use Rattle.join.specs.Replacing.{Replaced, Put, Over, Becomes}
+use Rattle.definitions.specs.Shape.{Numeric, Shape, shape, Element, no-list, list-of, Record, no-rec}
+use Rattle.definitions.specs.Shape.{rec-of, Fields, element-of, record-of, has-list, has-rec, forms}
+use Rattle.definitions.specs.Join.{join}
+use Rattle.shapes.specs.Shapes.{bit, has-bit, Shape-rows, element-rows, record-rows, Field-rows, Stands, Fields-stand, size-at, members-at}
+use Rattle.shapes.specs.ShapesLaws.{has-list-bit, has-rec-bit, stands-kinds, stands-size, stands-within}
+use Rattle.shapes.specs.ShapesLaws.{stands-element, stands-members, members-at-is, fields-end, forms-some}
+use Rattle.join.specs.Replacing.{Replaced, Put, Over}
 use Rattle.join.specs.ReplacingLaws.{put-map}
-use Rattle.join.specs.Joining.{Copied, Insertable, Both, Beside, join-records, join-elements}
+use Rattle.join.specs.Joining.{Copied, Both, join-records, join-elements}
 use Rattle.join.proofs.Rows.{record-changed, element-changed}
 use Rattle.join.proofs.Members.{copied-rows, head-small}
 
@@ -91,7 +93,8 @@ module _ {shapes second p : List ℕ} {used row m other k end from to : ℕ} whe
     omega (arith, w .to-is, stands-size (v .theirs), stands-within (v .theirs)),
   )
 
-  module _ (v-kinds : has-bit (getD shapes row 0 % 128) 64 ≡ false) (t-kinds : has-bit (getD second other 0 % 128) 64 ≡ true) (w : Putting shapes second row other end from to) where
+  module _ (v-kinds : has-bit (getD shapes row 0 % 128) 64 ≡ false) (t-kinds : has-bit (getD second other 0 % 128) 64 ≡ true)
+      (w : Putting shapes second row other end from to) where
     pub put-members-full
         : {shapes₁ : List ℕ} (s t : Shape) → Both shapes second p used row m other k s t → Over shapes shapes₁ used 0 (to - from)
         → Over shapes shapes₁ used (2 * forms s) (2 * forms (join-records s t))
@@ -112,7 +115,9 @@ module _ {shapes second p : List ℕ} {used row m other k end from to : ℕ} whe
     put-members-grown (shape n b x y e no-rec) (shape n′ b′ x′ y′ e′ (rec-of gs)) v q f g =
         let h = stands-members (v .theirs) in
         let l : Fields-stand second p from to gs
-        = subst (λ (i : ℕ). Fields-stand second p i to gs) (sym (w .from-is)) (subst (λ (i : ℕ). Fields-stand second p (members-at second other) i gs) (sym (w .to-is)) h) in
+        =
+        subst (λ (i : ℕ). Fields-stand second p i to gs) (sym (w .from-is))
+        (subst (λ (i : ℕ). Fields-stand second p (members-at second other) i gs) (sym (w .to-is)) h) in
         record-changed 64 (v .ours) (v .within) (v .used-within)
         (put-map (λ rows c. record-rows (copied-fields l refl c)) q)
         (omega (arith, w .end-is, stands-size (v .ours))) refl refl f g
@@ -120,7 +125,8 @@ module _ {shapes second p : List ℕ} {used row m other k end from to : ℕ} whe
 -- ---- element
 
 module _ {shapes second p : List ℕ} {used row m other k count : ℕ} where
-  module _ (v-kinds : has-bit (getD shapes row 0 % 128) 32 ≡ false) (t-kinds : has-bit (getD second other 0 % 128) 32 ≡ true) (c : count ≡ size-at second (other + 2)) where
+  module _ (v-kinds : has-bit (getD shapes row 0 % 128) 32 ≡ false) (t-kinds : has-bit (getD second other 0 % 128) 32 ≡ true)
+      (c : count ≡ size-at second (other + 2)) where
     pub put-element-room : (s t : Shape) → Both shapes second p used row m other k s t → other + 2 + count ≤ length second
     unfolding has-list
     put-element-room s (shape n′ b′ x′ y′ no-list r′) v = clash t-kinds refl (bit-list (v .theirs))

@@ -1,14 +1,14 @@
 -- The rows of a shape with its members, its element or null changed. Assumes nothing.
-use Prim.Native.Nat.{ℕ, suc, _+_, _*_, _%_, _≤_, _<_}
+use Prim.Native.Nat.{ℕ, suc, _+_, _*_, _%_, _≤_}
 use native.Mathlib.Omega.{arith}
 use mathlib.Core.Path.{_≡_, refl, sym, ap, subst, _∙_}
 use mathlib.Core.Bool.{Bool, true, false}
-use mathlib.Core.List.{List, [], _∷_, _++_, append-nil, append-assoc}
-use lib.ListN.{length, getD, take, drop, length-append}
+use mathlib.Core.List.{List, [], _∷_, _++_, append-nil}
+use lib.ListN.{length, getD, take, drop}
 use Rattle.definitions.specs.Shape.{Numeric, Shape, shape, Element, Record, has-list, has-rec, forms, forms-element, forms-record}
 use Rattle.definitions.specs.Join.{with-null}
 use Rattle.shapes.specs.Shapes.{bit, has-bit, kind-bits, head-word, Shape-rows, shape-rows, Element-rows, Record-rows, Stands}
-use Rattle.shapes.specs.ShapesLaws.{has-null-bit, head-kinds, length-element-rows, length-record-rows, length-shape-rows, stands-size}
+use Rattle.shapes.specs.ShapesLaws.{has-null-bit, head-kinds, length-element-rows, length-record-rows}
 use Rattle.join.specs.Replacing.{Replaced, Put}
 use Rattle.join.specs.ReplacingLaws.{Split, split-head, split-as, split-put, split-replaced, stands-split, inside-head, inside-replaced}
 use Rattle.join.specs.Joining.{null-head}
@@ -40,10 +40,6 @@ unfolding with-null
 null-head-word (shape n b k t e r) =
     head-null n b k t e r n refl (head-word (shape n b k t e r)) refl
     (ap (λ (i : ℕ). has-bit i 1) (head-kinds (shape n b k t e r)) ∙ has-null-bit n b k t e r)
-
-pub forms-with-null : (s : Shape) → forms (with-null s) ≡ forms s
-unfolding with-null forms
-forms-with-null (shape n b k t e r) = refl
 
 -- a first word changed, and the rest kept: u differs from s only in kinds other than list and rec
 pub record Headed (p : List ℕ) (m : ℕ) (s u : Shape) (rows : List ℕ) : Type 0 where

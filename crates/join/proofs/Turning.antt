@@ -1,25 +1,26 @@
 -- One turn of joining members: what its function asks and answers. Assumes nothing.
 use Prim.Native.Nat.{ℕ, _+_, _*_, _≤_, _<_}
 use native.Mathlib.Omega.{arith}
-use mathlib.Core.Path.{_≡_, refl, sym, ap, subst, _∙_}
-use mathlib.Core.Bool.{true}
-use mathlib.Core.List.{List, [], _∷_, _++_}
+use mathlib.Core.Path.{_≡_, refl, sym, ap, subst}
+use mathlib.Core.List.{List, _∷_, _++_}
 use lib.ListN.{length, getD, take, drop}
 use Rattle.definitions.specs.Bytes.{Bytes}
-use Rattle.definitions.specs.Shape.{Shape, Fields, no-fields, field, ascending, forms, forms-fields, levels}
+use Rattle.definitions.specs.Shape.{Shape, Fields, field, forms, levels}
 use Rattle.definitions.specs.Join.{with-null, join}
 use Rattle.laws.specs.Fields.{ascending-first}
+use Rattle.laws.specs.FieldsPut.{forms-with-null}
 use Rattle.pool.specs.declared.Comparison.{Comparison}
 use Rattle.pool.specs.declared.Comparison.the-variants.{Less, Equal, Greater}
 use Rattle.nodes.specs.Nodes.{Refers}
-use Rattle.shapes.specs.Shapes.{Shape-rows, Stands}
+use Rattle.shapes.specs.Shapes.{Shape-rows}
 use Rattle.shapes.specs.ShapesLaws.{stands-within, forms-some, fields-first, fields-end}
 use Rattle.join.specs.declared.Joined.{Joined}
 use Rattle.join.specs.declared.Joined.the-variants.{Grown, Full}
-use Rattle.join.specs.Replacing.{Put, Over, Puts, Becomes}
+use Rattle.join.specs.Replacing.{Put, Puts}
 use Rattle.join.specs.ReplacingLaws.{put-map}
-use Rattle.join.specs.Joining.{Walk, Walks, Turn, turn-first, turn-second, turn-both, Next, Turns, Member-rows, Puttable, Puts-null, Joins, Joinable, Joins-to, null-head}
-use Rattle.join.proofs.Rows.{nulled, forms-with-null}
+use Rattle.join.specs.Joining.{Walks, Turn, turn-first, turn-second, turn-both, Next, Member-rows}
+use Rattle.join.specs.Joining.{Puttable, Puts-null, Joins, Joinable, Joins-to, null-head}
+use Rattle.join.proofs.Rows.{nulled}
 use Rattle.join.proofs.Members.{head-small}
 
 -- a member's rows under its name
@@ -57,7 +58,8 @@ module _ {shapes second pool p : List ℕ} {used row end other to left : ℕ} wh
       → shapes′ ≡ take row shapes ++ null-head (getD shapes row 0) ∷ drop (row + 1) shapes → length shapes′ ≡ length shapes
       → Walks shapes second pool p used row end other to left fs gs → Turn o fs gs n u old fs′ gs′
       → Put shapes shapes′ used 0 row old (Member-rows p n u)
-  less-turned {fs = fs₀} {gs = gs₀} {n = n₀} {u = u₀} {old = old₀} {fs′ = fs₁} {gs′ = gs₁} {shapes′} e f l w t = go (subst (λ (z : Comparison). Turn z fs₀ gs₀ n₀ u₀ old₀ fs₁ gs₁) e t) w
+  less-turned {fs = fs₀} {gs = gs₀} {n = n₀} {u = u₀} {old = old₀} {fs′ = fs₁} {gs′ = gs₁} {shapes′} e f l w t =
+      go (subst (λ (z : Comparison). Turn z fs₀ gs₀ n₀ u₀ old₀ fs₁ gs₁) e t) w
     where
       go
           : {fs gs : Fields} {n : Bytes} {u : Shape} {old : ℕ} {fs′ gs′ : Fields} → Turn Less fs gs n u old fs′ gs′
@@ -93,7 +95,8 @@ module _ {shapes second pool p : List ℕ} {used row end other to left : ℕ} wh
       → Puts-null shapes shapes′ second used row other r
       → Walks shapes second pool p used row end other to left fs gs → Turn o fs gs n u old fs′ gs′
       → Puts shapes shapes′ used row old (2 * forms u) (Member-rows p n u) r
-  greater-turned {fs = fs₀} {gs = gs₀} {n = n₀} {u = u₀} {old = old₀} {fs′ = fs₁} {gs′ = gs₁} shapes′ r e f w t = go (subst (λ (z : Comparison). Turn z fs₀ gs₀ n₀ u₀ old₀ fs₁ gs₁) e t) w
+  greater-turned {fs = fs₀} {gs = gs₀} {n = n₀} {u = u₀} {old = old₀} {fs′ = fs₁} {gs′ = gs₁} shapes′ r e f w t =
+      go (subst (λ (z : Comparison). Turn z fs₀ gs₀ n₀ u₀ old₀ fs₁ gs₁) e t) w
     where
       go
           : {fs gs : Fields} {n : Bytes} {u : Shape} {old : ℕ} {fs′ gs′ : Fields} → Turn Greater fs gs n u old fs′ gs′
@@ -147,7 +150,8 @@ module _ {shapes second pool p : List ℕ} {used row end other to left : ℕ} wh
       → Joins-to join shapes shapes′ second pool used row other left r
       → Walks shapes second pool p used row end other to left fs gs → Turn o fs gs n u old fs′ gs′
       → Puts shapes shapes′ used row old (2 * forms u) (Member-rows p n u) r
-  equal-turned {fs = fs₀} {gs = gs₀} {n = n₀} {u = u₀} {old = old₀} {fs′ = fs₁} {gs′ = gs₁} shapes′ r e f w t = go (subst (λ (z : Comparison). Turn z fs₀ gs₀ n₀ u₀ old₀ fs₁ gs₁) e t) w
+  equal-turned {fs = fs₀} {gs = gs₀} {n = n₀} {u = u₀} {old = old₀} {fs′ = fs₁} {gs′ = gs₁} shapes′ r e f w t =
+      go (subst (λ (z : Comparison). Turn z fs₀ gs₀ n₀ u₀ old₀ fs₁ gs₁) e t) w
     where
       go
           : {fs gs : Fields} {n : Bytes} {u : Shape} {old : ℕ} {fs′ gs′ : Fields} → Turn Equal fs gs n u old fs′ gs′

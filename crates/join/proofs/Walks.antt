@@ -1,20 +1,20 @@
 -- The next member of two shapes. Assumes nothing.
-use Prim.Native.Nat.{ℕ, _+_, _%_, _/_, _≤_, _<_, Ordering, Ordering·lt, Ordering·eq, Ordering·gt}
+use Prim.Native.Nat.{ℕ, _+_, _%_, _/_, _≤_, _<_}
 use native.Mathlib.Omega.{arith}
 use mathlib.Core.Path.{_≡_, refl, sym, ap, ap₂, _∙_, subst}
-use mathlib.Core.Bool.{true, false}
+use mathlib.Core.Bool.{true}
 use mathlib.Core.List.{List}
-use lib.ListN.{length, getD}
+use lib.ListN.{getD}
 use Rattle.definitions.specs.Bytes.{Bytes, order}
-use Rattle.definitions.specs.Shape.{Shape, Fields, no-fields, field, behind, forms}
+use Rattle.definitions.specs.Shape.{Shape, Fields, no-fields, field, behind}
 use Rattle.definitions.specs.Join.{with-null, join}
 use Rattle.laws.specs.Names.{order-eq, before-lt, before-gt}
 use Rattle.pool.specs.Pool.{text-in, ordering-of}
 use Rattle.pool.specs.declared.Comparison.{Comparison}
 use Rattle.pool.specs.declared.Comparison.the-variants.{Less, Equal, Greater}
-use Rattle.shapes.specs.Shapes.{Fields-stand}
-use Rattle.shapes.specs.ShapesLaws.{name-text, stands-name, Some-fields, some-fields, fields-left, fields-none, fields-some, fields-first, fields-end}
-use Rattle.join.specs.Joining.{Walk, Turn, turn-first, turn-second, turn-both, Next, Tells-next}
+use Rattle.shapes.specs.ShapesLaws.{stands-name, Some-fields, some-fields, fields-left, fields-none, fields-some, fields-first}
+use Rattle.join.specs.Joining.{Walk, turn-first, turn-second, turn-both, Next}
+use Rattle.nodes.specs.StandingLaws.{text-referred}
 
 next-first : {n : Bytes} {a : Shape} {fs gs : Fields} → behind n gs ≡ true → Next Less (field n a fs) gs
 next-first {n} {a} {fs} {gs} h =
@@ -70,6 +70,6 @@ module _ {shapes second pool p : List ℕ} {row end other to : ℕ} where
           (q
           ∙ ap₂ (λ (s t : Bytes). order s t)
           (ap₂ (text-in pool) (ew ∙ ap (λ (i : ℕ). i % 65536) (e ∙ stands-name (a .2))) (ek ∙ ap (λ (i : ℕ). i / 65536) (e ∙ stands-name (a .2)))
-          ∙ name-text pool (w .pooled .front) (w .pooled .small) (a .1))
+          ∙ text-referred pool (w .pooled .front) (w .pooled .small) (a .1))
           (ap₂ (text-in pool) (ev ∙ ap (λ (i : ℕ). i % 65536) (f ∙ stands-name (b .2))) (em ∙ ap (λ (i : ℕ). i / 65536) (f ∙ stands-name (b .2)))
-          ∙ name-text pool (w .pooled .front) (w .pooled .small) (b .1)))
+          ∙ text-referred pool (w .pooled .front) (w .pooled .small) (b .1)))

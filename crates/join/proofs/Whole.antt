@@ -1,12 +1,13 @@
 -- A shape joined into another as a whole: its members, its element, its kinds. Assumes nothing.
-use Prim.Native.Nat.{ℕ, _+_, _-_, _*_, _%_, _≤_, _<_}
+use Prim.Native.Nat.{ℕ, _+_, _*_, _%_, _≤_, _<_}
 use native.Mathlib.Omega.{arith}
-use mathlib.Core.Path.{_≡_, refl, sym, ap, ap₂, subst, _∙_}
-use mathlib.Core.Bool.{Bool, true, false, _||_}
-use mathlib.Core.List.{List, [], _∷_, _++_}
+use mathlib.Core.Path.{_≡_, refl, sym, ap, ap₂, _∙_}
+use mathlib.Core.Bool.{true, _||_}
+use mathlib.Core.List.{List, _∷_, _++_}
 use lib.Bits.{bitOr}
 use lib.ListN.{length, getD, take, drop}
-use Rattle.definitions.specs.Shape.{Numeric, no-number, int-only, int-and-dec, Shape, shape, Element, no-list, list-of, Record, no-rec, rec-of, Fields, element-of, record-of, has-list, has-rec, only-list, ascending, ascending-element, ascending-record, forms, forms-element, forms-record, levels}
+use Rattle.definitions.specs.Shape.{Shape, shape, Element, no-list, list-of, Record, no-rec, rec-of, element-of, record-of, has-list}
+use Rattle.definitions.specs.Shape.{has-rec, only-list, ascending, ascending-element, ascending-record, forms, forms-element}
 use Rattle.definitions.specs.Join.{join-numeric, join, join-element, join-record}
 use Rattle.laws.specs.Bools.{and-intro}
 use Rattle.laws.specs.OrderInduction.{ascending-of-element, ascending-of-record}
@@ -17,7 +18,7 @@ use Rattle.shapes.specs.Shapes.{bit, kind-bits, head-of, head-word, Shape-rows,
 use Rattle.shapes.specs.ShapesLaws.{kind-bits-lt, union-bits, length-shape-rows, stands-kinds, stands-size, stands-within, forms-some}
 use Rattle.join.specs.Replacing.{Put, Over}
 use Rattle.join.specs.ReplacingLaws.{replaced-then}
-use Rattle.join.specs.Joining.{Both, Joins, Joinable, join-records, join-elements}
+use Rattle.join.specs.Joining.{Joins, join-records, join-elements}
 use Rattle.join.proofs.Rows.{Headed, headed, reheaded}
 use Rattle.join.proofs.Members.{put-stands}
 
@@ -78,7 +79,9 @@ unfolding join-elements join-records element-of record-of join kind-bits
 kinds-twice (shape n b k x e r) (shape n′ b′ k′ x′ e′ r′) = omega (arith, ap bit (list-twice e e′), ap bit (rec-twice r r′))
 
 -- the first word of a join, put together
-head-joined : (s t : Shape) (a b size : ℕ) → a ≡ kind-bits (parts-joined s t) → b ≡ kind-bits t → size ≡ 2 * forms (parts-joined s t) → head-of (bitOr a b) size ≡ head-word (join s t)
+head-joined
+    : (s t : Shape) (a b size : ℕ) → a ≡ kind-bits (parts-joined s t) → b ≡ kind-bits t → size ≡ 2 * forms (parts-joined s t)
+    → head-of (bitOr a b) size ≡ head-word (join s t)
 unfolding head-word
 head-joined s t a b size e f g =
     let k : bitOr a b ≡ kind-bits (join s t)
@@ -120,14 +123,17 @@ module _ {shapes shapes₁ second pool p : List ℕ} {used row m other k left : 
     elements-full o =
         record { over = omega (arith, o .over, members-words, forms-parts s t, q .replaced .same); same = o .same ∙ q .replaced .same }
 
-    module _ {shapes₂ : List ℕ} {more : ℕ} (v : Put shapes₁ shapes₂ (used + words) more row (2 * forms (join-records s t)) (Shape-rows p m (parts-joined s t))) where
+    module _ {shapes₂ : List ℕ} {more : ℕ}
+        (v : Put shapes₁ shapes₂ (used + words) more row (2 * forms (join-records s t)) (Shape-rows p m (parts-joined s t))) where
       elements-stand : Stands shapes₂ p row m (parts-joined s t)
       elements-stand = put-stands (members-joins .both .within) (members-joins .both .used-within) v
 
       elements-words : 2 * forms (parts-joined s t) ≡ 2 * forms s + (words + more)
       elements-words = omega (arith, length-shape-rows (v .encoded), v .replaced .grown, members-words)
 
-      head-is : {a b size : ℕ} → a ≡ getD shapes₂ row 0 % 128 → b ≡ getD second other 0 % 128 → size ≡ size-at shapes₂ row → head-of (bitOr a b) size ≡ head-word (join s t)
+      head-is
+          : {a b size : ℕ} → a ≡ getD shapes₂ row 0 % 128 → b ≡ getD second other 0 % 128 → size ≡ size-at shapes₂ row
+          → head-of (bitOr a b) size ≡ head-word (join s t)
       head-is {a} {b} {size} e f g =
           head-joined s t a b size (e ∙ stands-kinds elements-stand) (f ∙ stands-kinds (j .both .theirs)) (g ∙ stands-size elements-stand)
 

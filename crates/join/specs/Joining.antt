@@ -1,11 +1,12 @@
 -- What the functions that join a shape into another ask and answer. Assumes nothing.
-use Prim.Native.Nat.{ℕ, _+_, _*_, _%_, _^_, _≤_, _<_}
+use Prim.Native.Nat.{ℕ, _+_, _*_, _%_, _≤_, _<_}
 use mathlib.Core.Path.{_≡_}
 use mathlib.Core.Bool.{true, false}
-use mathlib.Core.List.{List, _∷_, _++_}
-use lib.ListN.{length, getD, take, drop}
+use mathlib.Core.List.{List}
+use lib.ListN.{length, take, drop}
 use Rattle.definitions.specs.Bytes.{Bytes}
-use Rattle.definitions.specs.Shape.{Shape, shape, Fields, field, element-of, record-of, behind, ascending, ascending-fields, forms, forms-fields, levels, levels-fields}
+use Rattle.definitions.specs.Shape.{Shape, shape, Fields, field, element-of, record-of, behind, ascending}
+use Rattle.definitions.specs.Shape.{ascending-fields, forms, forms-fields, levels, levels-fields}
 use Rattle.definitions.specs.Join.{with-null, join, join-element, join-record}
 use Rattle.pool.specs.declared.Comparison.{Comparison}
 use Rattle.pool.specs.declared.Comparison.the-variants.{Less, Equal, Greater}
@@ -13,7 +14,6 @@ use Rattle.nodes.specs.Nodes.{Refers}
 use Rattle.plain.specs.Table.{Used}
 use Rattle.shapes.specs.Shapes.{has-bit, Shape-rows, Field-rows, Stands, Fields-stand, size-at}
 use Rattle.join.specs.declared.Joined.{Joined}
-use Rattle.join.specs.declared.Joined.the-variants.{Grown, Full}
 use Rattle.join.specs.Replacing.{Puts, Becomes}
 use Rattle.join.specs.Merge.{merge}
 

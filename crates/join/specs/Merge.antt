@@ -1,16 +1,17 @@
 -- The members of two shapes that both have rec, joined: where names ascend, a walk along both lists. Assumes nothing.
-use Prim.Native.Nat.{ℕ, _≤_, Ordering, Ordering·lt, Ordering·eq, Ordering·gt}
+use Prim.Native.Nat.{_≤_, Ordering, Ordering·lt, Ordering·eq, Ordering·gt}
 use native.Mathlib.Omega.{arith}
-use mathlib.Core.Path.{_≡_, refl, sym, ap, _∙_}
+use mathlib.Core.Path.{_≡_, refl, ap, _∙_}
 use mathlib.Core.Bool.{true}
 use mathlib.Core.Option.{Option, none, some}
 use Rattle.definitions.specs.Bytes.{Bytes, order}
-use Rattle.definitions.specs.Shape.{Shape, shape, Fields, no-fields, field, rec-of, find, before, behind, ascending, ascending-fields, only-rec, forms, forms-fields}
+use Rattle.definitions.specs.Shape.{Shape, Fields, no-fields, field, rec-of, find, before, behind, ascending, ascending-fields, only-rec, forms, forms-fields}
 use Rattle.definitions.specs.Join.{with-null, add-null, put-field, join, join-fields}
 use Rattle.laws.specs.Names.{order-refl, order-flip, flip, lt-before, before-other-sym}
 use Rattle.laws.specs.Fields.{find-there, find-first, find-behind, ascending-behind, ascending-rest, behind-trans}
 use Rattle.laws.specs.SizeLaws.{forms-mono}
 use Rattle.laws.specs.JoinLaws.{join-ascending, join-upper-left}
+use Rattle.laws.specs.FieldsPut.{add-null-behind}
 
 -- "where both have rec, members in both joined, a member of only one kept with null added"
 unfoldable pub merge : Fields → Fields → Fields
@@ -98,11 +99,6 @@ add-null-before n a fs (field m b gs) i h =
     ∙ ap
     (field m (elim (find m fs) [ none ↦ with-null b | some c ↦ b ]))
     (add-null-before n a fs gs (ascending-rest m b gs i) (behind-trans n m gs h (ascending-behind m b gs i)))
-
-add-null-behind : (fs gs : Fields) (n : Bytes) → behind n (add-null fs gs) ≡ behind n gs
-unfolding add-null behind
-add-null-behind fs no-fields n = refl
-add-null-behind fs (field m b gs) n = refl
 
 -- ---- the walk
 

@@ -1,16 +1,14 @@
 -- Laws of words replaced in place. Assumes nothing.
-use Prim.Native.Nat.{ℕ, suc, _+_, _-_, _*_, _≤_, _<_}
-use native.Mathlib.Nat.{add-zero}
-use native.Mathlib.Numerals.{add-one}
+use Prim.Native.Nat.{ℕ, suc, _+_, _*_, _≤_}
 use native.Mathlib.Omega.{arith}
 use mathlib.Core.Path.{_≡_, refl, sym, ap, subst, _∙_}
-use mathlib.Core.List.{List, [], _∷_, _++_, append-assoc, append-nil}
-use lib.ListN.{length, getD, set, take, drop, length-append, length-drop, take-append-drop}
-use lib.Seq.{length-take-le, take-take, take-add, take-all, take-at, drop-at, drop-drop, drop-append-le, getD-at, set-at, take-set-lt, set-split, set-append-left}
+use mathlib.Core.List.{List, [], _∷_, _++_, append-assoc}
+use lib.ListN.{length, getD, take, drop, length-append, length-drop, take-append-drop}
+use lib.Seq.{length-take-le, take-take, take-add, take-at, drop-at, drop-drop, getD-at}
 use Rattle.definitions.specs.Shape.{Shape, Fields, forms, forms-fields}
 use Rattle.shapes.specs.Shapes.{Shape-rows, Field-rows, Stands, Fields-stand}
 use Rattle.shapes.specs.ShapesLaws.{length-shape-rows, length-field-rows}
-use Rattle.join.specs.Replacing.{Replaced, Put, Over}
+use Rattle.join.specs.Replacing.{Replaced, Put}
 
 -- ---- the used words, in parts
 
@@ -257,7 +255,8 @@ module _ {shapes shapes₁ : List ℕ} {used words row old at inner : ℕ} {fron
       → Split shapes₁ (used + words) row (old + words) front ((x ∷ xs) ++ (us ++ zs)) behind
   inside w r e f =
       let v = split-inner (x ∷ xs) ys zs w in
-      let q = replaced-split v (subst (λ (n : ℕ). Replaced shapes shapes₁ used words n (length ys) us) e (subst (λ (n : ℕ). Replaced shapes shapes₁ used words at n us) f r)) in
+      let q = replaced-split v
+      (subst (λ (n : ℕ). Replaced shapes shapes₁ used words n (length ys) us) e (subst (λ (n : ℕ). Replaced shapes shapes₁ used words at n us) f r)) in
       split-as
       (split-outer (x ∷ xs) us zs (w .at) q)
       refl

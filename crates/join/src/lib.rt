@@ -7,7 +7,8 @@ ghost use Rattle.definitions.specs.Join.{join};
 ghost use Rattle.shapes.specs.Shapes.{has-bit};
 ghost use lib.ListN.{length, getD, take, drop};
 ghost use Rattle.join.specs.Replacing.{Opened, Puts};
-ghost use Rattle.join.specs.Joining.{Insertable, Copied, null-head, Tells-next, passed-words, Mergeable, Merges, Turns, Turned, Puttable, Puts-null, Beside, Becomes-both, Joinable, Joins-to, join-records, join-elements};
+ghost use Rattle.join.specs.Joining.{Insertable, Copied, null-head, Tells-next, passed-words, Mergeable, Merges, Turns, Turned};
+ghost use Rattle.join.specs.Joining.{Puttable, Puts-null, Beside, Becomes-both, Joinable, Joins-to, join-records, join-elements};
 use pool::Comparison;
 use shapes::Shape;
 
@@ -33,7 +34,8 @@ pub fn open_gap(part: &mut [u64], used: usize, gap: usize)
 fn copy_rows(shapes: &mut [u64], at: usize, second: &[u64], from: usize, count: usize)
     requires { ⌜ at + count ≤ length (now shapes) ⌝ }
     requires within { ⌜ from + count ≤ length (now second) ⌝ }
-    ensures copied { λ _. ⌜ now (shapes .exit) ≡ take at (now (shapes .entry)) ++ take count (drop from (now (second .entry))) ++ drop (at + count) (now (shapes .entry)) ⌝ }
+    ensures copied { λ _. ⌜ now (shapes .exit)
+        ≡ take at (now (shapes .entry)) ++ take count (drop from (now (second .entry))) ++ drop (at + count) (now (shapes .entry)) ⌝ }
 {
     let mut i: usize = 0;
     while i < count {
@@ -66,7 +68,8 @@ pub fn put_rows(
 pub fn add_null(shapes: &mut [u64], row: usize)
     requires { ⌜ row < length (now shapes) ⌝ }
     requires fits { ⌜ getD (now shapes) row 0 + 1 < 2 ^ 64 ⌝ }
-    ensures added { λ _. ⌜ now (shapes .exit) ≡ take row (now (shapes .entry)) ++ null-head (getD (now (shapes .entry)) row 0) ∷ drop (row + 1) (now (shapes .entry)) ⌝ }
+    ensures added { λ _. ⌜ now (shapes .exit)
+        ≡ take row (now (shapes .entry)) ++ null-head (getD (now (shapes .entry)) row 0) ∷ drop (row + 1) (now (shapes .entry)) ⌝ }
 {
     if shapes::has(shapes::kinds(shapes, row), Shape::NULL) {
         return;
@@ -78,7 +81,8 @@ pub fn add_null(shapes: &mut [u64], row: usize)
 pub fn grow_head(shapes: &mut [u64], row: usize, kind: u64, words: usize)
     requires { ⌜ row < length (now shapes) ⌝ }
     requires fits { ⌜ getD (now shapes) row 0 + kind + 128 * words < 2 ^ 64 ⌝ }
-    ensures told { λ _. ⌜ now (shapes .exit) ≡ take row (now (shapes .entry)) ++ (getD (now (shapes .entry)) row 0 + kind + 128 * words) ∷ drop (row + 1) (now (shapes .entry)) ⌝ }
+    ensures told { λ _. ⌜ now (shapes .exit)
+        ≡ take row (now (shapes .entry)) ++ (getD (now (shapes .entry)) row 0 + kind + 128 * words) ∷ drop (row + 1) (now (shapes .entry)) ⌝ }
 {
     shapes[row] = shapes[row] + kind + 128 * (words as u64);
 }
@@ -261,7 +265,8 @@ fn join_element(
     left: usize,
 ) -> Joined
     requires { ⌜ Joinable (now shapes) (now second) (now pool) used row other left ⌝ }
-    ensures joined { λ r. ⌜ Joins-to join-elements (now (shapes .entry)) (now (shapes .exit)) (now (second .entry)) (now (pool .entry)) used row other left r ⌝ }
+    ensures joined { λ r. ⌜ Joins-to join-elements (now (shapes .entry)) (now (shapes .exit)) (now (second .entry)) (now (pool .entry))
+        used row other left r ⌝ }
 {
     if !shapes::has(shapes::kinds(second, other), Shape::LIST) {
         return Joined::Grown { words: 0 };

@@ -1,20 +1,19 @@
 -- Answers of the value reader, from how reading goes and what the tables hold. Assumes nothing.
-use Prim.Native.Nat.{ℕ, suc, _+_, _-_, _*_, _≤_, _<_}
-use mathlib.Core.Path.{_≡_, refl, sym, ap, _∙_, subst}
-use mathlib.Core.List.{List, [], _∷_, _++_}
+use Prim.Native.Nat.{ℕ, suc, _+_, _*_, _≤_}
+use mathlib.Core.Path.{_≡_, ap, _∙_}
+use mathlib.Core.List.{List, [], _∷_}
 use native.Mathlib.Omega.{arith}
 use lib.ListN.{length, take, drop}
 use Rattle.definitions.specs.declared.Limits.{Limits}
 use Rattle.definitions.specs.Bytes.{Bytes}
-use Rattle.definitions.specs.Outcome.{Outcome, refused}
+use Rattle.definitions.specs.Outcome.{refused}
 use Rattle.definitions.specs.Value.{Value, size}
 use Rattle.definitions.specs.Plain.{plain}
 use Rattle.definitions.specs.Json.{Open, Gap, gap, put, scan}
 use Rattle.nodes.specs.Nodes.{Rows}
 use Rattle.json.specs.declared.reading.Cursor.{Cursor}
-use Rattle.json.specs.declared.reading.ValueRead.{ValueRead}
 use Rattle.json.specs.declared.reading.ValueRead.the-variants.{Done, Refused}
-use Rattle.json.specs.JsonParts.{Around, Moves, Value-done, Value-refused, Reads}
+use Rattle.json.specs.JsonParts.{Around, Moves, Reads}
 use Rattle.json.proofs.Table.{with-row, length-with-row, row-alone}
 
 -- a refusal; the tables are as long as they were

@@ -1,19 +1,20 @@
 -- Lists and records alike: how reading goes between their parts, and what they are in rows and as plain JSON. Assumes nothing.
-use Prim.Native.Nat.{ℕ, suc, _+_, _-_, _*_, _≤_, _<_}
-use mathlib.Core.Path.{_≡_, refl, sym, ap, _∙_}
-use mathlib.Core.Bool.{true, false}
+use Prim.Native.Nat.{ℕ, suc, _+_, _*_, _<_}
+use mathlib.Core.Path.{_≡_, refl, sym, _∙_}
+use mathlib.Core.Bool.{false}
 use mathlib.Core.List.{List, [], _∷_, _++_}
 use native.Mathlib.Omega.{arith}
 use borrow.Author.Tests.{ne-eqb}
-use lib.ListN.{length, take, drop, getD, length-append}
+use lib.ListN.{length, drop, getD, length-append}
 use Rattle.definitions.specs.declared.Limits.{Limits}
 use Rattle.definitions.specs.Bytes.{Bytes, bytes, look, between, is, white, white-table, found}
 use Rattle.definitions.specs.Value.{Value, Items, no-items, item, items-onto, Members, no-members, member, members-onto, size, size-items, size-members}
-use Rattle.definitions.specs.Plain.{plain, plain-text, plain-items, plain-members}
-use Rattle.definitions.specs.Json.{Open, Gap, gap, put, broken, name-move, token-move, gap-move, gap-end, move, end-move, judge, scan}
+use Rattle.definitions.specs.Plain.{plain, plain-items, plain-members}
+use Rattle.definitions.specs.Json.{Open, Gap, gap, put, broken, token-move, gap-move, gap-end, move, end-move, judge, scan}
 use Rattle.nodes.specs.Nodes.{kind-code, number-bits, head-word, Rows, list-rows, rec-rows, no-items-before, no-members-before}
 use Rattle.nodes.specs.NodesLaws.{items-before-grow, members-before-grow, items-read, members-read, size-items-onto, size-members-onto}
-use Rattle.json.specs.JsonParts.{Bracket, square, curly, Parts, no-parts, code-of, closing-of, start-of, next-of, behind-of, Before, count-of, items-length, members-length, length-of, whole-of}
+use Rattle.json.specs.JsonParts.{Bracket, square, curly, Parts, no-parts, code-of, closing-of, start-of, next-of}
+use Rattle.json.specs.JsonParts.{behind-of, Before, count-of, items-length, members-length, length-of, whole-of}
 use Rattle.json.proofs.Scan.{Here, at-end, at-byte, here, scan-token, first-value}
 
 -- ---- reading

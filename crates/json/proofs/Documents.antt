@@ -1,17 +1,16 @@
 -- What a document comes to, from what its value does. Assumes nothing.
-use Prim.Native.Nat.{ℕ, suc, _+_, _-_, _*_, _/_, _≤_, _<_}
-use mathlib.Core.Path.{_≡_, refl, sym, ap, _∙_, subst}
+use Prim.Native.Nat.{ℕ, suc, _-_, _*_, _≤_, _<_}
+use mathlib.Core.Path.{_≡_, refl, ap, _∙_}
 use mathlib.Core.Bool.{false}
-use mathlib.Core.List.{List, [], _∷_, _++_}
+use mathlib.Core.List.{List}
 use native.Mathlib.Omega.{arith}
-use lib.ListN.{length, take, drop, getD, length-drop, drop-of-length-le}
+use lib.ListN.{length, drop, getD, length-drop, drop-of-length-le}
 use lib.Seq.{drop-cons}
 use Rattle.definitions.specs.declared.Limits.{Limits}
 use Rattle.definitions.specs.Bytes.{Bytes, white}
-use Rattle.definitions.specs.Outcome.{Outcome, ok, refused, place, placed}
-use Rattle.definitions.specs.Value.{Value, size}
-use Rattle.definitions.specs.Json.{Open, root, Gap, gap, put, token-move, gap-end, end-move, depth, judge, scan, read-json}
-use Rattle.nodes.specs.Nodes.{Rows}
+use Rattle.definitions.specs.Outcome.{ok, refused, place, placed}
+use Rattle.definitions.specs.Value.{Value}
+use Rattle.definitions.specs.Json.{root, Gap, gap, put, token-move, gap-end, end-move, depth, judge, scan, read-json}
 use Rattle.json.specs.declared.reading.Cursor.{Cursor}
 use Rattle.json.specs.declared.reading.ValueRead.the-variants.{Done, Refused}
 use Rattle.json.specs.declared.DocumentRead.the-variants as Document-is

@@ -7,12 +7,14 @@ use mathlib.Core.List.{List, [], _∷_}
 use mathlib.Core.Option.{Option, none, some}
 use lib.Dec.{eqb}
 use Rattle.definitions.specs.declared.Limits.{Limits}
-use Rattle.definitions.specs.Bytes.{Bytes, bytes, Row, row, one, between, look, is, white}
-use Rattle.definitions.specs.Outcome.{Outcome, ok, refused}
+use Rattle.definitions.specs.Bytes.{Bytes, Row, row, between, look, is, white}
+use Rattle.definitions.specs.Outcome.{Outcome, refused}
 use Rattle.definitions.specs.Text.{Inside, Text-move, wrong, more, closed, text-step}
 use Rattle.definitions.specs.Number.{Phase, begin, next, no-digits, extend}
-use Rattle.definitions.specs.Value.{Value, no-items, items-onto, no-members, members-onto}
-use Rattle.definitions.specs.Json.{true-name, false-name, null-name, Open, in-list, Gap, Role, as-value, State, gap, in-text, in-number, in-literal, spell, put, Move, broken, go, begin-value, begin-number, begin-name, end-text, value-rows, value-move, name-move, token-move, gap-move, close-move, text-move, move, gap-end, end-move, full, judge, scan}
+use Rattle.definitions.specs.Value.{Value, no-items}
+use Rattle.definitions.specs.Json.{Open, in-list, Gap, as-value, State, gap, in-text, in-number, in-literal, spell, put, Move}
+use Rattle.definitions.specs.Json.{broken, go, begin-value, begin-number, begin-name, end-text, value-rows, value-move, name-move}
+use Rattle.definitions.specs.Json.{token-move, gap-move, close-move, text-move, move, gap-end, end-move, full, judge, scan}
 
 -- no number and no name is being read
 data Free : State → Type 0 where

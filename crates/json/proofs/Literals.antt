@@ -1,16 +1,14 @@
 -- The three literal names, and the bytes that begin none of them. Assumes nothing.
-use Prim.Native.Nat.{ℕ, _<_}
-use mathlib.Core.Path.{_≡_, refl, sym, ap, _∙_}
+use Prim.Native.Nat.{ℕ}
+use mathlib.Core.Path.{_≡_, refl, sym, _∙_}
 use mathlib.Core.Bool.{true, false}
-use mathlib.Core.List.{List, [], _∷_}
-use mathlib.Core.Option.{none}
+use mathlib.Core.List.{[], _∷_}
 use native.Mathlib.Omega.{arith}
-use lib.ListN.{drop}
-use Rattle.definitions.specs.Bytes.{Bytes, bytes, look, between, white, white-table, found}
+use Rattle.definitions.specs.Bytes.{bytes, look, between, white, white-table, found}
 use Rattle.definitions.specs.Value.{Value, size}
 use Rattle.definitions.specs.Plain.{plain, plain-bool}
-use Rattle.definitions.specs.Json.{Open, true-name, false-name, null-name, value-rows, spell}
-use Rattle.nodes.specs.Nodes.{kind-code, number-bits, Rows, null-row, bool-row}
+use Rattle.definitions.specs.Json.{true-name, false-name, null-name, value-rows, spell}
+use Rattle.nodes.specs.Nodes.{kind-code, number-bits, null-row, bool-row}
 use Rattle.number.proofs.Rows.{looked, nowhere, past-one}
 use Rattle.json.specs.JsonParts.{Literal, No-row, Scalar-byte}
 

@@ -1,26 +1,25 @@
 -- A turn of the list reader's and of the record reader's loop. Assumes nothing.
-use Prim.Native.Nat.{ℕ, suc, _+_, _-_, _*_, _/_, _^_, _≤_, _<_}
-use mathlib.Core.Path.{_≡_, refl, sym, ap, _∙_, subst}
-use mathlib.Core.List.{List, [], _∷_, _++_, append-assoc}
+use Prim.Native.Nat.{ℕ, suc, _+_, _-_, _*_, _^_, _≤_, _<_}
+use mathlib.Core.Path.{_≡_, sym, ap, _∙_, subst}
+use mathlib.Core.List.{List, _++_, append-assoc}
 use native.Mathlib.Omega.{arith}
-use lib.ListN.{length, take, drop, length-append, length-take}
-use lib.Seq.{take-take, take-append-le, length-take-le, drop-at}
+use lib.ListN.{length, take, drop}
+use lib.Seq.{take-take, length-take-le, drop-at}
 use Rattle.definitions.specs.declared.Limits.{Limits}
 use Rattle.definitions.specs.Bytes.{Bytes}
-use Rattle.definitions.specs.Outcome.{refused}
-use Rattle.definitions.specs.Value.{Value, Items, item, Members, member, size, size-items, size-members}
-use Rattle.definitions.specs.Plain.{plain, plain-text}
+use Rattle.definitions.specs.Value.{Items, item, Members, member, size}
 use Rattle.definitions.specs.Json.{Open, in-list, in-rec, Gap, gap, put, depth, scan}
-use Rattle.nodes.specs.Nodes.{Rows, Refers, Items-before, item-before, Members-before, member-before}
-use Rattle.nodes.specs.NodesLaws.{refers-grow, items-before-grow, members-before-grow, grown, length-members-before}
+use Rattle.nodes.specs.Nodes.{Refers, Items-before, item-before, Members-before, member-before}
+use Rattle.nodes.specs.NodesLaws.{refers-grow, items-before-grow, members-before-grow, grown}
+use Rattle.nodes.specs.StandingLaws.{size-some}
 use Rattle.json.specs.declared.reading.Cursor.{Cursor}
 use Rattle.json.specs.declared.reading.ValueRead.{ValueRead}
 use Rattle.json.specs.declared.reading.ValueRead.the-variants.{Done, Refused}
 use Rattle.json.specs.declared.parts.Turn.{Turn}
 use Rattle.json.specs.declared.parts.Turn.the-variants.{More, Stop}
 use Rattle.json.specs.declared.name.NameRead.the-variants as Name-is
-use Rattle.json.specs.JsonParts.{Around, Placed, Ready, Value-done, Value-refused, Reads, Members-at, Name-ready, Name-done, Name-refused, Reads-name, Bracket, square, curly, Parts, start-of, next-of, behind-of, Before, items-length, members-length, Part-moves, Open-parts, Behind-ready, Ahead}
-use Rattle.json.proofs.Names.{size-some}
+use Rattle.json.specs.JsonParts.{Around, Ready, Value-done, Reads, Members-at, Name-ready, Reads-name, Bracket, square, curly}
+use Rattle.json.specs.JsonParts.{Parts, next-of, behind-of, items-length, members-length, Open-parts, Behind-ready, Ahead}
 
 -- ---- what is left to read
 

@@ -1,30 +1,29 @@
 -- Answers for a name and its colon. Assumes nothing.
-use Prim.Native.Nat.{ℕ, suc, _+_, _-_, _*_, _/_, _≤_, _<_}
+use Prim.Native.Nat.{ℕ, _+_, _-_, _*_, _/_, _≤_, _<_}
 use mathlib.Core.Path.{_≡_, refl, sym, ap, _∙_, subst}
 use mathlib.Core.Bool.{Bool, true, false}
-use mathlib.Core.List.{List, [], _∷_, _++_}
+use mathlib.Core.List.{List, [], _∷_}
 use native.Mathlib.Omega.{arith}
 use borrow.Author.Tests.{ne-eqb}
 use lib.ListN.{length, take, drop, getD}
 use Rattle.definitions.specs.declared.Limits.{Limits}
 use Rattle.definitions.specs.Bytes.{Bytes, look, between, is, white, white-table, found}
-use Rattle.definitions.specs.Outcome.{Outcome, refused}
+use Rattle.definitions.specs.Outcome.{refused}
 use Rattle.definitions.specs.Text.{Inside}
-use Rattle.definitions.specs.Value.{Value, Members, no-members, members-onto, has-name}
-use Rattle.definitions.specs.Plain.{plain-text}
+use Rattle.definitions.specs.Value.{Members, no-members, members-onto, has-name}
 use Rattle.definitions.specs.Json.{Open, in-rec, Gap, as-name, gap, in-text, broken, name-move, token-move, gap-move, gap-end, move, close-move, judge, scan}
 use Rattle.pool.specs.Pool.{words, text-in}
 use Rattle.pool.specs.PoolLaws.{bytes-words}
 use Rattle.nodes.specs.Nodes.{reference, Member-rows}
 use Rattle.nodes.specs.NodesLaws.{members-read, has-name-read}
+use Rattle.nodes.specs.StandingLaws.{text-refers}
 use Rattle.text.specs.TextLaws.{scan-broke, scan-ended}
 use Rattle.text.specs.TextRead.{Text-closed, Text-broken}
 use Rattle.json.specs.declared.reading.Cursor.{Cursor}
 use Rattle.json.specs.declared.name.NameRead.the-variants as Name-is
-use Rattle.json.specs.JsonParts.{Skips, Token, Neither, Ready, Named-rows, Walkable, Members-at, Name-ready, Reads-name}
+use Rattle.json.specs.JsonParts.{Skips, Token, Neither, Named-rows, Walkable, Members-at, Name-ready, Reads-name}
 use Rattle.json.proofs.Kept.{scan-kept}
-use Rattle.json.proofs.Scan.{byte-inside, byte-here, scan-token, scan-broken}
-use Rattle.json.proofs.Scalars.{text-refers}
+use Rattle.json.proofs.Scan.{byte-inside, byte-here, scan-broken}
 
 -- ---- reading
 

@@ -1,17 +1,17 @@
 -- The members that stand in rows, one after the other, and their names. Assumes nothing.
-use Prim.Native.Nat.{ℕ, suc, _+_, _-_, _*_, _/_, _%_, _≤_, _<_}
-use mathlib.Core.Path.{_≡_, refl, sym, ap, ap₂, _∙_, subst}
+use Prim.Native.Nat.{ℕ, _+_, _-_, _/_, _%_, _≤_, _<_}
+use mathlib.Core.Path.{_≡_, refl, sym, ap, _∙_, subst}
 use mathlib.Core.Bool.{Bool, true, false, _||_}
-use mathlib.Core.List.{List, [], _∷_, _++_, append-assoc}
+use mathlib.Core.List.{List, _++_, append-assoc}
 use native.Mathlib.Omega.{arith}
-use lib.ListN.{length, take, drop, getD, length-append, length-take, length-drop, take-append-drop, drop-of-length-le}
-use lib.Seq.{drop-drop, drop-at, drop-append-le, take-take, length-take-le}
+use lib.ListN.{length, take, drop, getD, length-append, length-drop, take-append-drop}
+use lib.Seq.{drop-drop, drop-at, drop-append-le, length-take-le}
 use Rattle.definitions.specs.Bytes.{Bytes, same}
-use Rattle.definitions.specs.Value.{Value, Members, no-members, member, has-name, size}
-use Rattle.pool.specs.Pool.{words, text-in}
-use Rattle.pool.specs.PoolLaws.{text-in-front}
-use Rattle.nodes.specs.Nodes.{reference, Refers, refers, Rows, row-size, Member-rows, no-member-rows, member-rows}
-use Rattle.nodes.specs.NodesLaws.{reference-word, reference-bytes, length-rows, row-size-is, row-name-is}
+use Rattle.definitions.specs.Value.{Value, Members, no-members, member, has-name}
+use Rattle.pool.specs.Pool.{text-in}
+use Rattle.nodes.specs.Nodes.{Refers, refers, row-size, Member-rows, no-member-rows, member-rows}
+use Rattle.nodes.specs.NodesLaws.{length-rows, row-size-is, row-name-is}
+use Rattle.nodes.specs.StandingLaws.{text-referred-front, size-some}
 use Rattle.json.specs.JsonParts.{Named-rows, Walkable}
 
 -- ---- one member
@@ -28,15 +28,6 @@ record First-member (nodes pool : List ℕ) (used row to : ℕ) (ms : Members) :
   pub wide : 3 ≤ row-size nodes row
   pub inside : row + row-size nodes row ≤ to
   pub held : Member-rows (take used pool) others (drop (row + row-size nodes row) (take to nodes))
-
-pub size-some : (v : Value) → 1 ≤ size v
-unfolding size
-size-some Value.null = omega arith
-size-some (Value.bool b) = omega arith
-size-some (Value.number x) = omega arith
-size-some (Value.text t) = omega arith
-size-some (Value.list vs) = omega arith
-size-some (Value.rec ms) = omega arith
 
 module _ (nodes pool : List ℕ) (used row to : ℕ) (within : to ≤ length nodes) where
   rest-length : length (drop row (take to nodes)) ≡ to - row
@@ -86,16 +77,6 @@ module _ (nodes pool : List ℕ) (used row to : ℕ) (within : to ≤ length nod
       go (member n v os) e (member-rows {rs} {qs} f r rest) =
           absurd (let z : ⊥ = omega (arith, length-rows r, size-some v, length-append rs qs, ap length e, rest-length) in z)
 
--- the text of a name word
-name-is
-    : (pool : List ℕ) (used : ℕ) {k : ℕ} {t : Bytes} → used ≤ length pool → used < 65536 → Refers (take used pool) t k
-    → text-in pool (k % 65536) (k / 65536) ≡ t
-name-is pool used {t} h few (refers w room e) =
-    let inside : w + words (length t) ≤ used = omega (arith, room, length-take-le used pool h) in
-    ap₂ (text-in pool) (reference-word w (length t) (omega (arith, inside))) (reference-bytes w (length t) (omega (arith, inside)))
-    ∙ sym (text-in-front pool (take used pool) used w (length t) (take-take used used pool (omega arith)) inside)
-    ∙ e
-
 -- ---- the walk
 
 module _ (nodes pool : List ℕ) (from to w n : ℕ) where
@@ -131,7 +112,7 @@ module _ (nodes pool : List ℕ) (from to w n row : ℕ) (within : to ≤ length
       let f = first-of h r in
       s
       ∙ ap (λ (y : ℕ). same (text-in pool w n) (text-in pool (y % 65536) (y / 65536))) (e ∙ f .named)
-      ∙ ap (λ (t : Bytes). same (text-in pool w n) t) (name-is pool (r .used) (r .within) (r .few) (f .refers))
+      ∙ ap (λ (t : Bytes). same (text-in pool w n) t) (text-referred-front pool (r .used) (r .within) (r .few) (f .refers))
 
   pub found-here
       : Walking nodes pool from to w n row → row < to → {x : ℕ} {b : Bool} → x ≡ getD nodes (row + 2) 0

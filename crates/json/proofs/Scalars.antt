@@ -1,38 +1,40 @@
 -- Answers for values that hold no others. Assumes nothing.
-use Prim.Native.Nat.{ℕ, suc, _+_, _-_, _*_, _/_, _≤_, _<_}
+use Prim.Native.Nat.{ℕ, suc, _+_, _-_, _/_, _≤_, _<_}
 use mathlib.Core.Path.{_≡_, refl, sym, ap, ap₂, _∙_, subst}
 use mathlib.Core.Bool.{Bool, true, false}
-use mathlib.Core.List.{List, [], _∷_, _++_}
+use mathlib.Core.List.{List, [], _∷_}
 use mathlib.Core.Option.{Option, none, some}
 use native.Mathlib.Omega.{arith}
 use lib.ListN.{length, take, drop, getD, length-drop, drop-of-length-le, List·getD-eq-default}
-use lib.Seq.{drop-cons, take-take, length-take-le}
+use lib.Seq.{drop-cons}
 use Rattle.definitions.specs.declared.Limits.{Limits}
 use Rattle.definitions.specs.Bytes.{Bytes, look, white, white-table, found, between}
-use Rattle.definitions.specs.Outcome.{Outcome, refused}
+use Rattle.definitions.specs.Outcome.{refused}
 use Rattle.definitions.specs.Text.{Inside}
-use Rattle.definitions.specs.Number.{Number, Numeral, Phase, begin, next, int-rows, no-digits, extend, complete, beyond, number-of}
+use Rattle.definitions.specs.Number.{Number, Phase, begin, next, int-rows, no-digits, extend, beyond, number-of}
 use Rattle.definitions.specs.Value.{Value, size}
-use Rattle.definitions.specs.Plain.{plain, plain-number}
+use Rattle.definitions.specs.Plain.{plain}
 use Rattle.definitions.specs.Json.{Open, Gap, as-value, State, gap, in-text, in-number, spell, put, value-rows, gap-end, close-move, full, judge, scan}
 use Rattle.pool.specs.Pool.{words, text-in}
-use Rattle.pool.specs.PoolLaws.{text-in-front, bytes-words}
-use Rattle.nodes.specs.Nodes.{sign-bit, kind-code, number-bits, head-word, head-of, reference, Refers, refers, Rows, text-row, number-row}
+use Rattle.pool.specs.PoolLaws.{bytes-words}
+use Rattle.nodes.specs.Nodes.{sign-bit, kind-code, number-bits, head-of, reference, Refers, text-row, number-row}
 use Rattle.nodes.specs.NodesLaws.{head-word-is}
+use Rattle.nodes.specs.StandingLaws.{text-refers}
 use Rattle.number.specs.declared.NumberRead.{NumberRead}
 use Rattle.number.specs.NumberRun.{Run, longest}
 use Rattle.number.specs.NumberRead.{Reads-number, number-in, run-at}
-use Rattle.number.specs.NumberLaws.{longest-on, longest-off, longest-stops, scan-longest, scan-broken, scan-whole, not-beyond}
+use Rattle.number.specs.NumberLaws.{longest-on, longest-off, longest-stops, scan-longest, scan-broken, scan-whole, not-beyond, longest-shorter}
 use Rattle.number.specs.NumberWrite.{Bounded}
 use Rattle.text.specs.TextLaws.{scan-broke, scan-ended}
 use Rattle.text.specs.TextRead.{Text-closed, Text-broken}
 use Rattle.json.specs.declared.reading.Cursor.{Cursor}
 use Rattle.json.specs.declared.reading.ValueRead.{ValueRead}
 use Rattle.json.specs.declared.reading.ValueRead.the-variants.{Done, Refused}
-use Rattle.json.specs.JsonParts.{Around, Judges, Matches, Literal, Placed, Ready, Moves, Reads, Puts-number, No-row}
+use Rattle.json.specs.JsonParts.{Around, Judges, Matches, Literal, Placed, Ready, Reads, Puts-number, No-row}
 use Rattle.json.proofs.Kept.{scan-kept}
 use Rattle.json.proofs.Scan as Scan
-use Rattle.json.proofs.Scan.{byte-inside, byte-here, here, at-end, at-byte, value-begins, value-full, number-begins, no-value, spell-on, spell-off, spell-end}
+use Rattle.json.proofs.Scan.{byte-inside, byte-here, here, at-end, at-byte, value-begins}
+use Rattle.json.proofs.Scan.{value-full, number-begins, no-value, spell-on, spell-off, spell-end}
 use Rattle.json.proofs.Table.{with-row}
 use Rattle.json.proofs.Answers.{refuses, one-row}
 
@@ -118,7 +120,9 @@ module _ {doc name : Bytes} {kind values left : ℕ} (c : Cursor) (li : Literal 
             : (l : Limits) (o : Open) (kept : Bytes)
             → scan l (suc (c .begun)) kept (spell (drop k name) (li .value) o) (drop (c .at + k) doc)
             ≡ scan l (suc (c .begun)) kept (gap (put (li .value) o)) (drop (c .at + k) doc)
-        end l o kept = ap (λ (cs : Bytes). scan l (suc (c .begun)) kept (spell cs (li .value) o) (drop (c .at + k) doc)) (drop-of-length-le name {i = k} h) ∙ spell-end l (suc (c .begun)) kept (li .value) o (drop (c .at + k) doc)
+        end l o kept =
+            ap (λ (cs : Bytes). scan l (suc (c .begun)) kept (spell cs (li .value) o) (drop (c .at + k) doc)) (drop-of-length-le name {i = k} h)
+            ∙ spell-end l (suc (c .begun)) kept (li .value) o (drop (c .at + k) doc)
 
 -- ---- texts
 
@@ -137,27 +141,6 @@ text-closes
     ≡ scan l n kept (gap (put (Value.text t) o)) r
 unfolding judge close-move
 text-closes l n kept o t r = refl
-
--- a text that was put behind the used part of a pool stands in what is used then
-pub text-refers
-    : (pool : List ℕ) (w n : ℕ) → length (text-in pool w n) ≡ n → w + words n ≤ length pool
-    → Refers (take (w + (n + 7) / 8) pool) (text-in pool w n) (reference w n)
-unfolding words
-text-refers pool w n size room =
-    ap-refers (refers w (omega (arith, size, used)) (inside (length (text-in pool w n)) size ∙ ap (text-in pool w) size))
-  where
-    used : length (take (w + (n + 7) / 8) pool) ≡ w + (n + 7) / 8
-    used = length-take-le (w + (n + 7) / 8) pool room
-
-    inside : (k : ℕ) → k ≡ n → text-in (take (w + (n + 7) / 8) pool) w k ≡ text-in pool w k
-    inside k f =
-        text-in-front pool (take (w + (n + 7) / 8) pool) (w + (n + 7) / 8) w k
-        (take-take (w + (n + 7) / 8) (w + (n + 7) / 8) pool (omega arith)) (omega (arith, f))
-
-    ap-refers
-        : Refers (take (w + (n + 7) / 8) pool) (text-in pool w n) (reference w (length (text-in pool w n)))
-        → Refers (take (w + (n + 7) / 8) pool) (text-in pool w n) (reference w n)
-    ap-refers r = subst (λ (k : ℕ). Refers (take (w + (n + 7) / 8) pool) (text-in pool w n) (reference w k)) size r
 
 module _ {doc nodes pool : List ℕ} {values left : ℕ} (c : Cursor) (p : Ready doc nodes pool values c) (e : getD doc (c .at) 256 ≡ 0x22) where
   text-begins
@@ -218,17 +201,6 @@ module _ {doc nodes pool : List ℕ} {values left : ℕ} (c : Cursor) (p : Ready
 
 -- ---- numbers
 
-rest-shorter : (p : Phase) (d : Numeral) (s : Bytes) → length (longest p d s .rest) ≤ length s
-unfolding longest
-rest-shorter p d [] = omega arith
-rest-shorter p d (b ∷ r) = pick (look (next p) b) refl (λ q. rest-shorter q (extend q d b) r)
-  where
-    pick
-        : (m : Option Phase) → look (next p) b ≡ m → ((q : Phase) → length (longest q (extend q d b) r .rest) ≤ length r)
-        → length (longest p d (b ∷ r) .rest) ≤ suc (length r)
-    pick none e more = omega (arith, ap (λ (x : Run). length (x .rest)) (longest-off p d b r e))
-    pick (some q) e more = omega (arith, ap (λ (x : Run). length (x .rest)) (longest-on p d b r e), more q)
-
 -- whether a number begins
 data First (doc : Bytes) (at end : ℕ) : Type 0 where
   no-first : look (next begin) (getD doc at 256) ≡ none → end ≡ at → First doc at end
@@ -270,7 +242,7 @@ first-of {doc} {at} {x} r = pick (here doc at)
           back,
           ap (λ (s : Bytes). length (longest begin no-digits s .rest)) f,
           ap (λ (y : Run). length (y .rest)) (longest-on begin no-digits (getD doc at 256) (drop (at + 1) doc) e),
-          rest-shorter p (extend p no-digits (getD doc at 256)) (drop (at + 1) doc),
+          longest-shorter p (extend p no-digits (getD doc at 256)) (drop (at + 1) doc),
           length-drop (at + 1) doc,
           r .behind,
           r .within,
@@ -281,14 +253,17 @@ first-of {doc} {at} {x} r = pick (here doc at)
     pick (at-byte f) =
         by-look f (omega (arith, length-drop at doc, ap length f)) (look (next begin) (getD doc at 256)) refl
 
-module _ {doc nodes : List ℕ} {values : ℕ} (c : Cursor) {x : NumberRead} (p : Placed doc nodes values c) (b : No-row (getD doc (c .at) 256)) (r : Reads-number doc (c .at) x) (pool : List ℕ) where
+module _ {doc nodes : List ℕ} {values : ℕ} (c : Cursor) {x : NumberRead} (p : Placed doc nodes values c) (b : No-row (getD doc (c .at) 256))
+    (r : Reads-number doc (c .at) x) (pool : List ℕ) where
   -- no value begins
   pub number-none
       : {m left : ℕ} → x .end ≡ c .at → Reads Gap.value (c .begun) left values doc nodes pool nodes pool m c (Refused 3 (c .at))
   unfolding gap-end
   number-none e =
       refuses refl refl (p .within)
-      (λ l o a kept. Scan.scan-broken l (c .begun) kept doc (c .at) (Gap.value o) refl (b .visible) (no-value (getD doc (c .at) 256) o (b .no-value o) (none-here (first-of r))))
+      (λ l o a kept.
+      Scan.scan-broken l (c .begun) kept doc (c .at) (Gap.value o) refl (b .visible)
+      (no-value (getD doc (c .at) 256) o (b .no-value o) (none-here (first-of r))))
     where
       none-here : First doc (c .at) (x .end) → look (next begin) (getD doc (c .at) 256) ≡ none
       none-here (no-first n f) = n
@@ -311,7 +286,9 @@ module _ {doc nodes : List ℕ} {values : ℕ} (c : Cursor) {x : NumberRead} (p 
             ∙ number-begins l (c .begun) kept o y t (b .visible) (b .no-value o) n
             ∙ scan-longest l (suc (c .begun)) (y ∷ t) o q (extend q no-digits y) t
             ∙ ap (λ (z : Run). scan l (suc (c .begun)) (y ∷ t) (in-number (z .phase) (z .digits) o) (z .rest)) (sym (longest-on begin no-digits y t n))
-            ∙ ap (λ (s : Bytes). scan l (suc (c .begun)) s (in-number (longest begin no-digits s .phase) (longest begin no-digits s .digits) o) (longest begin no-digits s .rest)) (sym f)
+            ∙ ap (λ (s : Bytes).
+            scan l (suc (c .begun)) s (in-number (longest begin no-digits s .phase) (longest begin no-digits s .digits) o)
+            (longest begin no-digits s .rest)) (sym f)
           where
             y : ℕ
             y = getD doc (c .at) 256

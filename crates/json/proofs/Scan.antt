@@ -1,9 +1,9 @@
 -- How reading goes between tokens and where a value begins, a byte at a time. Assumes nothing.
-use Prim.Native.Nat.{ℕ, zero, suc, _+_, _-_, _≤_, _<_}
+use Prim.Native.Nat.{ℕ, suc, _+_, _≤_, _<_}
 use mathlib.Core.Path.{_≡_, refl, sym, ap, _∙_}
 use mathlib.Core.Bool.{Bool, true, false, _||_}
-use mathlib.Core.List.{List, [], _∷_}
-use mathlib.Core.Option.{Option, none, some}
+use mathlib.Core.List.{[], _∷_}
+use mathlib.Core.Option.{none, some}
 use native.Mathlib.Numerals.{add-one}
 use native.Mathlib.Decide.{decLt}
 use native.Mathlib.Omega.{arith}
@@ -13,11 +13,12 @@ use lib.ListN.{length, drop, getD, drop-of-length-le, List·getD-eq-default}
 use lib.Seq.{drop-cons}
 use Rattle.definitions.specs.declared.Limits.{Limits}
 use Rattle.definitions.specs.Bytes.{Bytes, look, is, white}
-use Rattle.definitions.specs.Outcome.{Outcome, ok, refused}
+use Rattle.definitions.specs.Outcome.{refused}
 use Rattle.definitions.specs.Number.{Phase, begin, next, no-digits, extend}
-use Rattle.definitions.specs.Value.{Value, Items, no-items, Members, no-members}
-use Rattle.definitions.specs.Json.{Open, in-list, in-rec, Gap, State, gap, in-number, in-literal, spell, put, Move, broken, broken-number, go, begin-value, begin-number, begin-name, end-name, end-number, end-text, value-rows, value-move, token-move, gap-move, gap-end, move, end-move, depth, full, judge, scan}
-use Rattle.json.specs.JsonParts.{Skips, Token, Neither, Around}
+use Rattle.definitions.specs.Value.{Value, no-items}
+use Rattle.definitions.specs.Json.{Open, in-list, Gap, State, gap, in-number, spell, put, broken, go, value-rows}
+use Rattle.definitions.specs.Json.{value-move, token-move, gap-move, gap-end, move, end-move, depth, full, judge, scan}
+use Rattle.json.specs.JsonParts.{Around}
 
 -- ---- the byte at a place
 

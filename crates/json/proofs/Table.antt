@@ -1,10 +1,10 @@
 -- A row that is put before the rows of its parts, and what the table then holds. Assumes nothing.
 use Prim.Native.Nat.{ℕ, suc, _+_, _-_, _*_, _≤_, _<_}
-use mathlib.Core.Path.{_≡_, refl, sym, ap, ap₂, _∙_}
-use mathlib.Core.List.{List, [], _∷_, _++_, append-assoc, append-nil}
+use mathlib.Core.Path.{_≡_, sym, ap, ap₂, _∙_}
+use mathlib.Core.List.{List, [], _∷_, _++_, append-nil}
 use native.Mathlib.Omega.{arith}
-use lib.ListN.{length, take, drop, length-append, length-take, length-drop}
-use lib.Seq.{take-append-add, take-append-le, take-add, take-take, take-at, drop-at, length-take-le}
+use lib.ListN.{length, take, drop, length-append, length-drop}
+use lib.Seq.{take-append-add, take-append-le, take-add, take-take, drop-at, length-take-le}
 
 -- the table with a row put at value b
 abbrev pub with-row : List ℕ → (b h x m : ℕ) → List ℕ

@@ -6,19 +6,20 @@ use native.Mathlib.Omega.{arith}
 use lib.ListN.{length, take, drop, getD}
 use Rattle.definitions.specs.declared.Limits.{Limits}
 use Rattle.definitions.specs.Bytes.{Bytes}
-use Rattle.definitions.specs.Outcome.{refused}
-use Rattle.definitions.specs.Value.{Value, size}
+use Rattle.definitions.specs.Value.{size}
 use Rattle.definitions.specs.Plain.{plain}
-use Rattle.definitions.specs.Json.{Open, Gap, gap, put, scan}
+use Rattle.definitions.specs.Json.{Open, gap, put, scan}
 use Rattle.nodes.specs.Nodes.{head-word, head-of}
 use Rattle.nodes.specs.NodesLaws.{head-word-is}
 use Rattle.json.specs.declared.reading.Cursor.{Cursor}
 use Rattle.json.specs.declared.reading.ValueRead.{ValueRead}
-use Rattle.json.specs.declared.reading.ValueRead.the-variants.{Done, Refused}
-use Rattle.json.specs.JsonParts.{Skips, Token, Neither, Around, Placed, Moves, Reads, Bracket, Parts, no-parts, code-of, closing-of, start-of, next-of, behind-of, Before, count-of, length-of, whole-of, Part-moves, Open-parts, Closes, Behind-ready}
+use Rattle.json.specs.declared.reading.ValueRead.the-variants.{Refused}
+use Rattle.json.specs.JsonParts.{Skips, Token, Neither, Around, Placed, Moves, Reads, Bracket, Parts, no-parts, code-of, closing-of}
+use Rattle.json.specs.JsonParts.{start-of, next-of, behind-of, Before, count-of, whole-of, Open-parts, Closes, Behind-ready}
 use Rattle.json.proofs.Scan.{scan-broken}
-use Rattle.json.proofs.Table.{with-row, length-with-row, row-put}
-use Rattle.json.proofs.Bracketed.{comma, closes, closes-empty, first-part, behind-end, behind-broken, no-rows, whole-rows, count-none, size-whole, code-whole, bits-whole, length-whole, length-none, parts-none}
+use Rattle.json.proofs.Table.{length-with-row, row-put}
+use Rattle.json.proofs.Bracketed.{comma, closes, closes-empty, first-part, behind-end, behind-broken, no-rows, whole-rows}
+use Rattle.json.proofs.Bracketed.{count-none, size-whole, code-whole, bits-whole, length-whole, length-none, parts-none}
 
 -- ---- a list or record that is whole
 

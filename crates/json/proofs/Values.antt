@@ -1,19 +1,18 @@
 -- Answers of the value reader from those for lists, records and scalars. Assumes nothing.
-use Prim.Native.Nat.{ℕ, suc, _+_, _-_, _*_, _/_, _≤_, _<_}
-use mathlib.Core.Path.{_≡_, refl, sym, ap, _∙_, subst}
-use mathlib.Core.Bool.{Bool, true, false}
+use Prim.Native.Nat.{ℕ, suc, _+_, _-_, _≤_, _<_}
+use mathlib.Core.Path.{_≡_, refl, _∙_}
+use mathlib.Core.Bool.{true, false}
 use mathlib.Core.List.{List}
 use mathlib.Core.Option.{some}
 use native.Mathlib.Omega.{arith}
-use lib.ListN.{length, take, drop, getD}
+use lib.ListN.{length, drop, getD}
 use Rattle.definitions.specs.declared.Limits.{Limits}
 use Rattle.definitions.specs.Bytes.{Bytes, look, between, white, white-table, found}
-use Rattle.definitions.specs.Outcome.{refused}
-use Rattle.definitions.specs.Json.{Open, Gap, State, gap, value-rows, scan}
+use Rattle.definitions.specs.Json.{Open, Gap, gap, value-rows, scan}
 use Rattle.json.specs.declared.reading.Cursor.{Cursor}
 use Rattle.json.specs.declared.reading.ValueRead.{ValueRead}
 use Rattle.json.specs.declared.reading.ValueRead.the-variants.{Done, Refused}
-use Rattle.json.specs.JsonParts.{Skips, Around, Judges, Placed, Ready, Moves, Reads, Scalar-byte, Bracket, square, curly, start-of}
+use Rattle.json.specs.JsonParts.{Skips, Around, Judges, Ready, Reads, Scalar-byte, Bracket, square, curly, start-of}
 use Rattle.json.proofs.Scan.{byte-inside}
 use Rattle.json.proofs.Scalars.{full-here, begins-here}
 use Rattle.json.proofs.Answers.{refuses}

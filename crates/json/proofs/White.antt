@@ -3,7 +3,7 @@ use Prim.Native.Nat.{ℕ, _+_, _≤_, _<_}
 use mathlib.Core.Path.{_≡_, refl, sym, ap, _∙_}
 use mathlib.Core.Bool.{Bool, true, false, true≢false}
 use mathlib.Core.List.{List, _∷_}
-use mathlib.Core.Option.{Option, none, some}
+use mathlib.Core.Option.{none, some}
 use native.Mathlib.Numerals.{add-one}
 use native.Mathlib.Decide.{decLt}
 use native.Mathlib.Omega.{arith}
@@ -16,7 +16,7 @@ use Rattle.definitions.specs.Bytes.{Bytes, white, white-table, look, found, bet
 use Rattle.definitions.specs.Json.{Gap, gap, scan}
 use Rattle.number.proofs.Rows.{Looks, looked, nowhere, in-one, past-one}
 use Rattle.json.specs.JsonParts.{Skips, Token}
-use Rattle.json.proofs.Scan.{byte-inside, byte-here, Here, at-end, at-byte, here, scan-white}
+use Rattle.json.proofs.Scan.{byte-inside, byte-here, scan-white}
 
 -- inside a list any default will do
 pub getD-any : (l : List ℕ) (i d e : ℕ) → i < length l → getD l i d ≡ getD l i e

@@ -1,6 +1,6 @@
 -- What the parts of reading a document answer: each says how `scan` goes from where it starts to where it ends, for every stack
 -- of what is open around it, and what it put into the tables. Assumes nothing.
-use Prim.Native.Nat.{ℕ, suc, _+_, _-_, _*_, _/_, _^_, _≤_, _<_}
+use Prim.Native.Nat.{ℕ, suc, _+_, _-_, _*_, _^_, _≤_, _<_}
 use mathlib.Core.Path.{_≡_}
 use mathlib.Core.Bool.{Bool, false}
 use mathlib.Core.List.{List, [], _∷_, _++_}
@@ -11,7 +11,7 @@ use Rattle.definitions.specs.Bytes.{Bytes, look, white}
 use Rattle.definitions.specs.Outcome.{refused}
 use Rattle.definitions.specs.Value.{Value, Items, no-items, item, items-onto, Members, no-members, member, members-onto, size, size-items, size-members}
 use Rattle.definitions.specs.Plain.{plain, plain-text, plain-number}
-use Rattle.definitions.specs.Json.{Open, in-list, in-rec, Gap, State, gap, value-rows, spell, put, depth, full, scan}
+use Rattle.definitions.specs.Json.{Open, in-list, in-rec, Gap, gap, value-rows, spell, put, depth, full, scan}
 use Rattle.nodes.specs.Nodes.{kind-code, number-bits, head-word, head-of, Refers, Rows, Member-rows, Items-before, Members-before}
 use Rattle.number.specs.declared.NumberRead.{NumberRead}
 use Rattle.number.specs.NumberRead.{number-in}

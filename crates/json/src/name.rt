@@ -26,7 +26,8 @@ pub enum NameRead {
 // Whether one of the members whose rows stand from one word up to another has the name of n bytes at word w.
 fn has_name(nodes: &[u64], pool: &[u64], from: usize, to: usize, w: usize, n: usize) -> bool
     requires { ⌜ Walkable (now nodes) (now pool) from to ⌝ }
-    ensures found { λ r. ⌜ ((ms : Members) → Named-rows (now (nodes .entry)) (now (pool .entry)) from to ms → r ≡ has-name (text-in (now (pool .entry)) w n) ms) ⌝ }
+    ensures found { λ r. ⌜ ((ms : Members) → Named-rows (now (nodes .entry)) (now (pool .entry)) from to ms
+        → r ≡ has-name (text-in (now (pool .entry)) w n) ms) ⌝ }
 {
     let mut row = from;
     while row < to {

@@ -50,7 +50,8 @@ fn read_literal(
     kind: u64,
 ) -> ValueRead
     requires { ⌜ Placed (now doc) (now nodes) values c × Literal (now literal) kind × (getD (now doc) (c .at) 256 ≡ getD (now literal) 0 256) ⌝ }
-    ensures read { λ r. ⌜ ((pool : List ℕ) → Reads Gap.value (c .begun) left values (now (doc .entry)) (now (nodes .entry)) pool (now (nodes .exit)) pool name c r) ⌝ }
+    ensures read { λ r. ⌜ ((pool : List ℕ)
+        → Reads Gap.value (c .begun) left values (now (doc .entry)) (now (nodes .entry)) pool (now (nodes .exit)) pool name c r) ⌝ }
 {
     if is_full(values, left, c.begun) {
         return ValueRead::Refused {
@@ -85,7 +86,8 @@ fn read_text_value(
     name: u64,
 ) -> ValueRead
     requires { ⌜ Ready (now doc) (now nodes) (now pool) values c × (getD (now doc) (c .at) 256 ≡ 0x22) ⌝ }
-    ensures read { λ r. ⌜ Reads Gap.value (c .begun) left values (now (doc .entry)) (now (nodes .entry)) (now (pool .entry)) (now (nodes .exit)) (now (pool .exit)) name c r ⌝ }
+    ensures read { λ r. ⌜ Reads Gap.value (c .begun) left values (now (doc .entry)) (now (nodes .entry)) (now (pool .entry)) (now (nodes .exit))
+        (now (pool .exit)) name c r ⌝ }
 {
     if is_full(values, left, c.begun) {
         return ValueRead::Refused {
@@ -140,7 +142,8 @@ fn read_number_value(
     name: u64,
 ) -> ValueRead
     requires { ⌜ Placed (now doc) (now nodes) values c × No-row (getD (now doc) (c .at) 256) ⌝ }
-    ensures read { λ r. ⌜ ((pool : List ℕ) → Reads Gap.value (c .begun) left values (now (doc .entry)) (now (nodes .entry)) pool (now (nodes .exit)) pool name c r) ⌝ }
+    ensures read { λ r. ⌜ ((pool : List ℕ)
+        → Reads Gap.value (c .begun) left values (now (doc .entry)) (now (nodes .entry)) pool (now (nodes .exit)) pool name c r) ⌝ }
 {
     let x = number::read_number(doc, c.at);
     if x.end == c.at {
@@ -188,7 +191,8 @@ pub fn read_scalar(
     name: u64,
 ) -> ValueRead
     requires { ⌜ Ready (now doc) (now nodes) (now pool) values c × Scalar-byte (getD (now doc) (c .at) 256) ⌝ }
-    ensures read { λ r. ⌜ Reads Gap.value (c .begun) left values (now (doc .entry)) (now (nodes .entry)) (now (pool .entry)) (now (nodes .exit)) (now (pool .exit)) name c r ⌝ }
+    ensures read { λ r. ⌜ Reads Gap.value (c .begun) left values (now (doc .entry)) (now (nodes .entry)) (now (pool .entry)) (now (nodes .exit))
+        (now (pool .exit)) name c r ⌝ }
 {
     let b = peek(doc, c.at);
     if b == 0x22 {

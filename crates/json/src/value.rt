@@ -25,7 +25,8 @@ fn read_list(
     name: u64,
 ) -> ValueRead
     requires { ⌜ Ready (now doc) (now nodes) (now pool) values c × (c .begun < values) ⌝ }
-    ensures read { λ r. ⌜ Reads Gap.first-item (suc (c .begun)) (suc left) values (now (doc .entry)) (now (nodes .entry)) (now (pool .entry)) (now (nodes .exit)) (now (pool .exit)) name c r ⌝ }
+    ensures read { λ r. ⌜ Reads Gap.first-item (suc (c .begun)) (suc left) values (now (doc .entry)) (now (nodes .entry)) (now (pool .entry))
+        (now (nodes .exit)) (now (pool .exit)) name c r ⌝ }
 {
     let mut turn = enter(doc, nodes, values, c, nodes::LIST, 0x5D, name);
     loop {
@@ -60,7 +61,8 @@ fn read_record(
     name: u64,
 ) -> ValueRead
     requires { ⌜ Ready (now doc) (now nodes) (now pool) values c × (c .begun < values) ⌝ }
-    ensures read { λ r. ⌜ Reads Gap.first-name (suc (c .begun)) (suc left) values (now (doc .entry)) (now (nodes .entry)) (now (pool .entry)) (now (nodes .exit)) (now (pool .exit)) name c r ⌝ }
+    ensures read { λ r. ⌜ Reads Gap.first-name (suc (c .begun)) (suc left) values (now (doc .entry)) (now (nodes .entry)) (now (pool .entry))
+        (now (nodes .exit)) (now (pool .exit)) name c r ⌝ }
 {
     let mut turn = enter(doc, nodes, values, c, nodes::RECORD, 0x7D, name);
     loop {
@@ -111,7 +113,8 @@ pub fn read_value(
     name: u64,
 ) -> ValueRead
     requires { ⌜ Ready (now doc) (now nodes) (now pool) values c ⌝ }
-    ensures read { λ r. ⌜ Reads Gap.value (c .begun) left values (now (doc .entry)) (now (nodes .entry)) (now (pool .entry)) (now (nodes .exit)) (now (pool .exit)) name c r ⌝ }
+    ensures read { λ r. ⌜ Reads Gap.value (c .begun) left values (now (doc .entry)) (now (nodes .entry)) (now (pool .entry)) (now (nodes .exit))
+        (now (pool .exit)) name c r ⌝ }
 {
     let at = skip_white(doc, c.at);
     let b = peek(doc, at);

@@ -5,7 +5,9 @@ use mathlib.Core.Option.{Option, none, some}
 use Rattle.definitions.specs.Bytes.{Bytes}
 use Rattle.definitions.specs.Number.{Number, is-int}
 use Rattle.definitions.specs.Value.{Value, Items, no-items, item, Members, no-members, member}
-use Rattle.definitions.specs.Shape.{Kind, all-kinds, every, Shape, shape, Element, no-list, list-of, Record, no-rec, rec-of, Fields, nothing, only-null, only-bool, only-numeric, only-text, only-list, only-rec, int-only, int-and-dec, has, has-int, has-dec, has-list, has-rec, element-of, record-of, find, ascending, ascending-element, ascending-record, ascending-fields}
+use Rattle.definitions.specs.Shape.{Kind, all-kinds, every, Shape, shape, Element, no-list, list-of, Record, no-rec, rec-of, Fields, nothing}
+use Rattle.definitions.specs.Shape.{only-null, only-bool, only-numeric, only-text, only-list, only-rec, int-only, int-and-dec, has, has-int, has-dec}
+use Rattle.definitions.specs.Shape.{has-list, has-rec, element-of, record-of, find, ascending, ascending-element, ascending-record, ascending-fields}
 use Rattle.definitions.specs.Order.{kinds-in, below}
 use Rattle.definitions.specs.Join.{join, numeric-of, shape-of, join-items, fields-of}
 use Rattle.definitions.specs.Admits.{kind-of, missing-have-null, admitted, admitted-items, admitted-members, admits}
@@ -16,7 +18,9 @@ use Rattle.laws.specs.OrderInduction.{InOption, Ascending, ascending-of-
 use Rattle.laws.specs.OrderParts.{Elements, AtName, Records, at-name, records-intro}
 use Rattle.laws.specs.OrderLaws.{nothing-below}
 use Rattle.laws.specs.JoinLaws.{join-ascending, join-least, nothing-ascending, shape-of-ascending, fields-of-ascending}
-use Rattle.laws.specs.AdmitsParts.{admitted-by-element, admitted-by-record, admitted-by-listed, admitted-list, admitted-rec, admitted-member, lacked-use, found-shape, shape-cases, dec-int}
+use Rattle.laws.specs.AdmitsParts.{admitted-by-element, admitted-by-record, admitted-by-listed, admitted-list}
+use Rattle.laws.specs.AdmitsParts.{admitted-rec, admitted-member, lacked-use, found-shape, shape-cases}
+use Rattle.laws.specs.ShapeKinds.{int-with-dec}
 
 -- ---- shapes of one kind
 
@@ -28,7 +32,7 @@ number-below x s h = go (is-int x) h
         : (b : Bool) → has (elim b as (λ c. Kind) [ true ↦ Kind.int | false ↦ Kind.dec ]) s ≡ true
         → below (only-numeric (elim b [ true ↦ int-only | false ↦ int-and-dec ])) s ≡ true
     go true i = and-intro (and-intro (and-intro i refl) refl) refl
-    go false i = and-intro (and-intro (and-intro (dec-int s i) (and-intro i refl)) refl) refl
+    go false i = and-intro (and-intro (and-intro (int-with-dec s i) (and-intro i refl)) refl) refl
 
 list-below : (a s : Shape) → Elements (list-of a) (element-of s) → below (only-list (list-of a)) s ≡ true
 unfolding below only-list kinds-in every all-kinds has has-int has-dec has-list has-rec element-of

@@ -5,7 +5,9 @@ use mathlib.Core.Option.{Option, none, some}
 use Rattle.definitions.specs.Bytes.{Bytes}
 use Rattle.definitions.specs.Number.{Number, is-int}
 use Rattle.definitions.specs.Value.{Value, Items, no-items, item, Members, no-members, member, has-name}
-use Rattle.definitions.specs.Shape.{Kind, Shape, Element, no-list, list-of, Record, no-rec, rec-of, Fields, nothing, only-null, only-bool, only-numeric, only-text, only-list, only-rec, int-only, int-and-dec, has, has-int, has-dec, element-of, record-of, find, ascending, ascending-element, ascending-record, ascending-fields}
+use Rattle.definitions.specs.Shape.{Kind, Shape, Element, no-list, list-of, Record, no-rec, rec-of, Fields, nothing, only-null, only-bool}
+use Rattle.definitions.specs.Shape.{only-numeric, only-text, only-list, only-rec, int-only, int-and-dec, has, has-int, has-dec}
+use Rattle.definitions.specs.Shape.{element-of, record-of, find, ascending, ascending-element, ascending-record, ascending-fields}
 use Rattle.definitions.specs.Order.{below}
 use Rattle.definitions.specs.Join.{join, numeric-of, shape-of, join-items, fields-of}
 use Rattle.definitions.specs.Admits.{kind-of, admitted, admitted-items, admitted-members, admits}
@@ -18,7 +20,8 @@ use Rattle.laws.specs.OrderLaws.{below-refl, below-trans}
 use Rattle.laws.specs.JoinLaws.{join-ascending, join-upper-left, join-upper-right, nothing-ascending, shape-of-ascending, join-items-ascending}
 pub use Rattle.laws.specs.AdmitsMono.{admits-mono}
 pub use Rattle.laws.specs.AdmitsBelow.{admits-below}
-use Rattle.laws.specs.AdmitsParts.{admitted-by-element, admitted-by-record, admitted-by-listed, admitted-list, admitted-rec, admitted-member, lacked-intro, find-shape-here, found-shape, find-shape-rest}
+use Rattle.laws.specs.AdmitsParts.{admitted-by-element, admitted-by-record, admitted-by-listed, admitted-list, admitted-rec}
+use Rattle.laws.specs.AdmitsParts.{admitted-member, lacked-intro, find-shape-here, found-shape, find-shape-rest}
 
 -- ---- join
 

@@ -5,13 +5,15 @@ use mathlib.Core.Bool.{true, _&&_, _||_, false≢true}
 use mathlib.Core.Option.{Option, none, some}
 use Rattle.definitions.specs.Bytes.{Bytes}
 use Rattle.definitions.specs.Value.{Value, Items, no-items, item, Members, no-members, member, has-name}
-use Rattle.definitions.specs.Shape.{Kind, Shape, Element, no-list, list-of, Record, no-rec, rec-of, Fields, has, element-of, record-of, find, ascending, ascending-element, ascending-record, ascending-fields}
+use Rattle.definitions.specs.Shape.{Kind, Shape, Element, no-list, list-of, Record, no-rec, rec-of, Fields, has, element-of}
+use Rattle.definitions.specs.Shape.{record-of, find, ascending, ascending-element, ascending-record, ascending-fields}
 use Rattle.definitions.specs.Order.{below}
 use Rattle.definitions.specs.Admits.{kind-of, missing-have-null, admitted, admitted-items, admitted-members, admits}
 use Rattle.laws.specs.Bools.{and-left, and-right, and-intro, or-cases, or-left, or-right}
 use Rattle.laws.specs.OrderInduction.{InOption, Ascending, ascending-of-element, ascending-of-record, ascending-found}
 use Rattle.laws.specs.OrderParts.{Elements, AtName, Records, below-kinds, below-elements, below-records}
-use Rattle.laws.specs.AdmitsParts.{admitted-by-element, admitted-by-record, admitted-by-listed, admitted-list, admitted-rec, admitted-member, lacked-use, lacked-intro}
+use Rattle.laws.specs.AdmitsParts.{admitted-by-element, admitted-by-record, admitted-by-listed}
+use Rattle.laws.specs.AdmitsParts.{admitted-list, admitted-rec, admitted-member, lacked-use, lacked-intro}
 
 -- ---- what a shape admits, every shape above it admits
 

@@ -5,7 +5,8 @@ use mathlib.Core.Bool.{Bool, true, false, _&&_, _||_}
 use mathlib.Core.Option.{Option, none, some}
 use Rattle.definitions.specs.Bytes.{Bytes, same, found}
 use Rattle.definitions.specs.Value.{Value, Items, Members, no-members, member, has-name}
-use Rattle.definitions.specs.Shape.{Kind, no-number, int-only, int-and-dec, Shape, shape, Element, no-list, list-of, Record, no-rec, rec-of, Fields, no-fields, field, has, has-int, has-dec, element-of, record-of, find, ascending-fields}
+use Rattle.definitions.specs.Shape.{Kind, Shape, Element, no-list, list-of, Record, no-rec}
+use Rattle.definitions.specs.Shape.{rec-of, Fields, no-fields, field, has, element-of, record-of, find, ascending-fields}
 use Rattle.definitions.specs.Join.{shape-of, fields-of}
 use Rattle.definitions.specs.Admits.{missing-have-null, admitted, admitted-items, admitted-members}
 use Rattle.laws.specs.Bools.{and-left, and-right, and-intro, tell, clash}
@@ -139,11 +140,3 @@ find-shape-rest n m v ms a h e = go (tell (same n m))
     go (inl i) =
         clash (ap found e) (found-shape n ms ∙ ap (λ k. has-name k ms) (same-eq n m i) ∙ h)
     go (inr i) = find-shape-there n m v ms i ∙ e
-
--- ---- "dec only together with int"
-
-pub dec-int : (s : Shape) → has Kind.dec s ≡ true → has Kind.int s ≡ true
-unfolding has has-dec has-int
-dec-int (shape n b no-number t e r) h = h
-dec-int (shape n b int-only t e r) h = refl
-dec-int (shape n b int-and-dec t e r) h = refl

@@ -59,3 +59,19 @@ not-false {a = false} h = refl
 -- a test that passes does not fail
 pub clash {ℓ} : {X : Type ℓ} {b : Bool} → b ≡ true → b ≡ false → X
 clash p q = absurd (true≢false (sym p ∙ q))
+
+-- where the second fails, the first is the disjunction
+pub or-second : (a : Bool) {b : Bool} → b ≡ false → a ≡ (a || b)
+or-second true e = refl
+or-second false e = sym e
+
+-- an implication, put to use
+pub implied : (a b : Bool) → not a || b ≡ true → a ≡ true → b ≡ true
+implied true b h e = h
+implied false b h e = absurd (false≢true e)
+
+-- two tests that imply one another are equal
+pub bool-eq : (a b : Bool) → (a ≡ true → b ≡ true) → (b ≡ true → a ≡ true) → a ≡ b
+bool-eq true b f g = sym (f refl)
+bool-eq false true f g = g refl
+bool-eq false false f g = refl

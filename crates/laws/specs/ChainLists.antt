@@ -1,6 +1,5 @@
 -- Laws of `Each` and `Reordered`. Assumes nothing.
-use mathlib.Core.Path.{_≡_, subst}
-use mathlib.Core.List.{List, [], _∷_}
+use mathlib.Core.List.{List, _∷_}
 use Rattle.laws.specs.Chain.{Each, each-none, each-one, Reordered, no-element, keep-first, swap-first, again}
 
 module _ {A : Type 0} {P : A → Type 0} where

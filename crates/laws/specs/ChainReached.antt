@@ -1,13 +1,12 @@
 -- Along a list of infer calls: the text reached is that of a shape which is the least above the start that admits every
 -- accepted sample; and in any other order the same text is reached. Assumes nothing.
-use Prim.Native.Nat.{ℕ, zero, suc, _≤_, _<_}
+use Prim.Native.Nat.{ℕ, _≤_}
 use native.Mathlib.Nat.{le-trans}
 use native.Mathlib.Omega.{arith}
 use mathlib.Core.Path.{_≡_, refl, sym, ap, _∙_, subst}
 use mathlib.Core.Bool.{Bool, true, false}
-use mathlib.Core.List.{List, [], _∷_, _++_, map}
-use lib.Dec.{lit≤}
-use lib.ListN.{length, take, drop}
+use mathlib.Core.List.{List, [], _∷_, map}
+use lib.ListN.{length}
 use Rattle.definitions.specs.declared.Limits.{Limits}
 use Rattle.definitions.specs.Bytes.{Bytes}
 use Rattle.definitions.specs.Outcome.{Outcome, ok, refused}
@@ -18,10 +17,9 @@ use Rattle.definitions.specs.Join.{join, shape-of}
 use Rattle.definitions.specs.Admits.{admits}
 use Rattle.definitions.specs.ShapeText.{read-shape, write-shape}
 use Rattle.definitions.specs.Evaluate.{evaluate}
-use Rattle.definitions.specs.Operations.{Source, slices-short}
-use Rattle.laws.specs.Bools.{tell}
+use Rattle.definitions.specs.Operations.{Source}
 use Rattle.laws.specs.Distinct.{distinct}
-use Rattle.laws.specs.Good.{Good-value, Good-shape}
+use Rattle.laws.specs.Good.{Good-shape}
 use Rattle.laws.specs.OrderLaws.{below-refl, below-trans, below-antisym}
 use Rattle.laws.specs.JoinLaws.{nothing-ascending, join-ascending, join-upper-left, join-upper-right, join-least, shape-of-ascending}
 use Rattle.laws.specs.AdmitsLaws.{admits-mono, shape-of-admits, admits-below}
@@ -29,7 +27,8 @@ use Rattle.laws.specs.SizeLaws.{forms-mono, levels-mono, write-mono}
 use Rattle.laws.specs.RoundLaws.{shape-reads-back, nothing-good, join-good}
 use Rattle.laws.specs.Judging.{shape-over, shape-fits, fits-shape}
 use Rattle.laws.specs.Numbered.{numbered-shape}
-use Rattle.laws.specs.Chain.{Each, each-none, each-one, Reordered, Call, start, takes, left-by, reached, accepted, Reads, Long-enough, Proper-source, In-range}
+use Rattle.laws.specs.Chain.{Each, each-none, each-one, Reordered, Call, start, takes, left-by}
+use Rattle.laws.specs.Chain.{reached, accepted, Reads, Long-enough, Proper-source, In-range}
 use Rattle.laws.specs.ChainLists.{each-first, each-rest, each-reordered, each-ordered-back, each-map}
 use Rattle.laws.specs.ChainSteps.{Accepted, accepted-left, refused-left, taken-accepted}
 

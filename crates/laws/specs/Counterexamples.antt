@@ -1,33 +1,32 @@
 -- That the theorems say something: with a hypothesis left out, turned round or weakened by one, each is false. Every name
 -- says what would go wrong. Assumes nothing.
-use Prim.Native.Nat.{ℕ, suc, _≤_, _<_, _+_}
+use Prim.Native.Nat.{ℕ, suc, _≤_, _+_}
 use mathlib.Core.Path.{_≡_, refl, sym, ap, _∙_, subst}
 use mathlib.Core.Bool.{Bool, true, false, false≢true, true≢false}
-use mathlib.Core.List.{List, [], _∷_, _++_, map}
+use mathlib.Core.List.{List, [], _∷_, map}
 use lib.Dec.{lit≤}
 use lib.ListN.{length, replicate}
 use Rattle.definitions.specs.declared.Limits.{Limits}
 use Rattle.definitions.specs.Limits.{standard}
 use Rattle.definitions.specs.Bytes.{Bytes, bytes}
 use Rattle.definitions.specs.Outcome.{Outcome, ok, refused}
-use Rattle.definitions.specs.Number.{Number}
-use Rattle.definitions.specs.Value.{Value, Items, no-items, item, Members, no-members, member, size, nesting}
+use Rattle.definitions.specs.Value.{Value, no-members, member, size, nesting}
 use Rattle.definitions.specs.Json.{read-json}
 use Rattle.definitions.specs.Plain.{plain}
-use Rattle.definitions.specs.Shape.{Shape, Fields, no-fields, field, rec-of, ascending, only-null, only-numeric, int-only, only-text, only-rec, nothing}
+use Rattle.definitions.specs.Shape.{Shape, no-fields, field, rec-of, ascending, only-null, only-numeric, int-only, only-text, only-rec}
 use Rattle.definitions.specs.Order.{below}
 use Rattle.definitions.specs.Join.{shape-of}
 use Rattle.definitions.specs.Admits.{admits}
 use Rattle.definitions.specs.ShapeText.{read-shape}
 use Rattle.definitions.specs.Reader.{Place, Result, Conversion}
 use Rattle.definitions.specs.Checking.{check-reader}
-use Rattle.definitions.specs.Running.{Ran, run-reader}
+use Rattle.definitions.specs.Running.{run-reader}
 use Rattle.definitions.specs.Operations.{Source}
 use Rattle.definitions.specs.Evaluate.{evaluate}
 use Rattle.laws.specs.Distinct.{distinct}
-use Rattle.laws.specs.Rfc8259.{ws, ws-none, structural, char-of, value, is-array, array, empty-array, values, no-value, JSON-text, json-text}
+use Rattle.laws.specs.Rfc8259.{ws-none, char-of, value, is-array, empty-array, values, no-value, JSON-text, json-text}
 use Rattle.laws.specs.Rfc3629.{UTF8-octets, no-octets, octets, char-1, utf8-1}
-use Rattle.laws.specs.Tree.{Tree, Trees, no-trees, tree, meaning, Numbers-fit, list-fits, tree-fits, no-trees-fit}
+use Rattle.laws.specs.Tree.{Tree, no-trees, tree, meaning, Numbers-fit, list-fits, tree-fits, no-trees-fit}
 use Rattle.laws.specs.Good.{Good-value, good-null, good-rec, good-member, good-no-members}
 use Rattle.laws.specs.Readers.{scoped, scoped-place, proper}
 use Rattle.laws.specs.Chain.{Each, each-none, each-one, Call, start, infers, takes, left-by, accepted, reached, Reordered, swap-first}

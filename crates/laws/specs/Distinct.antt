@@ -1,6 +1,6 @@
 -- Values with distinct names: in every record, at all depths, no name comes twice. Refusal 5 sees to it for documents.
 -- Assumes nothing.
-use mathlib.Core.Bool.{Bool, true, false, not, _&&_}
+use mathlib.Core.Bool.{Bool, true, not, _&&_}
 use Rattle.definitions.specs.Value.{Value, Items, no-items, item, Members, no-members, member, has-name}
 
 unfoldable mutual

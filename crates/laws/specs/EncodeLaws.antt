@@ -10,7 +10,8 @@ use native.Mathlib.Omega.{arith}
 use Rattle.definitions.specs.Bytes.{Bytes}
 use Rattle.definitions.specs.Utf8.{encode}
 use Rattle.laws.specs.Ranges.{lt-or-le, le-leb, gt-leb}
-use Rattle.laws.specs.Rfc3629.{In, UTF8-tail, utf8-2, utf8-3a, utf8-3b, utf8-3c, utf8-3d, utf8-4a, utf8-4b, utf8-4c, Encodes, one-octet, two-octets, three-octets, four-octets}
+use Rattle.laws.specs.Rfc3629.{In, UTF8-tail, utf8-2, utf8-3a, utf8-3b, utf8-3c, utf8-3d, utf8-4a, utf8-4b}
+use Rattle.laws.specs.Rfc3629.{utf8-4c, Encodes, one-octet, two-octets, three-octets, four-octets}
 
 -- ---- encode, by the length of what it writes
 

@@ -6,7 +6,7 @@ use mathlib.Core.Logic.{_⊎_, inl, inr}
 use mathlib.Core.Bool.{true, false}
 use mathlib.Core.Option.{Option, none, some}
 use Rattle.definitions.specs.Bytes.{Bytes, order, same}
-use Rattle.definitions.specs.Shape.{Shape, shape, Fields, no-fields, field, find, before, behind, ascending, ascending-fields}
+use Rattle.definitions.specs.Shape.{Shape, shape, Fields, no-fields, field, find, before, behind, ascending, ascending-fields, forms}
 use Rattle.definitions.specs.Join.{with-null, add-null, put-field, insert}
 use Rattle.laws.specs.Bools.{tell}
 use Rattle.laws.specs.Names.{order-eq, same-eq, eq-same, before-lt, before-gt, before-other-sym}
@@ -15,6 +15,10 @@ use Rattle.laws.specs.Fields.{find-here, find-there, find-first, ascendi
 pub with-null-ascending : (s : Shape) → ascending s ≡ true → ascending (with-null s) ≡ true
 unfolding ascending with-null
 with-null-ascending (shape n b m t e r) h = h
+
+pub forms-with-null : (s : Shape) → forms (with-null s) ≡ forms s
+unfolding with-null forms
+forms-with-null (shape n b m t e r) = refl
 
 -- ---- add-null
 
@@ -60,7 +64,7 @@ find-add-null fs (field m b gs) n = go (find-add-null fs gs n) (tell (same n m))
         ∙ f
         ∙ ap (null-added (find n fs)) (sym (find-there n m b gs e))
 
-add-null-behind : (fs gs : Fields) (n : Bytes) → behind n (add-null fs gs) ≡ behind n gs
+pub add-null-behind : (fs gs : Fields) (n : Bytes) → behind n (add-null fs gs) ≡ behind n gs
 unfolding add-null behind
 add-null-behind fs no-fields n = refl
 add-null-behind fs (field m b gs) n = refl

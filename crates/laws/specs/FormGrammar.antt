@@ -8,7 +8,8 @@ use mathlib.Core.List.{List, [], _∷_}
 use Rattle.definitions.specs.Bytes.{Bytes, bytes}
 use Rattle.definitions.specs.Number.{Number, Numeral, beyond, number-of}
 use Rattle.definitions.specs.Value.{Value}
-use Rattle.definitions.specs.Shape.{Kind, all-kinds, Numeric, Shape, shape, Element, no-list, list-of, Record, no-rec, rec-of, Fields, no-fields, field, has, behind}
+use Rattle.definitions.specs.Shape.{Kind, all-kinds, Numeric, Shape, shape, Element, no-list, list-of}
+use Rattle.definitions.specs.Shape.{Record, no-rec, rec-of, Fields, no-fields, field, has, behind}
 use Rattle.definitions.specs.ShapeText.{kind-name}
 use Rattle.definitions.specs.Reader.{Place, Result, Pairs, no-pairs, pair, Conversion, to-int, to-dec, to-bool, to-text, Test, among-pairs}
 use Rattle.definitions.specs.Tokens.{Token, opening, closing, quoted, word, Placed}

@@ -18,7 +18,8 @@ use Rattle.laws.specs.Tests.{ltb-lt}
 use Rattle.laws.specs.Causes.{First, earlier, same-place}
 use Rattle.laws.specs.FormCauses.{Begins, Cause, misplaced-token, missing-token, full-bracket}
 use Rattle.laws.specs.FormRuns.{Walk, stay, enter, most, most-append, walk-unique, Fits, Accepted, read-accepted}
-use Rattle.laws.specs.FormStops.{Stopped, stopped-token, stopped-end, stopped-full, read-stopped, Reaches, walk-parts, walk-join, walk-misplaced, walk-opens, before-end, stop-first}
+use Rattle.laws.specs.FormStops.{Stopped, stopped-token, stopped-end, stopped-full, read-stopped, Reaches}
+use Rattle.laws.specs.FormStops.{walk-parts, walk-join, walk-misplaced, walk-opens, before-end, stop-first}
 
 -- ---- adequate steps
 

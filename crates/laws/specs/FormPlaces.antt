@@ -7,7 +7,8 @@ use lib.ListN.{length}
 use native.Mathlib.Omega.{arith}
 use Rattle.definitions.specs.Bytes.{Bytes, look}
 use Rattle.definitions.specs.Text.{chars, Text-move, wrong, more, closed, text-step}
-use Rattle.definitions.specs.Tokens.{Token, opening, closing, quoted, word, broken, Placed, at-place, Border, space, bracket-open, bracket-close, quote, border-table, Partial, no-word, word-from, Lexing, outside, inside, ended, longer, lex, tokens}
+use Rattle.definitions.specs.Tokens.{Token, opening, closing, quoted, word, broken, Placed, at-place, Border, space, bracket-open, bracket-close}
+use Rattle.definitions.specs.Tokens.{quote, border-table, Partial, no-word, word-from, Lexing, outside, inside, ended, longer, lex, tokens}
 
 -- places ascend, none before lo, all before end
 pub data Ascends (end : ℕ) : ℕ → List Placed → Type 0 where

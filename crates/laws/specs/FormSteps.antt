@@ -5,7 +5,8 @@ use mathlib.Core.Bool.{Bool, true, false}
 use mathlib.Core.List.{List, [], _∷_}
 use mathlib.Core.Option.{Option, none, some, Option·none-ne-some, Option·some-injective}
 use Rattle.definitions.specs.Bytes.{Bytes, same}
-use Rattle.definitions.specs.Tokens.{Token, opening, closing, quoted, word, broken, Placed, Step, misplaced, go, opens, want-open, want-close, want-text, want-word, where-true, where-some, Named, named, look-word, want-named}
+use Rattle.definitions.specs.Tokens.{Token, opening, closing, quoted, word, broken, Placed, Step, misplaced, go, opens, want-open}
+use Rattle.definitions.specs.Tokens.{want-close, want-text, want-word, where-true, where-some, Named, named, look-word, want-named}
 use Rattle.laws.specs.Names.{same-eq}
 use Rattle.laws.specs.FormGrammar.{at, Head, head, Name, name}
 use Rattle.laws.specs.FormRuns.{Walk, stay, on, enter}

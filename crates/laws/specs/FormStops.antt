@@ -16,7 +16,8 @@ use Rattle.laws.specs.Bools.{or-false-left, or-false-right}
 use Rattle.laws.specs.Causes.{First, earlier, same-place}
 use Rattle.laws.specs.Tests.{ltb-le}
 use Rattle.laws.specs.FormPlaces.{Ascends, tokens-ascend, ascends-split}
-use Rattle.laws.specs.FormRuns.{opens-depth, misplaced-go, misplaced-opens, go-opens, Walk, stay, on, enter, most, walk-append, walk-more, Fits, refused-ok}
+use Rattle.laws.specs.FormRuns.{opens-depth, misplaced-go, misplaced-opens, go-opens, Walk}
+use Rattle.laws.specs.FormRuns.{stay, on, enter, most, walk-append, walk-more, Fits, refused-ok}
 
 -- ---- what a refusal says
 

@@ -8,7 +8,10 @@ use Rattle.definitions.specs.Value.{Value}
 use Rattle.definitions.specs.Shape.{Kind, Shape, Element, Record, Fields}
 use Rattle.definitions.specs.Reader.{Place, Result, Pairs, no-pairs, pair, among-pairs}
 use Rattle.definitions.specs.Tokens.{Token, opening, quoted, word, Placed}
-use Rattle.laws.specs.FormGrammar.{at, Head, head, Name, name, Kind-words, no-kinds, has-kind, lacks-kind, Shape-form, shape-form, Element-form, no-element, element, Record-form, no-members, members, Members-form, no-member, member, Place-form, it-form, field-form, Result-form, convert-form, keep-form, count-form, each-form, when-form, if-form, num-form, str-form, yes-form, no-form, none-form, pack-form, Pairs-form, no-pair, next-pair, Reader-text, Place-text}
+use Rattle.laws.specs.FormGrammar.{at, Head, head, Name, name, Kind-words, no-kinds, has-kind, lacks-kind, Shape-form, shape-form, Element-form}
+use Rattle.laws.specs.FormGrammar.{no-element, element, Record-form, no-members, members, Members-form, no-member, member, Place-form, it-form}
+use Rattle.laws.specs.FormGrammar.{field-form, Result-form, convert-form, keep-form, count-form, each-form, when-form, if-form, num-form}
+use Rattle.laws.specs.FormGrammar.{str-form, yes-form, no-form, none-form, pack-form, Pairs-form, no-pair, next-pair, Reader-text, Place-text}
 
 -- ---- the same tokens
 

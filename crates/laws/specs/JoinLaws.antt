@@ -3,7 +3,8 @@
 use mathlib.Core.Path.{_≡_, refl}
 use mathlib.Core.Bool.{true, or-false}
 use Rattle.definitions.specs.Value.{Value, Items, no-items, item, Members, no-members, member}
-use Rattle.definitions.specs.Shape.{Numeric, no-number, int-only, int-and-dec, Shape, shape, Element, no-list, list-of, Record, no-rec, rec-of, nothing, only-null, only-bool, only-numeric, only-text, only-list, only-rec, ascending, ascending-fields}
+use Rattle.definitions.specs.Shape.{Numeric, no-number, int-only, int-and-dec, Shape, shape, Element, no-list, list-of, Record, no-rec, rec-of}
+use Rattle.definitions.specs.Shape.{nothing, only-null, only-bool, only-numeric, only-text, only-list, only-rec, ascending, ascending-fields}
 use Rattle.definitions.specs.Order.{below}
 use Rattle.definitions.specs.Join.{join, join-numeric, join-element, join-record, shape-of, join-items, fields-of}
 use Rattle.laws.specs.Bools.{and-intro}
@@ -22,18 +23,18 @@ pub join-nothing-left : (s : Shape) → join nothing s ≡ s
 unfolding join nothing join-numeric
 join-nothing-left (shape n b m t e r) = refl
 
-numeric-nothing : (m : Numeric) → join-numeric m no-number ≡ m
+pub numeric-nothing : (m : Numeric) → join-numeric m no-number ≡ m
 unfolding join-numeric
 numeric-nothing no-number = refl
 numeric-nothing int-only = refl
 numeric-nothing int-and-dec = refl
 
-element-nothing : (e : Element) → join-element e no-list ≡ e
+pub element-nothing : (e : Element) → join-element e no-list ≡ e
 unfolding join
 element-nothing no-list = refl
 element-nothing (list-of a) = refl
 
-record-nothing : (r : Record) → join-record r no-rec ≡ r
+pub record-nothing : (r : Record) → join-record r no-rec ≡ r
 unfolding join
 record-nothing no-rec = refl
 record-nothing (rec-of fs) = refl

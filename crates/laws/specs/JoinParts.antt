@@ -4,13 +4,16 @@ use mathlib.Core.Logic.{_⊎_, inl, inr}
 use mathlib.Core.Bool.{true, false, _||_}
 use mathlib.Core.Option.{Option, none, some}
 use Rattle.definitions.specs.Bytes.{Bytes, same}
-use Rattle.definitions.specs.Shape.{Kind, Numeric, no-number, int-only, int-and-dec, Shape, shape, Element, no-list, list-of, Record, no-rec, rec-of, Fields, no-fields, field, has, has-int, has-dec, has-list, has-rec, element-of, record-of, find, ascending, ascending-element, ascending-record, ascending-fields}
+use Rattle.definitions.specs.Shape.{Kind, Numeric, no-number, int-only, int-and-dec, Shape, shape, Element, no-list, list-of}
+use Rattle.definitions.specs.Shape.{Record, no-rec, rec-of, Fields, no-fields, field, has, has-int, has-dec, has-list, has-rec}
+use Rattle.definitions.specs.Shape.{element-of, record-of, find, ascending, ascending-element, ascending-record, ascending-fields}
 use Rattle.definitions.specs.Join.{with-null, join-numeric, add-null, join, join-element, join-record, join-fields}
 use Rattle.laws.specs.Bools.{tell}
 use Rattle.laws.specs.Names.{same-eq}
 use Rattle.laws.specs.Fields.{find-there, find-first, ascending-first, ascending-rest, find-again}
 use Rattle.laws.specs.FieldsPut.{null-added, find-add-null, add-null-ascending, placed, find-put-here, find-put-there, put-ascending}
-use Rattle.laws.specs.OrderInduction.{InElement, InFields, InRecord, Step, shape-induction, Ascending, ascending-of-element, ascending-of-record, ascending-intro}
+use Rattle.laws.specs.OrderInduction.{InElement, InFields, InRecord, Step, shape-induction, Ascending}
+use Rattle.laws.specs.OrderInduction.{ascending-of-element, ascending-of-record, ascending-intro}
 
 -- ---- kinds, element and record
 

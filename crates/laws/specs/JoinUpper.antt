@@ -3,12 +3,14 @@ use mathlib.Core.Path.{_≡_, refl, sym, _∙_, subst}
 use mathlib.Core.Logic.{_⊎_, inl, inr}
 use mathlib.Core.Bool.{true}
 use mathlib.Core.Option.{Option, none, some}
-use Rattle.definitions.specs.Shape.{Kind, Shape, shape, Element, no-list, list-of, Record, no-rec, rec-of, has, element-of, record-of, find, ascending, ascending-element, ascending-record}
+use Rattle.definitions.specs.Shape.{Kind, Shape, shape, Element, no-list, list-of, Record, no-rec, rec-of, has}
+use Rattle.definitions.specs.Shape.{element-of, record-of, find, ascending, ascending-element, ascending-record}
 use Rattle.definitions.specs.Order.{below}
 use Rattle.definitions.specs.Join.{with-null, join, join-element, join-record}
 use Rattle.laws.specs.Bools.{or-cases, or-left, or-right}
 use Rattle.laws.specs.FieldsPut.{with-null-ascending}
-use Rattle.laws.specs.OrderInduction.{InOption, InElement, InRecord, Step, shape-induction, in-found, Ascending, ascending-of-element, ascending-of-record, ascending-found}
+use Rattle.laws.specs.OrderInduction.{InOption, InElement, InRecord, Step, shape-induction, in-found}
+use Rattle.laws.specs.OrderInduction.{Ascending, ascending-of-element, ascending-of-record, ascending-found}
 use Rattle.laws.specs.OrderParts.{Kinds, Elements, AtName, Records, below-kinds, below-elements, below-records, below-intro}
 use Rattle.laws.specs.OrderLaws.{below-refl}
 use Rattle.laws.specs.JoinParts.{has-join, element-of-join, record-of-join, join-ascending, join-option, find-join}

@@ -14,7 +14,8 @@ use Rattle.laws.specs.Causes.{Context, top, in-array, in-object, Before,
 use Rattle.laws.specs.JsonMoves.{Tests, scan-by}
 use Rattle.laws.specs.JsonContext.{opened, begun-named, count-array, count-object, count-value, count-member}
 use Rattle.laws.specs.JsonLengths.{structural-length, string-length, value-length}
-use Rattle.laws.specs.JsonRuns.{comma, mark-stop, Takes, takes-value, takes-item, Names, names-first, names-next, comma-after, comma-member, colon-name, ws-run, mark-run, name-run}
+use Rattle.laws.specs.JsonRuns.{comma, mark-stop, Takes, takes-value, takes-item, Names, names-first}
+use Rattle.laws.specs.JsonRuns.{names-next, comma-after, comma-member, colon-name, ws-run, mark-run, name-run}
 use Rattle.laws.specs.JsonEnds.{Ends, arrives, Come, ends-from, ends-then, ends-at, ends-unless}
 use Rattle.laws.specs.JsonForward.{array-enter, object-enter, recount, value-forward}
 use Rattle.laws.specs.JsonLive.{start}

@@ -17,7 +17,8 @@ use Rattle.laws.specs.Rfc8259.{JSON-text}
 use Rattle.laws.specs.Causes.{Begins, Breaks, at-byte, at-end}
 use Rattle.laws.specs.JsonMoves.{Tests, free, ok≢refused, judge-by, scan-by, after, ending, Walk, stay, step, walk-append}
 use Rattle.laws.specs.JsonContext.{opened}
-use Rattle.laws.specs.JsonReached.{Reached, Sound, broken-so, broken-number-so, goes, begins-value, begins-number, begins-name, ends-name, ends-number, ends-text}
+use Rattle.laws.specs.JsonReached.{Reached, Sound, broken-so, broken-number-so, goes, begins-value}
+use Rattle.laws.specs.JsonReached.{begins-number, begins-name, ends-name, ends-number, ends-text}
 use Rattle.laws.specs.JsonSound.{move-sound, end-sound}
 use Rattle.laws.specs.JsonLive.{start, start-reached, sound-after, free-after, free-text, sound-broken, walk-begins}
 use Rattle.laws.specs.JsonSettled.{Settled, there, before}

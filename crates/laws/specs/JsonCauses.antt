@@ -24,7 +24,8 @@ use Rattle.laws.specs.Ranges.{leb-le}
 use Rattle.laws.specs.Causes.{Context, Before, begun, open-around, Breaks, at-byte, at-end, Beyond, Full, Cause, cause-3, cause-4, cause-5, cause-6}
 use Rattle.laws.specs.JsonMoves.{after, ending, Walk, stay, step, walk-append}
 use Rattle.laws.specs.JsonContext.{opened, depth-opened}
-use Rattle.laws.specs.JsonReached.{Reached, Starts, Sound, broken-so, broken-number-so, goes, begins-value, begins-number, begins-name, ends-name, ends-number, ends-text}
+use Rattle.laws.specs.JsonReached.{Reached, Starts, Sound, broken-so, broken-number-so, goes, begins-value}
+use Rattle.laws.specs.JsonReached.{begins-number, begins-name, ends-name, ends-number, ends-text}
 use Rattle.laws.specs.JsonSound.{move-sound, end-sound}
 use Rattle.laws.specs.JsonLive.{start, start-reached, walk-begins, walk-breaks, walk-unfinished}
 

@@ -8,11 +8,13 @@ use lib.Dec.{ltb, eqb, isEq}
 use Rattle.definitions.specs.declared.Limits.{Limits}
 use Rattle.definitions.specs.Bytes.{Bytes, order, same}
 use Rattle.definitions.specs.Number.{beyond}
-use Rattle.definitions.specs.Value.{Value, Items, no-items, item, Members, no-members, member, has-name, size, size-items, size-members, nesting, nesting-items, nesting-members}
+use Rattle.definitions.specs.Value.{Value, Items, no-items, item, Members, no-members, member, has-name}
+use Rattle.definitions.specs.Value.{size, size-items, size-members, nesting, nesting-items, nesting-members}
 use Rattle.definitions.specs.Json.{Open, root, in-list, in-rec, depth, full}
-use Rattle.laws.specs.Bools.{and-left, and-right, and-intro, or-false-left, or-false-right, not-true, not-false}
+use Rattle.laws.specs.Bools.{and-left, and-right, and-intro, or-false-left, or-false-right, not-true, not-false, bool-eq}
 use Rattle.laws.specs.Distinct.{distinct, distinct-items, distinct-members}
-use Rattle.laws.specs.Tree.{Tree, Trees, no-trees, tree, Named, no-named, named, meaning, meaning-trees, meaning-named, Numbers-fit, Trees-fit, Named-fit, Fits}
+use Rattle.laws.specs.Tree.{Tree, Trees, no-trees, tree, Named, no-named, named, meaning}
+use Rattle.laws.specs.Tree.{meaning-trees, meaning-named, Numbers-fit, Trees-fit, Named-fit, Fits}
 use Rattle.laws.specs.Ranges.{leb-gt, gt-leb, eqb-eq, eq-eqb}
 use Rattle.laws.specs.JsonMoves.{limited}
 use Rattle.laws.specs.JsonEnds.{fit, fit-trees, fit-named}
@@ -34,19 +36,13 @@ same-cons x y xs ys = at (compare x y)
 eqb-swap : (x y : ℕ) → eqb x y ≡ true → eqb y x ≡ true
 eqb-swap x y e = eq-eqb {m = y} {n = x} (sym (eqb-eq {m = x} {n = y} e))
 
--- two tests that imply one another are equal
-both : (a b : Bool) → (a ≡ true → b ≡ true) → (b ≡ true → a ≡ true) → a ≡ b
-both true b f g = sym (f refl)
-both false true f g = g refl
-both false false f g = refl
-
 same-sym : (xs ys : Bytes) → same xs ys ≡ same ys xs
 unfolding same order
 same-sym [] [] = refl
 same-sym [] (y ∷ ys) = refl
 same-sym (x ∷ xs) [] = refl
 same-sym (x ∷ xs) (y ∷ ys) =
-    same-cons x y xs ys ∙ ap₂ _&&_ (both (eqb x y) (eqb y x) (eqb-swap x y) (eqb-swap y x)) (same-sym xs ys)
+    same-cons x y xs ys ∙ ap₂ _&&_ (bool-eq (eqb x y) (eqb y x) (eqb-swap x y) (eqb-swap y x)) (same-sym xs ys)
     ∙ sym (same-cons y x ys xs)
 
 -- no name of the first is among those of the second

@@ -13,16 +13,21 @@ use Rattle.definitions.specs.Bytes.{Bytes, bytes, between, look, is, white, whi
 use Rattle.definitions.specs.Outcome.{Outcome, ok}
 use Rattle.definitions.specs.Number.{Numeral, no-digits, number-of, Phase, begin, next, complete, extend}
 use Rattle.definitions.specs.Value.{Value, Items, no-items, item, items-onto, Members, no-members, member, members-onto, size, size-items, size-members}
-use Rattle.definitions.specs.Json.{Open, root, in-list, in-rec, Gap, Role, State, put, Move, spell, true-name, false-name, null-name, value-rows, value-move, close-move, gap-move, move, gap-end, end-move}
+use Rattle.definitions.specs.Json.{Open, root, in-list, in-rec, Gap, Role, State, put, Move, spell, true-name, false-name}
+use Rattle.definitions.specs.Json.{null-name, value-rows, value-move, close-move, gap-move, move, gap-end, end-move}
 use Rattle.laws.specs.Tree.{Tree, Trees, Named, meaning, meaning-trees, meaning-named}
 use Rattle.laws.specs.Rfc8259 as Rfc
 use Rattle.laws.specs.Rfc8259.{char-of}
 use Rattle.laws.specs.Steps.{Number-steps, number-stay, number-then}
 use Rattle.laws.specs.NumberTokens.{number-steps}
 use Rattle.laws.specs.JsonMoves.{Tests, judge-by, scan-by}
-use Rattle.laws.specs.JsonRuns.{Stop, end-bracket, end-brace, mark-stop, stop-none, end-stop, values-stop, members-stop, Takes, takes-value, takes-item, takes-byte, takes-digit, bracket-first, bracket-after, comma-after, brace-first, brace-after, comma-member, colon-name, Names, names-first, names-next, move-run, ws-run, mark-run, close-run, name-run, number-run, Judged, number-stops}
-use Rattle.laws.specs.JsonLengths.{ws-length, structural-length, string-length, number-length, value-length, member-length, more-values-length, more-members-length}
-use Rattle.laws.specs.JsonEnds.{fit, fit-trees, fit-named, Ends, arrives, Come, ends-from, ends-then, ends-at, ends-if, ends-unless, items-in-order, members-in-order}
+use Rattle.laws.specs.JsonRuns.{Stop, end-bracket, end-brace, mark-stop, stop-none, end-stop, values-stop, members-stop, Takes, takes-value, takes-item}
+use Rattle.laws.specs.JsonRuns.{takes-byte, takes-digit, bracket-first, bracket-after, comma-after, brace-first, brace-after, comma-member, colon-name}
+use Rattle.laws.specs.JsonRuns.{Names, names-first, names-next, move-run, ws-run, mark-run, close-run, name-run, number-run, Judged, number-stops}
+use Rattle.laws.specs.JsonLengths.{ws-length, structural-length, string-length, number-length}
+use Rattle.laws.specs.JsonLengths.{value-length, member-length, more-values-length, more-members-length}
+use Rattle.laws.specs.JsonEnds.{fit, fit-trees, fit-named, Ends, arrives, Come, ends-from, ends-then}
+use Rattle.laws.specs.JsonEnds.{ends-at, ends-if, ends-unless, items-in-order, members-in-order}
 
 -- ---- tokens
 

@@ -16,9 +16,12 @@ use Rattle.laws.specs.Rfc8259.{ws-char, ws, ws-none, char-of, json-text}
 use Rattle.laws.specs.Steps.{text-stay, Number-steps, number-stay, number-then}
 use Rattle.laws.specs.Causes.{Context, top, in-array, in-object, Before, Before-name, begun}
 use Rattle.laws.specs.NumberTokens.{number-sound, number-live}
-use Rattle.laws.specs.JsonBytes.{is-cases, white-cases, not-space, space-no-digit, Value-byte, quote, bracket, brace, letter-t, letter-f, letter-n, digit, nothing, value-byte}
-use Rattle.laws.specs.JsonContext.{opened, meaning-trees-onto, meaning-named-onto, begun-named, count-array, count-object, count-no-array, count-no-object, count-value, count-member, count-array-end, count-object-end, ws-next, value-close}
-use Rattle.laws.specs.JsonReached.{Reached, at-value, at-item, at-name, at-next, at-behind, in-string, in-name, in-digits, in-word, Starts, Sound, broken-so, goes, begins-value, begins-number, begins-name, ends-text}
+use Rattle.laws.specs.JsonBytes.{is-cases, white-cases, not-space, space-no-digit, Value-byte, quote}
+use Rattle.laws.specs.JsonBytes.{bracket, brace, letter-t, letter-f, letter-n, digit, nothing, value-byte}
+use Rattle.laws.specs.JsonContext.{opened, meaning-trees-onto, meaning-named-onto, begun-named, count-array, count-object, count-no-array}
+use Rattle.laws.specs.JsonContext.{count-no-object, count-value, count-member, count-array-end, count-object-end, ws-next, value-close}
+use Rattle.laws.specs.JsonReached.{Reached, at-value, at-item, at-name, at-next, at-behind, in-string, in-name, in-digits}
+use Rattle.laws.specs.JsonReached.{in-word, Starts, Sound, broken-so, goes, begins-value, begins-number, begins-name, ends-text}
 
 -- ---- bytes that begin a value
 

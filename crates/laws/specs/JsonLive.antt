@@ -9,7 +9,8 @@ use Rattle.definitions.specs.Outcome.{Outcome, ok, refused}
 use Rattle.definitions.specs.Text.{Inside, Text-move, text-step, char-step}
 use Rattle.definitions.specs.Number.{Numeral, number-of, Phase, complete}
 use Rattle.definitions.specs.Value.{Value, Items, no-items, item, items-onto, Members, no-members, member, members-onto, size}
-use Rattle.definitions.specs.Json.{Open, root, in-list, in-rec, Gap, Role, State, put, Move, spell, value-rows, value-move, token-move, gap-move, close-move, text-move, move, end-move, gap-end}
+use Rattle.definitions.specs.Json.{Open, root, in-list, in-rec, Gap, Role, State, put, Move, spell, value-rows}
+use Rattle.definitions.specs.Json.{value-move, token-move, gap-move, close-move, text-move, move, end-move, gap-end}
 use Rattle.laws.specs.Bools.{and-intro}
 use Rattle.laws.specs.Tree.{Tree, Trees, no-trees, tree, Named, no-named, named, meaning, meaning-named}
 use Rattle.laws.specs.Rfc8259.{ws-char, ws-none, JSON-text}
@@ -19,9 +20,11 @@ use Rattle.laws.specs.StringTokens.{string-live}
 use Rattle.laws.specs.NumberTokens.{number-live}
 use Rattle.laws.specs.JsonMoves.{free, ok≢refused, judge-by, scan-by, after, ending, Walk, stay, step, walk-append}
 use Rattle.laws.specs.JsonContext.{opened}
-use Rattle.laws.specs.JsonReached.{Reached, at-value, at-item, at-name, at-next, at-colon, at-behind, in-string, in-name, in-digits, in-word, Sound, broken-so, broken-number-so, goes, begins-value, begins-number, begins-name, ends-name, ends-number, ends-text}
+use Rattle.laws.specs.JsonReached.{Reached, at-value, at-item, at-name, at-next, at-colon, at-behind, in-string, in-name, in-digits, in-word, Sound}
+use Rattle.laws.specs.JsonReached.{broken-so, broken-number-so, goes, begins-value, begins-number, begins-name, ends-name, ends-number, ends-text}
 use Rattle.laws.specs.JsonSound.{move-sound, end-sound}
-use Rattle.laws.specs.JsonRuns.{bracket-first, bracket-after, brace-after, colon-name, Names, names-first, names-next, space-stops, space-move, number-next, number-behind, word-next}
+use Rattle.laws.specs.JsonRuns.{bracket-first, bracket-after, brace-after, colon-name, Names, names-first}
+use Rattle.laws.specs.JsonRuns.{names-next, space-stops, space-move, number-next, number-behind, word-next}
 use Rattle.laws.specs.JsonEnds.{fit, fit-trees, fit-named, ends-arrive}
 use Rattle.laws.specs.JsonForward.{text-forward}
 

@@ -10,7 +10,8 @@ use Rattle.definitions.specs.Bytes.{Bytes}
 use Rattle.definitions.specs.Outcome.{Outcome, ok, refused}
 use Rattle.definitions.specs.Number.{Numeral, beyond}
 use Rattle.definitions.specs.Value.{Value, Members, has-name}
-use Rattle.definitions.specs.Json.{Open, State, Move, broken, broken-number, go, begin-value, begin-number, begin-name, end-name, end-number, end-text, move, end-move, full, judge, scan}
+use Rattle.definitions.specs.Json.{Open, State, Move, broken, broken-number, go, begin-value, begin-number}
+use Rattle.definitions.specs.Json.{begin-name, end-name, end-number, end-text, move, end-move, full, judge, scan}
 
 -- ---- tests
 

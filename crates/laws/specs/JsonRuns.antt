@@ -10,14 +10,16 @@ use Rattle.definitions.specs.Outcome.{Outcome, refused}
 use Rattle.definitions.specs.Text.{Inside, text-step, char-step}
 use Rattle.definitions.specs.Number.{Numeral, no-digits, number-of, Phase, begin, next, int-rows, e-rows, complete, extend}
 use Rattle.definitions.specs.Value.{Value, Items, no-items, items-onto, Members, no-members, members-onto}
-use Rattle.definitions.specs.Json.{Open, in-list, in-rec, Gap, Role, State, put, Move, spell, value-move, name-move, token-move, gap-move, close-move, text-move, number-end, move, gap-end, end-move}
+use Rattle.definitions.specs.Json.{Open, in-list, in-rec, Gap, Role, State, put, Move, spell, value-move, name-move}
+use Rattle.definitions.specs.Json.{token-move, gap-move, close-move, text-move, number-end, move, gap-end, end-move}
 use Rattle.laws.specs.Tree.{Trees, Named}
 use Rattle.laws.specs.Rfc8259 as Rfc
 use Rattle.laws.specs.Rfc8259.{ws-char, ws, ws-none, ws-more, structural, char-of}
 use Rattle.laws.specs.Steps.{Text-steps, text-stay, text-then, Number-steps, number-stay, number-then}
 use Rattle.laws.specs.StringTokens.{chars-steps}
 use Rattle.laws.specs.Ranges.{eq-eqb}
-use Rattle.laws.specs.JsonBytes.{pick-true, pick-false, pick-none, pick-some, is-cases, white-cases, space-white, space-no-digit, Value-byte, quote, bracket, brace, letter-t, letter-f, letter-n, digit, nothing, value-byte}
+use Rattle.laws.specs.JsonBytes.{pick-true, pick-false, pick-none, pick-some, is-cases, white-cases, space-white, space-no-digit}
+use Rattle.laws.specs.JsonBytes.{Value-byte, quote, bracket, brace, letter-t, letter-f, letter-n, digit, nothing, value-byte}
 use Rattle.laws.specs.JsonMoves.{Tests, judge-by, scan-by}
 
 -- ---- where a number ends

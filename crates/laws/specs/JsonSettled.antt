@@ -14,7 +14,8 @@ use Rattle.definitions.specs.Bytes.{Bytes, bytes, between, look, is, white, whi
 use Rattle.definitions.specs.Outcome.{Outcome, refused}
 use Rattle.definitions.specs.Number.{Numeral, no-digits, beyond, number-of, Phase, begin, next, complete, extend}
 use Rattle.definitions.specs.Value.{Value}
-use Rattle.definitions.specs.Json.{Open, Gap, State, put, Move, spell, true-name, false-name, null-name, value-rows, value-move, gap-move, gap-end, number-end, move, end-move, depth, full}
+use Rattle.definitions.specs.Json.{Open, Gap, State, put, Move, spell, true-name, false-name, null-name, value-rows}
+use Rattle.definitions.specs.Json.{value-move, gap-move, gap-end, number-end, move, end-move, depth, full}
 use Rattle.laws.specs.Bools.{or-left, or-right}
 use Rattle.laws.specs.Tree.{Tree, meaning-named}
 use Rattle.laws.specs.Rfc8259 as Rfc

@@ -22,8 +22,10 @@ use Rattle.laws.specs.StringTokens.{chars-sound}
 use Rattle.laws.specs.NumberTokens.{number-sound}
 use Rattle.laws.specs.Ranges.{eqb-eq}
 use Rattle.laws.specs.JsonContext.{opened, begun-named, count-scalar, ws-next, before-next, before-name-next}
-use Rattle.laws.specs.JsonReached.{Reached, at-value, at-item, at-name, at-next, at-colon, at-behind, in-string, in-name, in-digits, in-word, Starts, Sound, broken-so, broken-number-so, goes, ends-name, ends-number}
-use Rattle.laws.specs.JsonGaps.{starts-number, gap-sound, value-sound, name-sound, item-sound, first-name-sound, colon-sound, gap-behind-sound, end-behind-sound}
+use Rattle.laws.specs.JsonReached.{Reached, at-value, at-item, at-name, at-next, at-colon, at-behind, in-string, in-name}
+use Rattle.laws.specs.JsonReached.{in-digits, in-word, Starts, Sound, broken-so, broken-number-so, goes, ends-name, ends-number}
+use Rattle.laws.specs.JsonGaps.{starts-number, gap-sound, value-sound, name-sound, item-sound}
+use Rattle.laws.specs.JsonGaps.{first-name-sound, colon-sound, gap-behind-sound, end-behind-sound}
 
 -- ---- moves inside tokens
 

@@ -5,7 +5,8 @@ use mathlib.Core.List.{List, [], _∷_, reverse}
 use mathlib.Core.Option.{Option, none, some}
 use Rattle.definitions.specs.Bytes.{Bytes, look}
 use Rattle.definitions.specs.Text.{Inside, Text-move, wrong, more, closed, text-step}
-use Rattle.definitions.specs.Tokens.{Token, opening, closing, quoted, word, broken, Placed, at-place, Border, space, bracket-open, bracket-close, quote, border-table, Partial, no-word, word-from, Lexing, outside, inside, ended, longer, lex, tokens}
+use Rattle.definitions.specs.Tokens.{Token, opening, closing, quoted, word, broken, Placed, at-place, Border, space, bracket-open, bracket-close}
+use Rattle.definitions.specs.Tokens.{quote, border-table, Partial, no-word, word-from, Lexing, outside, inside, ended, longer, lex, tokens}
 use Rattle.laws.specs.Rfc3629.{UTF8-octets}
 use Rattle.laws.specs.Steps.{Text-steps, text-stay, text-then, text-steps-append}
 use Rattle.laws.specs.StringSteps.{step-closed}

@@ -7,10 +7,10 @@ use mathlib.Core.Option.{Option, none, some}
 use Rattle.definitions.specs.Bytes.{Bytes, bytes, look, between, is}
 use Rattle.definitions.specs.Text.{Inside, text-step, char-step}
 use Rattle.definitions.specs.Plain.{escaped-all, plain-text}
-use Rattle.definitions.specs.Tokens.{opening, closing, quoted, word, at-place, border-table, Border, Partial, no-word, word-from, outside, inside, ended, longer, lex}
+use Rattle.definitions.specs.Tokens.{opening, closing, quoted, word, at-place, border-table, Border}
+use Rattle.definitions.specs.Tokens.{Partial, no-word, word-from, outside, inside, ended, longer, lex}
 use Rattle.laws.specs.Bools.{clash}
 use Rattle.laws.specs.Rfc3629.{UTF8-octets}
-use Rattle.laws.specs.Rfc8259.{chars}
 use Rattle.laws.specs.Steps.{Text-steps, text-stay, text-then}
 use Rattle.laws.specs.StringTokens.{chars-steps}
 use Rattle.laws.specs.StringRound.{escaped-chars}

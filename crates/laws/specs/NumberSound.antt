@@ -5,11 +5,13 @@ use mathlib.Core.Bool.{Bool, true, false, false≢true}
 use mathlib.Core.List.{_∷_, _++_}
 use native.Mathlib.Omega.{arith}
 use Rattle.definitions.specs.Bytes.{Bytes}
-use Rattle.definitions.specs.Number.{Numeral, no-digits, shifted, Phase, begin, after-minus, after-zero, in-int, after-point, in-frac, after-e, after-sign, in-exp, complete, extend}
+use Rattle.definitions.specs.Number.{Numeral, no-digits, shifted, Phase, begin, after-minus, after-zero, in-int}
+use Rattle.definitions.specs.Number.{after-point, in-frac, after-e, after-sign, in-exp, complete, extend}
 use Rattle.laws.specs.Rfc3629.{In}
 use Rattle.laws.specs.Rfc8259 as Rfc
 use Rattle.laws.specs.NumberSteps.{Walk, stay, step, signed}
-use Rattle.laws.specs.NumberSteps.{minus, zero-first, digit-first, minus-zero, minus-digit, zero-point, zero-e, int-digit, int-point, int-e, point-digit, frac-digit, frac-e, e-minus, e-plus, e-digit, sign-digit, exp-digit}
+use Rattle.laws.specs.NumberSteps.{minus, zero-first, digit-first, minus-zero, minus-digit, zero-point, zero-e, int-digit, int-point}
+use Rattle.laws.specs.NumberSteps.{int-e, point-digit, frac-digit, frac-e, e-minus, e-plus, e-digit, sign-digit, exp-digit}
 
 -- a numeral by its parts
 record Reads (f : Numeral) (m : Bool) (c s : ℕ) (x : Bool) : Type 0 where

@@ -8,7 +8,8 @@ use mathlib.Core.List.{[], _∷_}
 use mathlib.Core.Option.{some}
 use native.Mathlib.Omega.{arith}
 use Rattle.definitions.specs.Bytes.{Bytes, look}
-use Rattle.definitions.specs.Number.{Numeral, Phase, begin, after-minus, after-zero, in-int, after-point, in-frac, after-e, after-sign, in-exp, next, e-rows, int-rows, extend}
+use Rattle.definitions.specs.Number.{Numeral, Phase, begin, after-minus, after-zero, in-int, after-point}
+use Rattle.definitions.specs.Number.{in-frac, after-e, after-sign, in-exp, next, e-rows, int-rows, extend}
 use Rattle.laws.specs.Ranges.{Hit, here, there, look-hit, Hits, hits-look, at-one, one-in}
 use Rattle.laws.specs.Rfc3629.{In}
 use Rattle.laws.specs.Rfc8259 as Rfc

@@ -8,12 +8,14 @@ use mathlib.Core.Option.{none, some, Option·some-injective, Option·none-ne-som
 use native.Mathlib.Omega.{arith}
 use lib.ListN.{length, length-append}
 use Rattle.definitions.specs.Bytes.{Bytes, look}
-use Rattle.definitions.specs.Number.{Numeral, no-digits, shifted, Phase, begin, after-minus, after-zero, in-int, after-point, in-frac, after-e, after-sign, in-exp, next, complete, extend}
+use Rattle.definitions.specs.Number.{Numeral, no-digits, shifted, Phase, begin, after-minus, after-zero, in-int}
+use Rattle.definitions.specs.Number.{after-point, in-frac, after-e, after-sign, in-exp, next, complete, extend}
 use Rattle.laws.specs.Rfc3629.{In}
 use Rattle.laws.specs.Rfc8259 as Rfc
 use Rattle.laws.specs.Steps.{Number-steps, number-stay, number-then, number-steps-append}
 use Rattle.laws.specs.NumberSteps.{Step, walk, num, signed, look-step, step-look}
-use Rattle.laws.specs.NumberSteps.{minus, zero-first, digit-first, minus-zero, minus-digit, zero-point, zero-e, int-digit, int-point, int-e, point-digit, frac-digit, frac-e, e-minus, e-plus, e-digit, sign-digit, exp-digit}
+use Rattle.laws.specs.NumberSteps.{minus, zero-first, digit-first, minus-zero, minus-digit, zero-point, zero-e, int-digit, int-point}
+use Rattle.laws.specs.NumberSteps.{int-e, point-digit, frac-digit, frac-e, e-minus, e-plus, e-digit, sign-digit, exp-digit}
 use Rattle.laws.specs.NumberSound.{begin-sound}
 
 -- bytes that were stepped through to where a number may end are one

@@ -5,7 +5,8 @@ use mathlib.Core.Logic.{_⊎_, inl, inr}
 use mathlib.Core.Bool.{Bool, true, false}
 use mathlib.Core.Option.{Option, none, some}
 use Rattle.definitions.specs.Bytes.{Bytes, same}
-use Rattle.definitions.specs.Shape.{Numeric, Shape, shape, Element, no-list, list-of, Record, no-rec, rec-of, Fields, no-fields, field, element-of, record-of, find, ascending, ascending-element, ascending-record, ascending-fields}
+use Rattle.definitions.specs.Shape.{Numeric, Shape, shape, Element, no-list, list-of, Record, no-rec, rec-of, Fields, no-fields, field}
+use Rattle.definitions.specs.Shape.{element-of, record-of, find, ascending, ascending-element, ascending-record, ascending-fields}
 use Rattle.laws.specs.Bools.{and-left, and-right, and-intro, tell}
 use Rattle.laws.specs.Fields.{find-here, find-there, ascending-first, ascending-rest}
 

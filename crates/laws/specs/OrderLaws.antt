@@ -1,12 +1,16 @@
 -- The order of shapes is a partial order with `nothing` at the bottom. Assumes nothing.
-use mathlib.Core.Path.{_≡_, refl, sym, ap}
-use mathlib.Core.Bool.{Bool, true, false, true≢false, false≢true}
+use mathlib.Core.Path.{_≡_, refl, ap}
+use mathlib.Core.Bool.{true, true≢false, false≢true}
 use mathlib.Core.Option.{Option, none, some}
-use Rattle.definitions.specs.Shape.{Kind, all-kinds, every, Numeric, no-number, int-only, int-and-dec, Shape, shape, Element, no-list, list-of, Record, no-rec, rec-of, nothing, has, has-int, has-dec, has-list, has-rec, element-of, record-of, find, ascending, ascending-element, ascending-record}
+use Rattle.definitions.specs.Shape.{Kind, all-kinds, every, Numeric, no-number, int-only, int-and-dec, Shape, shape, Element}
+use Rattle.definitions.specs.Shape.{no-list, list-of, Record, no-rec, rec-of, nothing, has, has-int, has-dec, has-list}
+use Rattle.definitions.specs.Shape.{has-rec, element-of, record-of, find, ascending, ascending-element, ascending-record}
 use Rattle.definitions.specs.Order.{kinds-in, below}
 use Rattle.laws.specs.Fields.{fields-ext}
-use Rattle.laws.specs.OrderInduction.{InOption, InElement, InRecord, Step, shape-induction, in-found, Ascending, ascending-of-element, ascending-of-record, ascending-found}
+use Rattle.laws.specs.OrderInduction.{InOption, InElement, InRecord, Step, shape-induction, in-found}
+use Rattle.laws.specs.OrderInduction.{Ascending, ascending-of-element, ascending-of-record, ascending-found}
 use Rattle.laws.specs.OrderParts.{Kinds, Elements, AtName, Records, below-kinds, below-elements, below-records, below-intro}
+use Rattle.laws.specs.Bools.{bool-eq}
 
 pub nothing-below : (s : Shape) → below nothing s ≡ true
 unfolding below nothing kinds-in every all-kinds has has-int has-dec has-list has-rec
@@ -131,11 +135,6 @@ unfolding Transitive
 below-trans s = shape-induction s Transitive transitive
 
 -- ---- antisymmetric
-
-bool-eq : (a b : Bool) → (a ≡ true → b ≡ true) → (b ≡ true → a ≡ true) → a ≡ b
-bool-eq true b f g = sym (f refl)
-bool-eq false true f g = g refl
-bool-eq false false f g = refl
 
 numeric-eq : (m k : Numeric) → has-int m ≡ has-int k → has-dec m ≡ has-dec k → m ≡ k
 unfolding has-int has-dec

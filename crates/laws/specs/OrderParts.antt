@@ -5,9 +5,10 @@ use mathlib.Core.Bool.{Bool, true, false, not, _&&_, _||_, false≢true}
 use mathlib.Core.List.{List, [], _∷_}
 use mathlib.Core.Option.{Option, none, some}
 use Rattle.definitions.specs.Bytes.{Bytes, found}
-use Rattle.definitions.specs.Shape.{Kind, all-kinds, every, Shape, shape, Element, no-list, list-of, Record, no-rec, rec-of, Fields, no-fields, field, has, element-of, record-of, find, ascending, ascending-record, ascending-fields}
+use Rattle.definitions.specs.Shape.{Kind, all-kinds, every, Shape, shape, Element, no-list, list-of, Record, no-rec, rec-of, Fields}
+use Rattle.definitions.specs.Shape.{no-fields, field, has, element-of, record-of, find, ascending, ascending-record, ascending-fields}
 use Rattle.definitions.specs.Order.{kinds-in, lacked-have-null, below, below-element, below-record, below-fields}
-use Rattle.laws.specs.Bools.{and-left, and-right, and-intro}
+use Rattle.laws.specs.Bools.{and-left, and-right, and-intro, implied}
 use Rattle.laws.specs.Fields.{none-some, find-first, find-none, find-rest, find-cases, ascending-rest}
 use Rattle.laws.specs.OrderInduction.{ascending-of-record}
 
@@ -32,14 +33,13 @@ unfolding every
 every-at p k _ (here {ks}) h = and-left (p k) (every p ks) h
 every-at p k _ (there {j} {ks} i) h = every-at p k ks i (and-right (p j) (every p ks) h)
 
-every-intro : (p : Kind → Bool) (ks : List Kind) → ((k : Kind) → p k ≡ true) → every p ks ≡ true
+pub every-kind : (p : Kind → Bool) → every p all-kinds ≡ true → (k : Kind) → p k ≡ true
+every-kind p h k = every-at p k all-kinds (listed k) h
+
+pub every-intro : (p : Kind → Bool) (ks : List Kind) → ((k : Kind) → p k ≡ true) → every p ks ≡ true
 unfolding every
 every-intro p [] h = refl
 every-intro p (k ∷ ks) h = and-intro (h k) (every-intro p ks h)
-
-imply-use : (a b : Bool) → not a || b ≡ true → a ≡ true → b ≡ true
-imply-use true b h e = h
-imply-use false b h e = absurd (false≢true e)
 
 imply-intro : (a b : Bool) → (a ≡ true → b ≡ true) → not a || b ≡ true
 imply-intro true b h = h refl
@@ -51,7 +51,7 @@ Kinds s t = (k : Kind) → has k s ≡ true → has k t ≡ true
 
 kinds-use : (s t : Shape) → kinds-in s t ≡ true → Kinds s t
 unfolding kinds-in
-kinds-use s t h k = imply-use (has k s) (has k t) (every-at (λ j. not (has j s) || has j t) k all-kinds (listed k) h)
+kinds-use s t h k = implied (has k s) (has k t) (every-kind (λ j. not (has j s) || has j t) h k)
 
 kinds-intro : (s t : Shape) → Kinds s t → kinds-in s t ≡ true
 unfolding kinds-in

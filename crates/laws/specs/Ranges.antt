@@ -1,13 +1,13 @@
 -- Tests on bytes and tables of ranges (definitions' Bytes), both directions: a test passes, or a table's row is found,
 -- exactly where the byte lies in the range. Assumes nothing.
-use Prim.Native.Nat.{ℕ, suc, _≤_, _<_}
+use Prim.Native.Nat.{ℕ}
 use Prim.Native.Char.{Char, code}
 use mathlib.Core.Path.{_≡_, refl, sym, ap, subst}
 use mathlib.Core.Logic.{_⊎_, inl, inr}
-use mathlib.Core.Bool.{Bool, true, false, not, true≢false, false≢true}
+use mathlib.Core.Bool.{Bool, true, false}
 use mathlib.Core.List.{List, [], _∷_}
 use mathlib.Core.Option.{some, Option·some-injective, Option·none-ne-some}
-use lib.Dec.{leb, eqb}
+use lib.Dec.{leb}
 use native.Mathlib.Omega.{arith}
 use Rattle.definitions.specs.Bytes.{Row, row, between, look, is}
 use Rattle.laws.specs.Bools.{clash, and-left, and-right, and-intro}

@@ -9,16 +9,24 @@ use lib.Dec.{ltb, eqb}
 use Rattle.definitions.specs.Bytes.{Bytes, same}
 use Rattle.definitions.specs.Number.{Numeral, no-digits, beyond, number-of, begin, spelled}
 use Rattle.definitions.specs.Value.{Value}
-use Rattle.definitions.specs.Reader.{Place, Result, Pairs, no-pairs, pair, pack-part, Around, text-end, in-form, tests, place-end, in-field, in-result, place-open, place-word, it-index, field-name, place-close, result-open, result-word, when-test, num-number, str-text, pack-name, result-close, State, want, whole-place, whole-result, put-place, use-result, put-result, depth, place-depth, binds, bindings, place-bindings, word-number, index-fits, among-pairs, pairs-onto, test-words, place-words, result-words, index-step, literal-step, pack-step, want-step, step}
+use Rattle.definitions.specs.Reader.{Place, Result, Pairs, no-pairs, pair, pack-part, Around, text-end, in-form, tests, place-end, in-field}
+use Rattle.definitions.specs.Reader.{in-result, place-open, place-word, it-index, field-name, place-close, result-open, result-word, when-test}
+use Rattle.definitions.specs.Reader.{num-number, str-text, pack-name, result-close, State, want, whole-place, whole-result, put-place, use-result}
+use Rattle.definitions.specs.Reader.{put-result, depth, place-depth, binds, bindings, place-bindings, word-number, index-fits, among-pairs}
+use Rattle.definitions.specs.Reader.{pairs-onto, test-words, place-words, result-words, index-step, literal-step, pack-step, want-step, step}
 use Rattle.definitions.specs.Tokens.{Token, opening, closing, quoted, word, broken, Placed, go, opens, where-some}
 use Rattle.laws.specs.Bools.{and-left, and-right, or-false-left, or-false-right, not-true}
 use Rattle.laws.specs.Names.{same-sym}
 use Rattle.laws.specs.NumberWords.{spelled-number}
-use Rattle.laws.specs.FormGrammar.{at, name, Number-word, number-word, Index-word, index-word, int-word, dec-word, bool-word, text-word, null-test, bool-test, int-test, num-test, text-test, list-test, rec-test, Place-form, Result-form, no-pair, next-pair}
+use Rattle.laws.specs.FormGrammar.{at, name, Number-word, number-word, Index-word, index-word, int-word, dec-word, bool-word, text-word, null-test}
+use Rattle.laws.specs.FormGrammar.{bool-test, int-test, num-test, text-test, list-test, rec-test, Place-form, Result-form, no-pair, next-pair}
 use Rattle.laws.specs.Tests.{ltb-lt, eqb-eq}
 use Rattle.laws.specs.FormRuns.{Walk, none-over}
 use Rattle.laws.specs.FormSteps.{Back, walk-back, open-back, close-back, text-back, word-back, true-back, some-back, named-back}
-use Rattle.laws.specs.ReaderRests.{Apart, Rest, rest-whole-place, rest-whole-result, rest-place, rest-index, rest-field, rest-place-close, rest-result, rest-test, rest-num, rest-str, rest-pack, rest-close, it-begins, field-begins, place-begins, convert-begins, keep-begins, count-begins, each-begins, when-begins, if-begins, num-begins, str-begins, yes-begins, no-begins, none-begins, pack-begins, result-begins}
+use Rattle.laws.specs.ReaderRests.{Apart, Rest, rest-whole-place, rest-whole-result, rest-place, rest-index, rest-field}
+use Rattle.laws.specs.ReaderRests.{rest-place-close, rest-result, rest-test, rest-num, rest-str, rest-pack, rest-close, it-begins}
+use Rattle.laws.specs.ReaderRests.{field-begins, place-begins, convert-begins, keep-begins, count-begins, each-begins, when-begins}
+use Rattle.laws.specs.ReaderRests.{if-begins, num-begins, str-begins, yes-begins, no-begins, none-begins, pack-begins, result-begins}
 
 -- ---- what a step does, from behind
 

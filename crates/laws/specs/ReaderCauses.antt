@@ -9,7 +9,8 @@ use native.Mathlib.Omega.{arith}
 use Rattle.definitions.specs.declared.Limits.{Limits}
 use Rattle.definitions.specs.Bytes.{Bytes}
 use Rattle.definitions.specs.Outcome.{ok, refused}
-use Rattle.definitions.specs.Reader.{Place, Result, text-end, place-end, place-open, result-open, State, want, whole-place, whole-result, depth, place-depth, step, finished-result, finished-place, read-reader, read-place}
+use Rattle.definitions.specs.Reader.{Place, Result, text-end, place-end, place-open, result-open, State, want, whole-place}
+use Rattle.definitions.specs.Reader.{whole-result, depth, place-depth, step, finished-result, finished-place, read-reader, read-place}
 use Rattle.definitions.specs.Tokens.{Placed, tokens, opens}
 use Rattle.laws.specs.Causes.{First}
 use Rattle.laws.specs.FormGrammar.{Result-form, Reader-text, Place-text, result-forms}

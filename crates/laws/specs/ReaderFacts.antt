@@ -11,7 +11,8 @@ use Rattle.definitions.specs.Tokens.{Placed}
 use Rattle.laws.specs.Bools.{and-intro, not-false}
 use Rattle.laws.specs.Distinct.{distinct}
 use Rattle.laws.specs.Readers.{scoped-place, scoped, scoped-pairs, proper, proper-pairs}
-use Rattle.laws.specs.FormGrammar.{index-word, Place-form, it-form, field-form, Result-form, convert-form, keep-form, count-form, each-form, when-form, if-form, num-form, str-form, yes-form, no-form, none-form, pack-form, Pairs-form, no-pair, next-pair}
+use Rattle.laws.specs.FormGrammar.{index-word, Place-form, it-form, field-form, Result-form, convert-form, keep-form, count-form, each-form}
+use Rattle.laws.specs.FormGrammar.{when-form, if-form, num-form, str-form, yes-form, no-form, none-form, pack-form, Pairs-form, no-pair, next-pair}
 use Rattle.laws.specs.Tests.{lt-ltb}
 use Rattle.laws.specs.ReaderForms.{reader-accepted-to}
 

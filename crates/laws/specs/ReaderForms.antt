@@ -8,7 +8,9 @@ use native.Mathlib.Omega.{arith}
 use Rattle.definitions.specs.declared.Limits.{Limits}
 use Rattle.definitions.specs.Bytes.{Bytes}
 use Rattle.definitions.specs.Outcome.{ok}
-use Rattle.definitions.specs.Reader.{Place, Result, text-end, place-end, place-open, result-open, State, want, whole-place, whole-result, put-place, put-result, depth, place-depth, bindings, place-bindings, step, finished-result, finished-place, empty-reader, read-result, read-reader, read-place}
+use Rattle.definitions.specs.Reader.{Place, Result, text-end, place-end, place-open, result-open, State, want, whole-place}
+use Rattle.definitions.specs.Reader.{whole-result, put-place, put-result, depth, place-depth, bindings, place-bindings, step}
+use Rattle.definitions.specs.Reader.{finished-result, finished-place, empty-reader, read-result, read-reader, read-place}
 use Rattle.definitions.specs.Tokens.{Placed, tokens, or-end, read-tokens}
 use Rattle.laws.specs.FormGrammar.{Place-form, Result-form, place-forms, result-forms, place-levels, result-levels}
 use Rattle.laws.specs.FormRuns.{Walk, walk-unique, most, Fits, Accepted, read-accepted, read-along}

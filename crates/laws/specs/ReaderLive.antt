@@ -3,17 +3,21 @@ use Prim.Native.Nat.{ℕ, _<_}
 use mathlib.Core.Path.{_≡_, refl}
 use mathlib.Core.Bool.{Bool, true, false}
 use mathlib.Core.List.{List, [], _∷_}
-use mathlib.Core.Option.{none}
 use native.Mathlib.Omega.{arith}
 use Rattle.definitions.specs.Bytes.{bytes}
 use Rattle.definitions.specs.Number.{no-digits, beyond, number-of, most-coefficient, most-scale}
 use Rattle.definitions.specs.Value.{Value}
-use Rattle.definitions.specs.Reader.{Place, Test, Result, no-pairs, pair, each-body, when-first, when-second, if-first, if-second, if-third, pack-part, Around, text-end, in-form, Place-use, converts, keeps, counts, maps, tests, Place-around, place-end, in-field, in-result, place-open, place-word, it-index, field-name, place-close, result-open, result-word, when-test, num-number, str-text, pack-name, result-close, State, want, whole-place, whole-result, use-place, put-place, use-result, put-result, binds, bindings, place-bindings, pairs-onto, step}
+use Rattle.definitions.specs.Reader.{Place, Test, Result, no-pairs, pair, each-body, when-first, when-second, if-first, if-second, if-third}
+use Rattle.definitions.specs.Reader.{pack-part, Around, text-end, in-form, Place-use, converts, keeps, counts, maps, tests, Place-around}
+use Rattle.definitions.specs.Reader.{place-end, in-field, in-result, place-open, place-word, it-index, field-name, place-close, result-open}
+use Rattle.definitions.specs.Reader.{result-word, when-test, num-number, str-text, pack-name, result-close, State, want, whole-place, whole-result}
+use Rattle.definitions.specs.Reader.{use-place, put-place, use-result, put-result, binds, bindings, place-bindings, pairs-onto, step}
 use Rattle.definitions.specs.Tokens.{opening, closing, quoted, word, Placed, go, opens}
 use Rattle.laws.specs.Rfc8259 as Rfc
 use Rattle.laws.specs.FormGrammar.{at, Number-word, number-word, number-meant, Index-word, index-word, null-test}
 use Rattle.laws.specs.FormRuns.{Walk, stay, on, enter}
-use Rattle.laws.specs.ReaderSteps.{place-opens, it-named, field-called, place-closed, index-goes, result-opens, result-closed, none-named, test-named, number-goes, text-goes, pack-closed}
+use Rattle.laws.specs.ReaderSteps.{place-opens, it-named, field-called, place-closed, index-goes, result-opens}
+use Rattle.laws.specs.ReaderSteps.{result-closed, none-named, test-named, number-goes, text-goes, pack-closed}
 
 -- ---- what a state is part of
 

@@ -8,7 +8,12 @@ use native.Mathlib.Omega.{arith}
 use Rattle.definitions.specs.Bytes.{Bytes}
 use Rattle.definitions.specs.Number.{number-of}
 use Rattle.definitions.specs.Value.{Value}
-use Rattle.definitions.specs.Reader.{Place, Result, Pairs, no-pairs, each-body, when-first, when-second, if-first, if-second, if-third, pack-part, Around, text-end, in-form, converts, keeps, counts, maps, tests, Place-around, place-end, in-field, in-result, place-open, place-word, it-index, field-name, place-close, result-open, result-word, when-test, num-number, str-text, pack-name, result-close, State, want, whole-place, whole-result, use-place, put-place, use-result, put-result, depth, place-depth, place-bindings, word-number, index-fits, among-pairs, pairs-onto, test-words, place-words, result-words, index-step, literal-step, pack-step, want-step, step}
+use Rattle.definitions.specs.Reader.{Place, Result, Pairs, no-pairs, each-body, when-first, when-second, if-first, if-second, if-third}
+use Rattle.definitions.specs.Reader.{pack-part, Around, text-end, in-form, converts, keeps, counts, maps, tests, Place-around, place-end}
+use Rattle.definitions.specs.Reader.{in-field, in-result, place-open, place-word, it-index, field-name, place-close, result-open, result-word}
+use Rattle.definitions.specs.Reader.{when-test, num-number, str-text, pack-name, result-close, State, want, whole-place, whole-result, use-place}
+use Rattle.definitions.specs.Reader.{put-place, use-result, put-result, depth, place-depth, place-bindings, word-number, index-fits, among-pairs}
+use Rattle.definitions.specs.Reader.{pairs-onto, test-words, place-words, result-words, index-step, literal-step, pack-step, want-step, step}
 use Rattle.definitions.specs.Tokens.{Token, opening, closing, quoted, word, broken, Placed, go, opens, where-some}
 use Rattle.laws.specs.FormRuns.{Walk, stay, on, enter}
 use Rattle.laws.specs.FormSteps.{Each, Says, open-says, close-says, text-says, word-says, true-says, some-says, named-says, says-go, says-opens}

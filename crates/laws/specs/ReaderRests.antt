@@ -3,13 +3,18 @@ use Prim.Native.Nat.{ℕ, suc}
 use mathlib.Core.Path.{_≡_}
 use mathlib.Core.Bool.{true, false}
 use mathlib.Core.List.{List, [], _∷_}
-use mathlib.Core.Option.{none}
 use Rattle.definitions.specs.Bytes.{Bytes, bytes}
 use Rattle.definitions.specs.Number.{Numeral, number-of}
 use Rattle.definitions.specs.Value.{Value}
-use Rattle.definitions.specs.Reader.{Place, Conversion, Test, Result, Pairs, no-pairs, pair, each-body, when-first, when-second, if-first, if-second, if-third, Around, in-form, converts, keeps, counts, maps, tests, Place-around, in-field, in-result, place-open, place-word, it-index, field-name, place-close, result-open, result-word, when-test, num-number, str-text, pack-name, result-close, State, want, whole-place, whole-result, use-place, put-place, use-result, put-result, binds, bindings, place-bindings, among-pairs, pairs-onto}
+use Rattle.definitions.specs.Reader.{Place, Conversion, Test, Result, Pairs, no-pairs, pair, each-body, when-first, when-second, if-first}
+use Rattle.definitions.specs.Reader.{if-second, if-third, Around, in-form, converts, keeps, counts, maps, tests, Place-around, in-field}
+use Rattle.definitions.specs.Reader.{in-result, place-open, place-word, it-index, field-name, place-close, result-open, result-word}
+use Rattle.definitions.specs.Reader.{when-test, num-number, str-text, pack-name, result-close, State, want, whole-place, whole-result}
+use Rattle.definitions.specs.Reader.{use-place, put-place, use-result, put-result, binds, bindings, place-bindings, among-pairs, pairs-onto}
 use Rattle.definitions.specs.Tokens.{opening, closing, quoted, word, Placed}
-use Rattle.laws.specs.FormGrammar.{at, head, Number-word, number-meant, Index-word, Conversion-word, Test-word, Place-form, it-form, field-form, Result-form, convert-form, keep-form, count-form, each-form, when-form, if-form, num-form, str-form, yes-form, no-form, none-form, pack-form, Pairs-form}
+use Rattle.laws.specs.FormGrammar.{at, head, Number-word, number-meant, Index-word, Conversion-word, Test-word, Place-form}
+use Rattle.laws.specs.FormGrammar.{it-form, field-form, Result-form, convert-form, keep-form, count-form, each-form, when-form}
+use Rattle.laws.specs.FormGrammar.{if-form, num-form, str-form, yes-form, no-form, none-form, pack-form, Pairs-form}
 
 -- ---- what may still come
 

@@ -2,16 +2,22 @@
 use Prim.Native.Nat.{ℕ, suc, _<_}
 use mathlib.Core.Path.{_≡_, refl}
 use mathlib.Core.Bool.{true, false}
-use mathlib.Core.Option.{none, some}
+use mathlib.Core.Option.{some}
 use native.Mathlib.Omega.{arith}
 use Rattle.definitions.specs.Bytes.{Bytes, bytes, order, same}
 use Rattle.definitions.specs.Number.{Number, Numeral}
 use Rattle.definitions.specs.Value.{Value}
-use Rattle.definitions.specs.Reader.{Place, Conversion, Test, Result, Pairs, no-pairs, if-first, pack-part, Around, in-form, converts, keeps, counts, maps, tests, Place-around, in-field, in-result, place-open, place-word, it-index, field-name, place-close, result-open, result-word, when-test, num-number, str-text, pack-name, result-close, want, put-place, put-result, depth, place-depth, place-bindings, word-number, index-fits, among-pairs, pairs-onto, test-words, place-words, result-words, index-step, literal-step, pack-step, want-step, step}
-use Rattle.definitions.specs.Tokens.{opening, closing, quoted, word, go, opens, want-open, want-close, want-text, want-word, want-named, where-true, where-some, look-word}
+use Rattle.definitions.specs.Reader.{Place, Conversion, Test, Result, Pairs, no-pairs, if-first, pack-part, Around, in-form, converts, keeps}
+use Rattle.definitions.specs.Reader.{counts, maps, tests, Place-around, in-field, in-result, place-open, place-word, it-index, field-name}
+use Rattle.definitions.specs.Reader.{place-close, result-open, result-word, when-test, num-number, str-text, pack-name, result-close, want}
+use Rattle.definitions.specs.Reader.{put-place, put-result, depth, place-depth, place-bindings, word-number, index-fits, among-pairs}
+use Rattle.definitions.specs.Reader.{pairs-onto, test-words, place-words, result-words, index-step, literal-step, pack-step, want-step, step}
+use Rattle.definitions.specs.Tokens.{opening, closing, quoted, word, go, opens, want-open, want-close}
+use Rattle.definitions.specs.Tokens.{want-text, want-word, want-named, where-true, where-some, look-word}
 use Rattle.laws.specs.Bools.{and-intro, not-false}
 use Rattle.laws.specs.NumberWords.{number-spelled}
-use Rattle.laws.specs.FormGrammar.{at, Number-word, number-word, Number-meant, number-meant, Index-word, index-word, Conversion-word, int-word, dec-word, bool-word, text-word, Test-word, null-test, bool-test, int-test, num-test, text-test, list-test, rec-test}
+use Rattle.laws.specs.FormGrammar.{at, Number-word, number-word, Number-meant, number-meant, Index-word, index-word, Conversion-word, int-word}
+use Rattle.laws.specs.FormGrammar.{dec-word, bool-word, text-word, Test-word, null-test, bool-test, int-test, num-test, text-test, list-test, rec-test}
 use Rattle.laws.specs.Tests.{eq-eqb, lt-ltb}
 
 -- ---- steps that lead on: places

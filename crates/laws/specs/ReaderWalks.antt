@@ -5,16 +5,22 @@ use mathlib.Core.Bool.{true, false}
 use mathlib.Core.List.{List, [], _∷_}
 use Rattle.definitions.specs.Bytes.{Bytes, same}
 use Rattle.definitions.specs.Value.{Value}
-use Rattle.definitions.specs.Reader.{Place, Result, Pairs, no-pairs, pair, each-body, when-first, when-second, if-first, if-second, if-third, pack-part, Around, in-form, converts, keeps, counts, maps, tests, Place-around, in-field, in-result, place-open, result-open, pack-name, want, use-place, put-place, use-result, put-result, depth, place-depth, binds, bindings, place-bindings, among-pairs, pairs-onto, step}
+use Rattle.definitions.specs.Reader.{Place, Result, Pairs, no-pairs, pair, each-body, when-first, when-second, if-first, if-second}
+use Rattle.definitions.specs.Reader.{if-third, pack-part, Around, in-form, converts, keeps, counts, maps, tests, Place-around}
+use Rattle.definitions.specs.Reader.{in-field, in-result, place-open, result-open, pack-name, want, use-place, put-place, use-result}
+use Rattle.definitions.specs.Reader.{put-result, depth, place-depth, binds, bindings, place-bindings, among-pairs, pairs-onto, step}
 use Rattle.definitions.specs.Tokens.{closing, Placed}
 use Rattle.laws.specs.Bools.{or-false-left, or-false-right}
 use Rattle.laws.specs.Names.{same-sym}
-use Rattle.laws.specs.FormGrammar.{at, Place-form, it-form, field-form, Result-form, convert-form, keep-form, count-form, each-form, when-form, if-form, num-form, str-form, yes-form, no-form, none-form, pack-form, Pairs-form, no-pair, next-pair}
+use Rattle.laws.specs.FormGrammar.{at, Place-form, it-form, field-form, Result-form, convert-form, keep-form, count-form, each-form, when-form}
+use Rattle.laws.specs.FormGrammar.{if-form, num-form, str-form, yes-form, no-form, none-form, pack-form, Pairs-form, no-pair, next-pair}
 use Rattle.laws.specs.FormRuns.{Walk, stay, on, walk-append, walk-then, none-over}
 use Rattle.laws.specs.FormSteps.{head-enter, name-on}
 use Rattle.laws.specs.ReaderRests.{Apart}
 use Rattle.laws.specs.ReaderDepths.{place-depths, result-depths, pairs-depths}
-use Rattle.laws.specs.ReaderSteps.{place-opens, it-named, field-named, field-called, place-closed, index-goes, result-opens, result-closed, convert-named, keep-named, count-named, each-named, when-named, if-named, num-named, str-named, yes-named, no-named, none-named, pack-named, test-named, number-goes, text-goes, pack-called, pack-closed}
+use Rattle.laws.specs.ReaderSteps.{place-opens, it-named, field-named, field-called, place-closed, index-goes, result-opens, result-closed}
+use Rattle.laws.specs.ReaderSteps.{convert-named, keep-named, count-named, each-named, when-named, if-named, num-named, str-named, yes-named}
+use Rattle.laws.specs.ReaderSteps.{no-named, none-named, pack-named, test-named, number-goes, text-goes, pack-called, pack-closed}
 
 -- ---- walks over forms
 

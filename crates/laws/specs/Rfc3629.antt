@@ -3,7 +3,7 @@
 -- nothing.
 use Prim.Native.Nat.{ℕ, _+_, _-_, _*_, _≤_}
 use mathlib.Core.Path.{_≡_}
-use mathlib.Core.List.{List, [], _∷_, _++_}
+use mathlib.Core.List.{List, [], _∷_}
 
 -- ---- section 4: syntax of UTF-8 byte sequences
 

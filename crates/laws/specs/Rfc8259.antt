@@ -5,10 +5,10 @@
 use Prim.Native.Nat.{ℕ, suc, _+_, _-_, _*_, _<_}
 use mathlib.Core.Logic.{_⊎_}
 use mathlib.Core.Bool.{Bool, true, false}
-use mathlib.Core.List.{List, [], _∷_, _++_}
+use mathlib.Core.List.{[], _∷_, _++_}
 use Rattle.definitions.specs.Bytes.{Bytes}
 use Rattle.definitions.specs.Number.{Numeral}
-use Rattle.laws.specs.Rfc3629.{In, UTF8-1, UTF8-2, UTF8-3, UTF8-4, Encodes}
+use Rattle.laws.specs.Rfc3629.{In, UTF8-2, UTF8-3, UTF8-4, Encodes}
 use Rattle.laws.specs.Tree.{Tree, Trees, no-trees, tree, Named, no-named, named}
 
 -- ---- section 2: JSON grammar

@@ -7,9 +7,11 @@ use Rattle.definitions.specs.Bytes.{Bytes, bytes}
 use Rattle.definitions.specs.Value.{Value, Items, item, Members, member}
 use Rattle.definitions.specs.Json.{true-name, false-name, null-name}
 use Rattle.definitions.specs.Plain.{plain-text, plain-bool, plain, plain-items, plain-members}
-use Rattle.laws.specs.Tree.{Tree, Trees, no-trees, tree, Named, no-named, named, meaning, meaning-trees, meaning-named, Numbers-fit, null-fits, bool-fits, number-fits, text-fits, list-fits, rec-fits, Trees-fit, no-trees-fit, tree-fits, Named-fit, no-named-fit, named-fits}
+use Rattle.laws.specs.Tree.{Tree, Trees, no-trees, tree, Named, no-named, named, meaning, meaning-trees, meaning-named, Numbers-fit, null-fits, bool-fits}
+use Rattle.laws.specs.Tree.{number-fits, text-fits, list-fits, rec-fits, Trees-fit, no-trees-fit, tree-fits, Named-fit, no-named-fit, named-fits}
 use Rattle.laws.specs.Rfc8259 as Rfc
-use Rattle.laws.specs.Good.{Good-value, good-null, good-bool, good-number, good-text, good-list, good-rec, Good-items, good-no-items, good-item, Good-members, good-no-members, good-member}
+use Rattle.laws.specs.Good.{Good-value, good-null, good-bool, good-number, good-text, good-list, good-rec}
+use Rattle.laws.specs.Good.{Good-items, good-no-items, good-item, Good-members, good-no-members, good-member}
 use Rattle.laws.specs.StringRound.{plain-string}
 use Rattle.laws.specs.NumberRound.{plain-number-reads}
 

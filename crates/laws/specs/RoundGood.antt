@@ -6,7 +6,9 @@ use Rattle.definitions.specs.Value.{Value, Items, Members}
 use Rattle.definitions.specs.Shape.{Shape, Element, Record, Fields, field, nothing, find, only-null, only-bool, only-numeric, only-text, only-list, only-rec}
 use Rattle.definitions.specs.Join.{with-null, add-null, put-field, join, join-element, join-record, join-fields, insert, shape-of, join-items, fields-of}
 use Rattle.laws.specs.Rfc3629.{UTF8-octets}
-use Rattle.laws.specs.Good.{Good-shape, good-shape, Good-element, good-no-list, good-list-of, Good-record, good-no-rec, good-rec-of, Good-fields, good-no-fields, good-field, Good-value, good-null, good-bool, good-number, good-text, good-list, good-rec, Good-items, good-no-items, good-item, Good-members, good-no-members, good-member}
+use Rattle.laws.specs.Good.{Good-shape, good-shape, Good-element, good-no-list, good-list-of, Good-record, good-no-rec, good-rec-of}
+use Rattle.laws.specs.Good.{Good-fields, good-no-fields, good-field, Good-value, good-null, good-bool, good-number, good-text}
+use Rattle.laws.specs.Good.{good-list, good-rec, Good-items, good-no-items, good-item, Good-members, good-no-members, good-member}
 
 -- ---- join
 

@@ -4,16 +4,18 @@ use Prim.Native.Nat.{ℕ}
 use mathlib.Core.Path.{_≡_, refl, sym, _∙_, ap, subst}
 use mathlib.Core.Bool.{Bool, true, false, _||_, false≢true}
 use mathlib.Core.List.{List, [], _∷_, _++_, append-assoc}
-use mathlib.Core.Option.{some}
 use lib.Dec.{ltb, eqb}
 use Rattle.definitions.specs.declared.Limits.{Limits}
-use Rattle.definitions.specs.Bytes.{Bytes, bytes, look, between, order, same}
-use Rattle.definitions.specs.Tokens.{word, at-place, go, where-true, where-some, look-word, border-table}
-use Rattle.definitions.specs.Shape.{Kind, all-kinds, rank, among, every, Numeric, no-number, int-only, int-and-dec, Shape, shape, Record, no-rec, rec-of, Fields, no-fields, field, has-int, has-dec, has-rec, has}
-use Rattle.definitions.specs.ShapeText.{Parts, Around, want, kind-word, with-kind, fields-onto, numeric-from, record-from, build, kind-name, kind-words, in-order, may-follow, kind-step, want-step, step, write-kinds}
+use Rattle.definitions.specs.Bytes.{Bytes, bytes, look, between}
+use Rattle.definitions.specs.Tokens.{word, at-place, go, where-true, where-some, border-table}
+use Rattle.definitions.specs.Shape.{Kind, all-kinds, rank, among, every, Numeric, no-number, int-only, int-and-dec, Shape}
+use Rattle.definitions.specs.Shape.{shape, Record, no-rec, rec-of, Fields, no-fields, field, has-int, has-dec, has-rec, has}
+use Rattle.definitions.specs.ShapeText.{Parts, Around, want, kind-word, with-kind, fields-onto, numeric-from, record-from, build}
+use Rattle.definitions.specs.ShapeText.{kind-name, in-order, may-follow, kind-step, want-step, step, write-kinds}
 use Rattle.laws.specs.Bools.{and-left, and-right, and-intro, or-false-left, or-false-right}
 use Rattle.laws.specs.LexLaws.{inner, is-word, Bordered, bordered-space}
 use Rattle.laws.specs.RoundReads.{Reads, Steps, reads-nothing, reads-then, reads-from, reads-space, reads-word}
+use Rattle.laws.specs.ShapeKinds.{look-kind}
 
 -- ---- words
 
@@ -26,16 +28,6 @@ kind-name-word Kind.dec = refl
 kind-name-word Kind.text = refl
 kind-name-word Kind.list = refl
 kind-name-word Kind.rec = refl
-
-look-kind : (k : Kind) → look-word kind-words (kind-name k) ≡ some k
-unfolding look-word kind-words kind-name bytes same order all-kinds
-look-kind Kind.null = refl
-look-kind Kind.bool = refl
-look-kind Kind.int = refl
-look-kind Kind.dec = refl
-look-kind Kind.text = refl
-look-kind Kind.list = refl
-look-kind Kind.rec = refl
 
 -- the word of a kind that may follow
 steps-kind

@@ -10,11 +10,18 @@ use Rattle.definitions.specs.Bytes.{Bytes, same}
 use Rattle.definitions.specs.Outcome.{ok}
 use Rattle.definitions.specs.Number.{Numeral, no-digits, beyond, begin, spelled}
 use Rattle.definitions.specs.Tokens.{Token, Placed, want-named, Named, named, look-word}
-use Rattle.definitions.specs.Reader.{Place, Test, Result, Pairs, Frame, each-body, when-first, when-second, if-first, if-second, if-third, pack-part, Around, text-end, in-form, Place-use, converts, keeps, counts, maps, tests, Place-around, place-end, in-field, in-result, Want, place-open, place-word, it-index, field-name, place-close, result-open, result-word, when-test, num-number, str-text, pack-name, result-close, State, want, whole-place, whole-result, use-place, put-place, use-result, put-result, place-bindings, word-number, index-fits, among-pairs, pairs-onto, test-words, place-words, result-words, index-step, literal-step, pack-step, want-step, step, finished-result, empty-reader, read-result, read-reader}
+use Rattle.definitions.specs.Reader.{Place, Test, Result, Pairs, Frame, each-body, when-first, when-second, if-first, if-second, if-third, pack-part, Around}
+use Rattle.definitions.specs.Reader.{text-end, in-form, Place-use, converts, keeps, counts, maps, tests, Place-around, place-end, in-field, in-result, Want}
+use Rattle.definitions.specs.Reader.{place-open, place-word, it-index, field-name, place-close, result-open, result-word, when-test, num-number, str-text}
+use Rattle.definitions.specs.Reader.{pack-name, result-close, State, want, whole-place, whole-result, use-place, put-place, use-result, put-result}
+use Rattle.definitions.specs.Reader.{place-bindings, word-number, index-fits, among-pairs, pairs-onto, test-words, place-words, result-words, index-step}
+use Rattle.definitions.specs.Reader.{literal-step, pack-step, want-step, step, finished-result, empty-reader, read-result, read-reader}
 use Rattle.laws.specs.Rfc3629.{UTF8-octets}
-use Rattle.laws.specs.Good.{good-null, good-bool, good-number, good-text, Good-place, good-it, good-field-of, Good-reader, good-convert, good-keep, good-count, good-each, good-when, good-choose, good-literal, good-pack, Good-pairs, good-no-pairs, good-pair}
+use Rattle.laws.specs.Good.{good-null, good-bool, good-number, good-text, Good-place, good-it, good-field-of, Good-reader, good-convert, good-keep}
+use Rattle.laws.specs.Good.{good-count, good-each, good-when, good-choose, good-literal, good-pack, Good-pairs, good-no-pairs, good-pair}
 use Rattle.laws.specs.NumberRound.{good-number as number-good}
-use Rattle.laws.specs.LexGood.{Good-token, good-opening, good-closing, good-quoted, good-word, good-broken, Good-tokens, good-no-tokens, good-then, tokens-good}
+use Rattle.laws.specs.LexGood.{Good-token, good-opening, good-closing, good-quoted, good-word}
+use Rattle.laws.specs.LexGood.{good-broken, Good-tokens, good-no-tokens, good-then, tokens-good}
 use Rattle.laws.specs.RoundOutcome.{Gives, gives-refused, gives-holds, Leads, leads-nowhere, leads-on, leads-in, tokens-give}
 use Rattle.laws.specs.RoundShapeRead.{want-open-leads, want-close-leads, want-text-leads, want-word-leads, where-true-leads, where-some-leads}
 

@@ -8,9 +8,13 @@ use Rattle.definitions.specs.Bytes.{Bytes}
 use Rattle.definitions.specs.Outcome.{ok}
 use Rattle.definitions.specs.Tokens.{Token, Placed, Step, want-open, want-close, want-text, want-word, want-named, where-true, where-some, look-word}
 use Rattle.definitions.specs.Shape.{Kind, among, Shape, Record, no-rec, rec-of, Fields, no-fields}
-use Rattle.definitions.specs.ShapeText.{Parts, no-parts, with-kind, with-element, with-member, Around, text-end, as-element, as-member, Want, shape-open, shape-word, kind-word, member-open, member-word, member-name, member-close, State, want, whole, put, fields-onto, record-from, build, kind-words, shape-words, member-words, may-follow, name-fits, member-step, element-step, bracket-step, kind-step, want-step, step, finished, read-shape}
+use Rattle.definitions.specs.ShapeText.{Parts, no-parts, with-kind, with-element, with-member, Around, text-end, as-element, as-member, Want}
+use Rattle.definitions.specs.ShapeText.{shape-open, shape-word, kind-word, member-open, member-word, member-name, member-close, State, want}
+use Rattle.definitions.specs.ShapeText.{whole, put, fields-onto, record-from, build, kind-words, shape-words, member-words, may-follow}
+use Rattle.definitions.specs.ShapeText.{name-fits, member-step, element-step, bracket-step, kind-step, want-step, step, finished, read-shape}
 use Rattle.laws.specs.Rfc3629.{UTF8-octets}
-use Rattle.laws.specs.Good.{Good-shape, good-shape, Good-element, good-no-list, good-list-of, Good-record, good-no-rec, good-rec-of, Good-fields, good-no-fields, good-field}
+use Rattle.laws.specs.Good.{Good-shape, good-shape, Good-element, good-no-list, good-list-of, Good-record}
+use Rattle.laws.specs.Good.{good-no-rec, good-rec-of, Good-fields, good-no-fields, good-field}
 use Rattle.laws.specs.LexGood.{Good-token, good-opening, good-closing, good-quoted, good-word, good-broken, tokens-good}
 use Rattle.laws.specs.RoundOutcome.{gives-holds, Leads, leads-nowhere, leads-on, leads-in, tokens-give}
 

@@ -13,9 +13,11 @@ use Rattle.definitions.specs.Value.{Value, Items, no-items, item, Members, no-m
 use Rattle.definitions.specs.Json.{true-name, false-name, null-name}
 use Rattle.definitions.specs.Plain.{plain-text, plain-bool, plain, plain-items, plain-members}
 use Rattle.laws.specs.Rfc3629.{UTF8-octets}
-use Rattle.laws.specs.Tree.{Tree, Trees, Named, meaning, meaning-trees, meaning-named, Numbers-fit, number-fits, list-fits, rec-fits, Trees-fit, tree-fits, Named-fit, named-fits}
+use Rattle.laws.specs.Tree.{Tree, Trees, Named, meaning, meaning-trees, meaning-named, Numbers-fit}
+use Rattle.laws.specs.Tree.{number-fits, list-fits, rec-fits, Trees-fit, tree-fits, Named-fit, named-fits}
 use Rattle.laws.specs.Rfc8259 as Rfc
-use Rattle.laws.specs.Good.{Good-value, good-null, good-bool, good-number, good-text, good-list, good-rec, Good-items, good-no-items, good-item, Good-members, good-no-members, good-member}
+use Rattle.laws.specs.Good.{Good-value, good-null, good-bool, good-number, good-text, good-list, good-rec}
+use Rattle.laws.specs.Good.{Good-items, good-no-items, good-item, Good-members, good-no-members, good-member}
 use Rattle.laws.specs.StringTokens.{chars-utf8}
 use Rattle.laws.specs.StringRound.{string-length}
 use Rattle.laws.specs.NumberRound.{good-number as number-good, number-length}

@@ -7,12 +7,15 @@ use mathlib.Core.List.{List, [], _∷_}
 use mathlib.Core.Option.{some}
 use Rattle.definitions.specs.Bytes.{Bytes}
 use Rattle.definitions.specs.Shape.{Kind, all-kinds, among, Shape}
-use Rattle.definitions.specs.ShapeText.{Parts, Around, text-end, as-member, shape-open, shape-word, kind-word, member-open, member-word, member-name, member-close, State, want, whole, no-parts, with-kind, put, depth, kind-name, kind-words, shape-words, member-words, may-follow, name-fits, member-step, element-step, bracket-step, kind-step, want-step, step}
+use Rattle.definitions.specs.ShapeText.{Parts, Around, text-end, as-member, shape-open, shape-word, kind-word, member-open, member-word, member-name}
+use Rattle.definitions.specs.ShapeText.{member-close, State, want, whole, no-parts, with-kind, put, depth, kind-name, kind-words, shape-words}
+use Rattle.definitions.specs.ShapeText.{member-words, may-follow, name-fits, member-step, element-step, bracket-step, kind-step, want-step, step}
 use Rattle.definitions.specs.Tokens.{Token, opening, closing, quoted, word, broken, Placed, go, opens, want-open, where-true, look-word}
 use Rattle.laws.specs.FormGrammar.{at, Shape-form}
 use Rattle.laws.specs.FormRuns.{Walk}
 use Rattle.laws.specs.FormSteps.{Back, walk-back, open-back, close-back, text-back, true-back, some-back, look-each, named-back}
-use Rattle.laws.specs.ShapeRests.{Rest, rest-whole, rest-open, rest-word, rest-member, rest-name, rest-close, tail-end, tail-member, form-open, kind-begins, no-more-kinds, element-begins}
+use Rattle.laws.specs.ShapeRests.{Rest, rest-whole, rest-open, rest-word, rest-member, rest-name, rest-close}
+use Rattle.laws.specs.ShapeRests.{tail-end, tail-member, form-open, kind-begins, no-more-kinds, element-begins}
 
 member-back
     : (p : Parts) (o : Around) (x : ℕ) (k : Token) (ts : List Placed) (a : Shape)

@@ -13,7 +13,8 @@ use Rattle.definitions.specs.Shape.{Shape, Element, Record, Fields, ascending, 
 use Rattle.definitions.specs.ShapeText.{text-end, shape-open, State, want, whole, put, depth, step, finished, read-shape}
 use Rattle.definitions.specs.Tokens.{Placed, tokens, or-end, read-tokens}
 use Rattle.laws.specs.Bools.{and-intro}
-use Rattle.laws.specs.FormGrammar.{Shape-form, shape-form, Element-form, no-element, element, Record-form, no-members, members, Members-form, no-member, member}
+use Rattle.laws.specs.FormGrammar.{Shape-form, shape-form, Element-form, no-element, element}
+use Rattle.laws.specs.FormGrammar.{Record-form, no-members, members, Members-form, no-member, member}
 use Rattle.laws.specs.FormRuns.{Walk, Fits, Accepted, read-accepted, read-along, walk-unique}
 use Rattle.laws.specs.ShapeBacks.{walk-right}
 use Rattle.laws.specs.ShapeWalks.{shape-depths, depths-forms, depths-levels, shape-opens, shape-walk}

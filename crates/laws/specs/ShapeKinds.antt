@@ -4,14 +4,29 @@ use mathlib.Core.Path.{_≡_, refl, sym, _∙_, ap, subst}
 use mathlib.Core.Logic.{_⊎_, inl, inr, ⊎-elim}
 use mathlib.Core.Bool.{Bool, true, false, not, _||_}
 use mathlib.Core.List.{List, [], _∷_}
+use mathlib.Core.Option.{some}
 use lib.Dec.{ltb, eqb}
 use native.Mathlib.Omega.{arith}
+use Rattle.definitions.specs.Bytes.{bytes, same, order}
 use Rattle.definitions.specs.Shape.{Kind, all-kinds, rank, among, Numeric, no-number, int-only, int-and-dec, Shape, shape, has, has-int, has-dec}
-use Rattle.definitions.specs.ShapeText.{kind-name, in-order, may-follow, numeric-from}
-use Rattle.definitions.specs.Tokens.{word, Placed}
+use Rattle.definitions.specs.ShapeText.{kind-name, in-order, may-follow, numeric-from, kind-words}
+use Rattle.definitions.specs.Tokens.{word, Placed, look-word}
 use Rattle.laws.specs.Bools.{and-left, and-right, and-intro, or-left, or-right}
 use Rattle.laws.specs.Tests.{ltb-lt, lt-ltb, eq-eqb, ne-eqb, lt-or-le}
 use Rattle.laws.specs.FormGrammar.{at, Kind-words, no-kinds, has-kind, lacks-kind}
+
+-- ---- words
+
+-- the word of a kind is looked up as that kind
+pub look-kind : (k : Kind) → look-word kind-words (kind-name k) ≡ some k
+unfolding look-word kind-words kind-name bytes same order all-kinds
+look-kind Kind.null = refl
+look-kind Kind.bool = refl
+look-kind Kind.int = refl
+look-kind Kind.dec = refl
+look-kind Kind.text = refl
+look-kind Kind.list = refl
+look-kind Kind.rec = refl
 
 -- ---- ranks
 
@@ -184,7 +199,7 @@ numeric-agrees ls int-and-dec d i = rw (d, numeric-from)
 
 -- ---- from the kinds of a shape to words read
 
-int-with-dec : (s : Shape) → has Kind.dec s ≡ true → has Kind.int s ≡ true
+pub int-with-dec : (s : Shape) → has Kind.dec s ≡ true → has Kind.int s ≡ true
 unfolding has has-dec has-int
 int-with-dec (shape n b no-number t e r) h = h
 int-with-dec (shape n b int-only t e r) h = refl

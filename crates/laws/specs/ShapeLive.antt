@@ -6,14 +6,17 @@ use mathlib.Core.Bool.{true, false}
 use mathlib.Core.List.{List, [], _∷_, _++_}
 use Rattle.definitions.specs.Bytes.{Bytes, bytes, order}
 use Rattle.definitions.specs.Shape.{Kind, among, Shape, Fields, no-fields, field}
-use Rattle.definitions.specs.ShapeText.{Parts, Around, text-end, as-element, as-member, shape-open, shape-word, kind-word, member-open, member-word, member-name, member-close, State, want, whole, no-parts, with-element, with-member, put, build, name-fits, step, finished}
+use Rattle.definitions.specs.ShapeText.{Parts, Around, text-end, as-element, as-member, shape-open, shape-word, kind-word}
+use Rattle.definitions.specs.ShapeText.{member-open, member-word, member-name, member-close, State, want, whole, no-parts}
+use Rattle.definitions.specs.ShapeText.{with-element, with-member, put, build, name-fits, step, finished}
 use Rattle.definitions.specs.Tokens.{opening, closing, quoted, word, Placed, go, opens}
 use Rattle.laws.specs.Bools.{tell}
 use Rattle.laws.specs.Names.{before-lt}
 use Rattle.laws.specs.FormGrammar.{at}
 use Rattle.laws.specs.FormRuns.{stay, on, enter}
 use Rattle.laws.specs.FormStops.{Reaches}
-use Rattle.laws.specs.ShapeWalks.{shape-opens, member-called, member-closed, element-opens, behind-kinds, behind-element, members-end, shape-named as shape-goes, member-named as member-goes}
+use Rattle.laws.specs.ShapeWalks.{shape-opens, member-called, member-closed, element-opens, behind-kinds}
+use Rattle.laws.specs.ShapeWalks.{behind-element, members-end, shape-named as shape-goes, member-named as member-goes}
 
 -- ---- each state has a completion
 

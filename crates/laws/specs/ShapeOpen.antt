@@ -7,8 +7,11 @@ use lib.ListN.{length}
 use native.Mathlib.Omega.{arith}
 use Rattle.definitions.specs.Bytes.{Bytes, bytes, order, same}
 use Rattle.definitions.specs.Shape.{Kind, among, Shape}
-use Rattle.definitions.specs.ShapeText.{Parts, Around, text-end, as-element, as-member, shape-open, shape-word, kind-word, member-open, member-word, member-name, member-close, State, want, whole, no-parts, with-kind, put, depth, build, kind-name, kind-words, shape-words, member-words, may-follow, name-fits, member-step, element-step, bracket-step, kind-step, want-step, step}
-use Rattle.definitions.specs.Tokens.{Token, opening, closing, quoted, word, broken, Placed, misplaced, go, opens, want-open, want-word, want-named, where-true, where-some, look-word}
+use Rattle.definitions.specs.ShapeText.{Parts, Around, text-end, as-element, as-member, shape-open, shape-word, kind-word, member-open, member-word}
+use Rattle.definitions.specs.ShapeText.{member-name, member-close, State, want, whole, no-parts, with-kind, put, depth, build, kind-name, kind-words}
+use Rattle.definitions.specs.ShapeText.{shape-words, member-words, may-follow, name-fits, member-step, element-step, bracket-step, kind-step, want-step, step}
+use Rattle.definitions.specs.Tokens.{Token, opening, closing, quoted, word, broken, Placed, misplaced, go}
+use Rattle.definitions.specs.Tokens.{opens, want-open, want-word, want-named, where-true, where-some, look-word}
 use Rattle.laws.specs.FormGrammar.{at}
 use Rattle.laws.specs.FormRuns.{Walk, stay, on, enter}
 use Rattle.laws.specs.FormSteps.{Says, open-says, close-says, text-says, true-says, some-says, named-says, says-go, says-opens}

@@ -6,10 +6,13 @@ use mathlib.Core.Bool.{Bool, true, false}
 use mathlib.Core.List.{List, [], _∷_}
 use Rattle.definitions.specs.Bytes.{Bytes, bytes}
 use Rattle.definitions.specs.Shape.{Kind, among, Shape, shape, Record, no-rec, rec-of, Fields, no-fields, field, has, has-list, has-rec, behind}
-use Rattle.definitions.specs.ShapeText.{Parts, Around, as-element, as-member, shape-open, shape-word, kind-word, member-open, member-word, member-name, member-close, State, want, whole, no-parts, with-kind, with-element, with-member, put, fields-onto, numeric-from, record-from, build, kind-name, may-follow, name-fits}
+use Rattle.definitions.specs.ShapeText.{Parts, Around, as-element, as-member, shape-open, shape-word, kind-word, member-open, member-word}
+use Rattle.definitions.specs.ShapeText.{member-name, member-close, State, want, whole, no-parts, with-kind, with-element, with-member}
+use Rattle.definitions.specs.ShapeText.{put, fields-onto, numeric-from, record-from, build, kind-name, may-follow, name-fits}
 use Rattle.definitions.specs.Tokens.{opening, closing, quoted, word, Placed}
 use Rattle.laws.specs.Bools.{tell, clash}
-use Rattle.laws.specs.FormGrammar.{at, head, Shape-form, shape-form, Element-form, no-element, element, no-members, members, Members-form, no-member, member}
+use Rattle.laws.specs.FormGrammar.{at, head, Shape-form, shape-form, Element-form, no-element}
+use Rattle.laws.specs.FormGrammar.{element, no-members, members, Members-form, no-member, member}
 use Rattle.laws.specs.ShapeKinds.{Kinds-on, kinds-end, kinds-next, bound, follow-bound, kinds-dec, kinds-words, numeric-int, numeric-dec}
 
 -- ---- what may still come

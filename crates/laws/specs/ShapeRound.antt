@@ -11,15 +11,23 @@ use Rattle.definitions.specs.declared.Limits.{Limits}
 use Rattle.definitions.specs.Bytes.{Bytes, bytes, look, between}
 use Rattle.definitions.specs.Outcome.{ok}
 use Rattle.definitions.specs.Tokens.{opening, lex, tokens, ended, opens, or-end, read-tokens, border-table}
-use Rattle.definitions.specs.Shape.{Kind, all-kinds, among, Shape, shape, Element, no-list, list-of, Record, Fields, no-fields, field, has, has-list, has-rec, behind, ascending, forms, forms-element, forms-record, forms-fields, levels, levels-element, levels-record, levels-fields, ascending-element, ascending-record, ascending-fields}
-use Rattle.definitions.specs.ShapeText.{Parts, no-parts, with-element, with-member, Around, text-end, as-element, as-member, State, want, shape-open, shape-word, kind-word, member-open, put, depth, fields-onto, name-fits, finished, read-shape, write-kinds, new-line, write, write-element, write-record, write-fields, write-shape}
+use Rattle.definitions.specs.Shape.{Kind, all-kinds, among, Shape, shape, Element, no-list, list-of, Record, Fields, no-fields, field}
+use Rattle.definitions.specs.Shape.{has, has-list, has-rec, behind, ascending, forms, forms-element, forms-record, forms-fields, levels}
+use Rattle.definitions.specs.Shape.{levels-element, levels-record, levels-fields, ascending-element, ascending-record, ascending-fields}
+use Rattle.definitions.specs.ShapeText.{Parts, no-parts, with-element, with-member, Around, text-end, as-element, as-member, State, want}
+use Rattle.definitions.specs.ShapeText.{shape-open, shape-word, kind-word, member-open, put, depth, fields-onto, name-fits, finished}
+use Rattle.definitions.specs.ShapeText.{read-shape, write-kinds, new-line, write, write-element, write-record, write-fields, write-shape}
 use Rattle.laws.specs.Bools.{and-left, and-right}
 use Rattle.laws.specs.Rfc3629.{UTF8-octets}
-use Rattle.laws.specs.Good.{Good-shape, good-shape, Good-element, good-no-list, good-list-of, Good-record, good-no-rec, good-rec-of, Good-fields, good-no-fields, good-field}
+use Rattle.laws.specs.Good.{Good-shape, good-shape, Good-element, good-no-list, good-list-of, Good-record}
+use Rattle.laws.specs.Good.{good-no-rec, good-rec-of, Good-fields, good-no-fields, good-field}
 use Rattle.laws.specs.LexLaws.{bordered-space, bordered-close}
-use Rattle.laws.specs.RoundReads.{Reads, Steps, reads-nothing, reads-then, reads-from, reads-space, reads-new-line, reads-open, reads-open-form, reads-close, reads-word, reads-text}
+use Rattle.laws.specs.RoundReads.{Reads, Steps, reads-nothing, reads-then, reads-from, reads-space, reads-new-line}
+use Rattle.laws.specs.RoundReads.{reads-open, reads-open-form, reads-close, reads-word, reads-text}
 use Rattle.laws.specs.RoundKinds.{picks, with-kinds, among-kinds, bordered-kinds, reads-all-kinds, fields-in, parts-of, build-back}
-use Rattle.laws.specs.RoundPieces.{room, shape-is-word, member-is-word, steps-shape, steps-member, steps-name, Behind, behind-kinds, behind-element, steps-element, steps-member-shape, steps-member-close, steps-member-open, steps-shape-close, write-split, fields-split, bordered-element, bordered-record, follows, follows-behind, follows-first}
+use Rattle.laws.specs.RoundPieces.{room, shape-is-word, member-is-word, steps-shape, steps-member, steps-name, Behind, behind-kinds}
+use Rattle.laws.specs.RoundPieces.{behind-element, steps-element, steps-member-shape, steps-member-close, steps-member-open, steps-shape-close}
+use Rattle.laws.specs.RoundPieces.{write-split, fields-split, bordered-element, bordered-record, follows, follows-behind, follows-first}
 
 -- ---- reading what was written
 

@@ -3,17 +3,23 @@ use Prim.Native.Nat.{ℕ, suc, _+_, max}
 use mathlib.Core.Path.{_≡_, refl, sym, _∙_, ap, ap₂, subst}
 use mathlib.Core.Bool.{Bool, true, false}
 use mathlib.Core.List.{List, [], _∷_, _++_}
-use mathlib.Core.Option.{some}
 use lib.ListN.{length, length-append}
 use native.Mathlib.Omega.{arith}
 use Rattle.definitions.specs.Bytes.{Bytes, bytes, order, same}
-use Rattle.definitions.specs.Shape.{Kind, all-kinds, among, Numeric, Shape, shape, Element, no-list, list-of, Record, no-rec, rec-of, Fields, no-fields, field, has, has-list, has-rec, behind, forms, forms-element, forms-record, forms-fields, levels, levels-element, levels-record, levels-fields}
-use Rattle.definitions.specs.ShapeText.{Parts, Around, as-element, as-member, shape-open, shape-word, kind-word, member-open, member-word, member-name, member-close, State, want, no-parts, with-kind, with-element, with-member, put, depth, fields-onto, build, kind-name, kind-words, shape-words, member-words, may-follow, name-fits, member-step, element-step, bracket-step, kind-step, want-step, step}
-use Rattle.definitions.specs.Tokens.{opening, closing, quoted, word, Placed, go, opens, want-open, want-close, want-text, want-word, want-named, where-true, where-some, look-word}
-use Rattle.laws.specs.FormGrammar.{at, Shape-form, shape-form, Element-form, no-element, element, Record-form, no-members, members, Members-form, no-member, member}
+use Rattle.definitions.specs.Shape.{Kind, among, Numeric, Shape, shape, Element, no-list, list-of, Record, no-rec}
+use Rattle.definitions.specs.Shape.{rec-of, Fields, no-fields, field, has, has-list, has-rec, behind, forms, forms-element}
+use Rattle.definitions.specs.Shape.{forms-record, forms-fields, levels, levels-element, levels-record, levels-fields}
+use Rattle.definitions.specs.ShapeText.{Parts, Around, as-element, as-member, shape-open, shape-word, kind-word, member-open}
+use Rattle.definitions.specs.ShapeText.{member-word, member-name, member-close, State, want, no-parts, with-kind, with-element}
+use Rattle.definitions.specs.ShapeText.{with-member, put, depth, fields-onto, build, kind-name, shape-words, member-words}
+use Rattle.definitions.specs.ShapeText.{may-follow, name-fits, member-step, element-step, bracket-step, kind-step, want-step, step}
+use Rattle.definitions.specs.Tokens.{opening, closing, quoted, word, Placed, go, opens, want-open, want-close}
+use Rattle.definitions.specs.Tokens.{want-text, want-word, want-named, where-true, where-some, look-word}
+use Rattle.laws.specs.FormGrammar.{at, Shape-form, shape-form, Element-form, no-element, element}
+use Rattle.laws.specs.FormGrammar.{Record-form, no-members, members, Members-form, no-member, member}
 use Rattle.laws.specs.FormRuns.{Walk, stay, on, walk-append, most, most-append}
 use Rattle.laws.specs.FormSteps.{head-enter, head-on}
-use Rattle.laws.specs.ShapeKinds.{Kinds-on, kinds-end, kinds-next, words-kinds, numeric-agrees}
+use Rattle.laws.specs.ShapeKinds.{Kinds-on, kinds-end, kinds-next, words-kinds, numeric-agrees, look-kind}
 use Rattle.laws.specs.ShapeRests.{with-record, follows, ended-with, ended-without, behind-follows}
 
 -- ---- the nestings of shape forms, in the order of their brackets
@@ -108,21 +114,11 @@ pub member-closed : (p : Parts) (o : Around) (x : ℕ) → step (want (member-cl
 unfolding step want-step want-close
 member-closed p o x = refl
 
-kind-looked : (k : Kind) → look-word kind-words (kind-name k) ≡ some k
-unfolding kind-words all-kinds kind-name look-word same order bytes
-kind-looked Kind.null = refl
-kind-looked Kind.bool = refl
-kind-looked Kind.int = refl
-kind-looked Kind.dec = refl
-kind-looked Kind.text = refl
-kind-looked Kind.list = refl
-kind-looked Kind.rec = refl
-
 kind-goes
     : (p : Parts) (o : Around) (k : Kind) (x : ℕ) → may-follow (p .kinds) k ≡ true
     → step (want (kind-word p o)) (at x (word (kind-name k))) ≡ go (want (kind-word (with-kind k p) o))
 unfolding step want-step kind-step where-some where-true
-kind-goes p o k x h = rw (kind-looked k, where-some, h, where-true)
+kind-goes p o k x h = rw (look-kind k, where-some, h, where-true)
 
 pub element-opens
     : (p : Parts) (o : Around) (x : ℕ) → among Kind.list (p .kinds) ≡ true

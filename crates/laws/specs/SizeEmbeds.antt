@@ -5,10 +5,12 @@ use mathlib.Core.Bool.{Bool, true, false}
 use mathlib.Core.Option.{Option, none, some}
 use native.Mathlib.Nat.{le-trans}
 use Rattle.definitions.specs.Bytes.{Bytes, order, same}
-use Rattle.definitions.specs.Shape.{Shape, shape, Element, no-list, list-of, Record, no-rec, rec-of, Fields, no-fields, field, element-of, record-of, find, behind, ascending, ascending-element, ascending-record, ascending-fields}
+use Rattle.definitions.specs.Shape.{Shape, shape, Element, no-list, list-of, Record, no-rec, rec-of, Fields, no-fields, field, element-of}
+use Rattle.definitions.specs.Shape.{record-of, find, behind, ascending, ascending-element, ascending-record, ascending-fields}
 use Rattle.definitions.specs.Order.{below}
 use Rattle.laws.specs.Names.{order-eq, same-eq, eq-same, before-lt, before-gt}
-use Rattle.laws.specs.Fields.{none-some, find-here, find-there, find-first, find-rest, find-other, find-none, find-behind, ascending-first, ascending-rest}
+use Rattle.laws.specs.Fields.{none-some, find-here, find-there, find-first, find-rest, find-other}
+use Rattle.laws.specs.Fields.{find-none, find-behind, ascending-first, ascending-rest}
 use Rattle.laws.specs.OrderInduction.{InElement, InFields, InRecord, Step, shape-induction, Ascending, ascending-of-element, ascending-of-record}
 use Rattle.laws.specs.OrderParts.{Kinds, Elements, AtName, Records, below-kinds, below-elements, below-records}
 

@@ -8,7 +8,8 @@ use lib.ListN.{length, length-append}
 use native.Mathlib.Nat.{le-refl, add-le-add}
 use native.Mathlib.Omega.{arith}
 use Rattle.definitions.specs.Bytes.{Bytes, bytes}
-use Rattle.definitions.specs.Shape.{Kind, all-kinds, Shape, shape, has, element-of, record-of, ascending, forms, forms-element, forms-record, forms-fields, levels, levels-element, levels-record, levels-fields}
+use Rattle.definitions.specs.Shape.{Kind, all-kinds, Shape, shape, has, element-of, record-of, ascending, forms, forms-element}
+use Rattle.definitions.specs.Shape.{forms-record, forms-fields, levels, levels-element, levels-record, levels-fields}
 use Rattle.definitions.specs.Order.{below}
 use Rattle.definitions.specs.ShapeText.{kind-name, write-kinds, write, write-element, write-record, write-fields, write-shape}
 use Rattle.laws.specs.OrderParts.{Kinds}

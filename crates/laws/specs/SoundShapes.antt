@@ -5,9 +5,11 @@ use mathlib.Core.Bool.{true}
 use mathlib.Core.List.{List, [], _∷_}
 use lib.ListN.{getD}
 use Rattle.definitions.specs.Outcome.{ok}
-use Rattle.definitions.specs.Shape.{Shape, shape, no-list, list-of, nothing, element-of, record-of, ascending, ascending-record, ascending-fields, only-numeric, only-bool, only-text, only-list, only-rec}
+use Rattle.definitions.specs.Shape.{Shape, shape, no-list, list-of, nothing, element-of, record-of, ascending, ascending-record}
+use Rattle.definitions.specs.Shape.{ascending-fields, only-numeric, only-bool, only-text, only-list, only-rec}
 use Rattle.definitions.specs.Reader.{Place, Conversion, to-int, to-dec, to-bool, to-text, Result, Pairs, no-pairs, pair}
-use Rattle.definitions.specs.Checking.{field-kinds, convert-kinds, list-kinds, if-kinds, field-shape, convert-shape, element-shape, cut-to, taken-out, check-place, check, check-pairs, check-reader}
+use Rattle.definitions.specs.Checking.{field-kinds, convert-kinds, list-kinds, if-kinds, field-shape, convert-shape}
+use Rattle.definitions.specs.Checking.{element-shape, cut-to, taken-out, check-place, check, check-pairs, check-reader}
 use Rattle.laws.specs.Bools.{and-left, and-intro}
 use Rattle.laws.specs.Fields.{find-ascending}
 use Rattle.laws.specs.FieldsPut.{insert-ascending}

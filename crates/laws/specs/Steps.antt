@@ -1,11 +1,11 @@
 -- The steps of reading inside a JSON string and inside a number, several bytes at a time: what connects the grammar's
 -- tokens with a scan that goes byte by byte. Assumes nothing.
 use Prim.Native.Nat.{ℕ}
-use mathlib.Core.Path.{_≡_, refl}
-use mathlib.Core.List.{List, [], _∷_, _++_}
-use mathlib.Core.Option.{Option, none, some}
+use mathlib.Core.Path.{_≡_}
+use mathlib.Core.List.{[], _∷_, _++_}
+use mathlib.Core.Option.{some}
 use Rattle.definitions.specs.Bytes.{Bytes, look}
-use Rattle.definitions.specs.Text.{Inside, Text-move, wrong, more, closed, text-step}
+use Rattle.definitions.specs.Text.{Inside, more, text-step}
 use Rattle.definitions.specs.Number.{Numeral, Phase, next, extend}
 
 -- inside a string, the bytes xs lead from one place and its bytes so far to another

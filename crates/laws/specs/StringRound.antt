@@ -7,7 +7,8 @@ use lib.ListN.{length, length-append}
 use native.Mathlib.Omega.{arith}
 use Rattle.definitions.specs.Bytes.{Bytes, bytes, look, between}
 use Rattle.definitions.specs.Plain.{short-escapes, escaped, escaped-all, plain-text}
-use Rattle.laws.specs.Rfc3629.{utf8-1, utf8-2, utf8-3a, utf8-3b, utf8-3c, utf8-3d, utf8-4a, utf8-4b, utf8-4c, UTF8-char, char-1, char-2, char-3, char-4, UTF8-octets, no-octets, octets, Encodes, one-octet, two-octets, three-octets, four-octets}
+use Rattle.laws.specs.Rfc3629.{utf8-1, utf8-2, utf8-3a, utf8-3b, utf8-3c, utf8-3d, utf8-4a, utf8-4b, utf8-4c, UTF8-char, char-1, char-2}
+use Rattle.laws.specs.Rfc3629.{char-3, char-4, UTF8-octets, no-octets, octets, Encodes, one-octet, two-octets, three-octets, four-octets}
 use Rattle.laws.specs.Rfc8259 as Rfc
 use Rattle.laws.specs.StringWritten.{written, written-char, written-length, written-plain, escaped-high-2, escaped-high-3, escaped-high-4}
 

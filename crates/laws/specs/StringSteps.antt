@@ -9,11 +9,13 @@ use lib.Dec.{ltb}
 use native.Mathlib.Omega.{arith}
 use Rattle.definitions.specs.Bytes.{Bytes, look, between, is}
 use Rattle.definitions.specs.Utf8.{Tails, tails, head-table, encode}
-use Rattle.definitions.specs.Text.{Inside, tail, pair, pair-u, Text-move, wrong, more, closed, head-step, char-step, behind-tail, escape-table, escape-step, hex-table, digit-fits, pair-of, unicode, digit-step, text-step}
+use Rattle.definitions.specs.Text.{Inside, tail, pair, pair-u, Text-move, wrong, more, closed, head-step, char-step, behind-tail}
+use Rattle.definitions.specs.Text.{escape-table, escape-step, hex-table, digit-fits, pair-of, unicode, digit-step, text-step}
 use Rattle.laws.specs.Ranges.{look-hit, hits-look, is-eq, is-ne, ne-is, between-in, in-between, between-out, out-between, leb-le, le-leb, leb-gt, gt-leb}
 use Rattle.laws.specs.Rfc3629.{In}
 use Rattle.laws.specs.Rfc8259 as Rfc
-use Rattle.laws.specs.StringRows.{Heads, Escapes, short-escape, hex-escape, hit-heads, heads-look, hit-escapes, escapes-look, hit-hexdig, hexdig-hits, heads-above}
+use Rattle.laws.specs.StringRows.{Heads, Escapes, short-escape, hex-escape, hit-heads, heads-look}
+use Rattle.laws.specs.StringRows.{hit-escapes, escapes-look, hit-hexdig, hexdig-hits, heads-above}
 
 -- ---- the step
 

@@ -14,7 +14,8 @@ use Rattle.laws.specs.Rfc3629.{In, UTF8-octets}
 use Rattle.laws.specs.Rfc8259 as Rfc
 use Rattle.laws.specs.Steps.{Text-steps, text-stay, text-then}
 use Rattle.laws.specs.StringRows.{Heads, head-c2, head-e0, head-e1, head-ed, head-ee, head-f0, head-f1, head-f4}
-use Rattle.laws.specs.StringSteps.{Move, plain, head, last-tail, next-tail, backslash, short, hex, digit, high, alone, low, pair-backslash, pair-hex, step-move, move-step, step-closed, quote-closes}
+use Rattle.laws.specs.StringSteps.{Move, plain, head, last-tail, next-tail, backslash, short, hex, digit, high, alone}
+use Rattle.laws.specs.StringSteps.{low, pair-backslash, pair-hex, step-move, move-step, step-closed, quote-closes}
 use Rattle.laws.specs.StringSound.{chars-left}
 use Rattle.laws.specs.StringThrough.{fits-later, fits-first, fits-second, low-first, low-second, chars-through}
 pub use Rattle.laws.specs.StringUtf8.{chars-utf8}

@@ -3,7 +3,8 @@ use Prim.Native.Nat.{ℕ}
 use mathlib.Core.List.{[], _∷_, _++_}
 use native.Mathlib.Omega.{arith}
 use Rattle.definitions.specs.Bytes.{Bytes}
-use Rattle.laws.specs.Rfc3629.{In, utf8-1, utf8-2, utf8-3a, utf8-3b, utf8-3c, utf8-3d, utf8-4a, utf8-4b, utf8-4c, UTF8-char, char-1, char-2, char-3, char-4, UTF8-octets, no-octets, octets, Encodes, one-octet, two-octets, three-octets, four-octets}
+use Rattle.laws.specs.Rfc3629.{In, utf8-1, utf8-2, utf8-3a, utf8-3b, utf8-3c, utf8-3d, utf8-4a, utf8-4b, utf8-4c, UTF8-char, char-1, char-2}
+use Rattle.laws.specs.Rfc3629.{char-3, char-4, UTF8-octets, no-octets, octets, Encodes, one-octet, two-octets, three-octets, four-octets}
 use Rattle.laws.specs.Rfc8259 as Rfc
 pub use Rattle.laws.specs.EncodeLaws.{encode-1, encode-2, encode-3, encode-4}
 

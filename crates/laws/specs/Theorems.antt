@@ -1,15 +1,12 @@
 -- The statements of Statements.antt, proved: each by the lemmas of the files that it cites. Assumes nothing.
 use Prim.Native.Nat.{ℕ, _≤_, _<_}
 use native.Mathlib.Nat.{le-trans}
-use native.Mathlib.Omega.{arith}
-use mathlib.Core.Path.{_≡_, refl, sym, ap, _∙_, subst}
-use mathlib.Core.Bool.{true}
-use mathlib.Core.List.{List, [], _∷_}
+use mathlib.Core.Path.{_≡_, ap, _∙_, subst}
 use lib.Dec.{lit≤}
 use Rattle.definitions.specs.declared.Limits.{Limits}
 use Rattle.definitions.specs.Limits.{standard}
 use Rattle.definitions.specs.Bytes.{Bytes}
-use Rattle.definitions.specs.Outcome.{Outcome, ok, refused}
+use Rattle.definitions.specs.Outcome.{ok}
 use Rattle.definitions.specs.Number.{most-coefficient}
 use Rattle.definitions.specs.Value.{Value, size}
 use Rattle.definitions.specs.Json.{read-json}
@@ -22,7 +19,8 @@ use Rattle.laws.specs.WrittenShapes.{refusal-keeps, infer-reads-back, jo
 use Rattle.laws.specs.ReaderForms.{reader-accepted-to, reader-accepted-from}
 use Rattle.laws.specs.ReaderCauses.{reader-refused}
 use Rattle.laws.specs.ReaderFacts.{reader-proper}
-use Rattle.laws.specs.RoundLaws.{plain-reads-back, plain-idempotent, plain-not-longer, json-read-good, reader-read-good, run-good, shape-reads-back, shape-idempotent, shape-read-good, shape-of-good}
+use Rattle.laws.specs.RoundLaws.{plain-reads-back, plain-idempotent, plain-not-longer, json-read-good, reader-read-good}
+use Rattle.laws.specs.RoundLaws.{run-good, shape-reads-back, shape-idempotent, shape-read-good, shape-of-good}
 use Rattle.laws.specs.RunLaws.{run-distinct}
 use Rattle.laws.specs.OrderLaws.{below-refl, below-trans, below-antisym}
 use Rattle.laws.specs.JoinLaws.{join-ascending, join-upper-left, join-upper-right, join-least}
@@ -32,7 +30,12 @@ use Rattle.laws.specs.Soundness.{sound}
 use Rattle.laws.specs.Causes.{Cause, cause-3, cause-4, cause-5, cause-6}
 use Rattle.laws.specs.Chain.{Proper-source, In-range}
 use Rattle.laws.specs.Demand3.{demand-3}
-use Rattle.laws.specs.Statements.{Documents-by-the-RFC, Documents-refused-for-cause, Documents-refused-for-the-least, Tokens-by-the-grammar, Shapes-refused-for-cause, Shapes-refused-for-the-least, Shapes-by-the-grammar, Readers-by-the-grammar, Readers-refused-for-cause, Readers-refused-for-the-least, Documents-read-back, Results-read-back, Values-read-back, Shapes-read-back, Read-shapes-read-back, Written-shapes-read-back, Refusals-keep-the-output, Partial-order, Least-upper-bound, Admits-is-below, Sizes-grow, Checked-readers-are-safe, Demand-3-from-every-source, Demand-3-for-documents, Standard-in-range}
+use Rattle.laws.specs.Statements.{Documents-by-the-RFC, Documents-refused-for-cause, Documents-refused-for-the-least}
+use Rattle.laws.specs.Statements.{Tokens-by-the-grammar, Shapes-refused-for-cause, Shapes-refused-for-the-least, Shapes-by-the-grammar}
+use Rattle.laws.specs.Statements.{Readers-by-the-grammar, Readers-refused-for-cause, Readers-refused-for-the-least, Documents-read-back}
+use Rattle.laws.specs.Statements.{Results-read-back, Values-read-back, Shapes-read-back, Read-shapes-read-back, Written-shapes-read-back}
+use Rattle.laws.specs.Statements.{Refusals-keep-the-output, Partial-order, Least-upper-bound, Admits-is-below, Sizes-grow}
+use Rattle.laws.specs.Statements.{Checked-readers-are-safe, Demand-3-from-every-source, Demand-3-for-documents, Standard-in-range}
 
 -- ---- reading
 

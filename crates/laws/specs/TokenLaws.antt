@@ -8,15 +8,18 @@ use native.Mathlib.Omega.{arith}
 use lib.ListN.{length, length-append}
 use Rattle.definitions.specs.Bytes.{Bytes, look}
 use Rattle.definitions.specs.Text.{Inside, Text-move, wrong, more, closed, text-step}
-use Rattle.definitions.specs.Tokens.{opening, closing, quoted, word, Placed, at-place, Border, quote, border-table, no-word, word-from, Lexing, outside, inside, ended, longer, lex, tokens}
+use Rattle.definitions.specs.Tokens.{opening, closing, quoted, word, Placed, at-place, Border, border-table}
+use Rattle.definitions.specs.Tokens.{no-word, word-from, Lexing, outside, inside, ended, longer, lex, tokens}
 use Rattle.laws.specs.Rfc8259 as Rfc
 use Rattle.laws.specs.Steps.{Text-steps, text-stay, text-then, text-steps-append}
 use Rattle.laws.specs.StringSteps.{quote-closes}
 use Rattle.laws.specs.StringTokens.{chars-sound, chars-steps, string-dead}
 use Rattle.laws.specs.LexLaws.{lex-open, lex-close, lex-longer}
 use Rattle.laws.specs.FormGrammar.{at}
-use Rattle.laws.specs.TokenLexing.{Bounds, bounds-space, bounds-open, bounds-close, bounds-quote, border-bounds, none-word-byte, bounds-no-word, lex-white, lex-ended, lex-word-at, lex-quote, lex-string, lex-broken}
-use Rattle.laws.specs.TokenGrammar.{Word-byte, Word-bytes, no-bytes, next-byte, Word, a-word, at-the-end, at-a-border, Tokens-of, no-tokens, white-space, opening-bracket, closing-bracket, json-text, broken-text, a-word-token}
+use Rattle.laws.specs.TokenLexing.{Bounds, bounds-space, bounds-open, bounds-close, bounds-quote, border-bounds, none-word-byte}
+use Rattle.laws.specs.TokenLexing.{bounds-no-word, lex-white, lex-ended, lex-word-at, lex-quote, lex-string, lex-broken}
+use Rattle.laws.specs.TokenGrammar.{Word-byte, Word-bytes, no-bytes, next-byte, Word, a-word, at-the-end, at-a-border, Tokens-of}
+use Rattle.laws.specs.TokenGrammar.{no-tokens, white-space, opening-bracket, closing-bracket, json-text, broken-text, a-word-token}
 
 -- ---- the grammar's tokens are the lexer's
 
@@ -76,7 +79,7 @@ data Begun : (p : ℕ) → Lexing → (a : ℕ) → (pre : Bytes) → Type 0 whe
 abbrev Lexed : ℕ → Bytes → Type 0
 Lexed p r = (x : Lexing) (a : ℕ) (pre : Bytes) → Begun p x a pre → Tokens-of a (pre ++ r) (lex p x r)
 
-word-bytes-more : {w : Bytes} {b : ℕ} → Word-bytes w → Word-byte b → Word-bytes (w ++ b ∷ [])
+pub word-bytes-more : {w : Bytes} {b : ℕ} → Word-bytes w → Word-byte b → Word-bytes (w ++ b ∷ [])
 word-bytes-more no-bytes x = next-byte x no-bytes
 word-bytes-more (next-byte y g) x = next-byte y (word-bytes-more g x)
 

@@ -8,7 +8,8 @@ use native.Mathlib.Omega.{arith}
 use lib.ListN.{length, length-append}
 use Rattle.definitions.specs.Bytes.{Bytes, look, between}
 use Rattle.definitions.specs.Text.{Inside, Text-move, wrong, more, closed, text-step}
-use Rattle.definitions.specs.Tokens.{quoted, word, broken, at-place, Border, space, bracket-open, bracket-close, quote, border-table, no-word, word-from, Lexing, outside, inside, ended, longer, lex}
+use Rattle.definitions.specs.Tokens.{quoted, word, broken, at-place, Border, space, bracket-open, bracket-close}
+use Rattle.definitions.specs.Tokens.{quote, border-table, no-word, word-from, outside, inside, ended, longer, lex}
 use Rattle.laws.specs.Ranges.{Hit, here, there, look-hit, in-one}
 use Rattle.laws.specs.Rfc3629.{In}
 use Rattle.laws.specs.Rfc8259 as Rfc

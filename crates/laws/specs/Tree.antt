@@ -1,9 +1,8 @@
 -- Syntax trees of JSON texts, numbers of any size and exponents included; what a tree means as a value, and when it keeps
 -- the paper's limits. Assumes nothing.
-use Prim.Native.Nat.{ℕ, suc, _≤_}
+use Prim.Native.Nat.{_≤_}
 use mathlib.Core.Path.{_≡_}
 use mathlib.Core.Bool.{Bool, true, false}
-use mathlib.Core.List.{List}
 use Rattle.definitions.specs.declared.Limits.{Limits}
 use Rattle.definitions.specs.Bytes.{Bytes}
 use Rattle.definitions.specs.Number.{Numeral, beyond, number-of}

@@ -6,7 +6,7 @@ use mathlib.Core.List.{List}
 use native.Mathlib.Omega.{arith}
 use lib.ListN.{length, take, getD}
 use Rattle.definitions.specs.Bytes.{Bytes, same}
-use Rattle.definitions.specs.Value.{Value, Members, no-members, member, has-name, size}
+use Rattle.definitions.specs.Value.{Members, has-name}
 use Rattle.pool.specs.Pool.{text-in}
 use Rattle.nodes.specs.Nodes.{row-size}
 use Rattle.nodes.specs.Standing.{Members-stand, First-member, Members-held}

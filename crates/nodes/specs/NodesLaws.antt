@@ -1,21 +1,21 @@
 -- Laws of the node table, in the order of its definitions. Assumes nothing.
-use Prim.Native.Nat.{ℕ, zero, suc, _+_, _-_, _*_, _/_, _%_, _≤_, _<_}
-use mathlib.Core.Path.{_≡_, refl, sym, ap, _∙_, subst}
+use Prim.Native.Nat.{ℕ, _+_, _-_, _*_, _/_, _%_, _≤_, _<_}
+use mathlib.Core.Path.{_≡_, refl, sym, ap, _∙_}
 use mathlib.Core.Bool.{Bool, true, false, _||_, or-assoc, or-comm}
 use mathlib.Core.List.{List, [], _∷_, _++_, append-assoc, append-nil}
 use native.Mathlib.Nat.{add-zero}
 use native.Mathlib.Omega.{arith}
 use borrow.Author.Tests.{lt-ltb, le-ltb}
-use lib.Dec.{ltb}
-use lib.ListN.{length, take, drop, getD, length-append, length-take, length-drop, List·getD-append}
-use lib.Seq.{take-length, take-append-seam, take-at, drop-at, take-add, length-take-le, take-take, getD-drop}
-use Rattle.definitions.specs.Bytes.{Bytes, bytes, same}
-use Rattle.definitions.specs.Number.{Number}
-use Rattle.definitions.specs.Value.{Value, Items, no-items, item, items-onto, Members, no-members, member, members-onto, has-name, size, size-items, size-members}
-use Rattle.definitions.specs.Plain.{plain, plain-text, plain-items, plain-members}
-use Rattle.pool.specs.Pool.{words, text-in}
+use lib.ListN.{length, take, drop, getD, length-append}
+use lib.Seq.{take-length, take-append-seam, take-add, getD-drop}
+use Rattle.definitions.specs.Bytes.{Bytes, same}
+use Rattle.definitions.specs.Value.{Value, Items, no-items, item, items-onto, Members, no-members}
+use Rattle.definitions.specs.Value.{member, members-onto, has-name, size, size-items, size-members}
+use Rattle.definitions.specs.Plain.{plain}
 use Rattle.pool.specs.PoolLaws.{text-in-front}
-use Rattle.nodes.specs.Nodes.{kind-code, number-bits, head-word, head-of, row-size, reference, Refers, refers, Rows, null-row, bool-row, number-row, text-row, list-rows, rec-rows, Item-rows, no-item-rows, item-rows, Member-rows, no-member-rows, member-rows, Items-before, no-items-before, item-before, Members-before, no-members-before, member-before}
+use Rattle.nodes.specs.Nodes.{kind-code, number-bits, head-word, head-of, row-size, reference, Refers, refers, Rows, null-row, bool-row}
+use Rattle.nodes.specs.Nodes.{number-row, text-row, list-rows, rec-rows, Item-rows, no-item-rows, item-rows, Member-rows, no-member-rows}
+use Rattle.nodes.specs.Nodes.{member-rows, Items-before, no-items-before, item-before, Members-before, no-members-before, member-before}
 
 -- ---- words of a row
 

@@ -1,16 +1,17 @@
 -- Laws of where values, elements and members stand, in the order of their definitions. Assumes nothing.
 use Prim.Native.Nat.{ℕ, _+_, _*_, _/_, _%_, _≤_, _<_}
-use mathlib.Core.Path.{_≡_, refl, sym, ap, _∙_}
+use mathlib.Core.Path.{_≡_, refl, sym, ap, _∙_, subst}
 use mathlib.Core.List.{List, _∷_, _++_, append-assoc}
 use native.Mathlib.Nat.{add-zero}
 use native.Mathlib.Omega.{arith}
-use lib.ListN.{length, take, drop, getD, length-append, length-drop, length-take}
-use lib.Seq.{drop-drop, drop-at, getD-drop, take-length}
+use lib.ListN.{length, take, drop, getD, length-append, length-drop}
+use lib.Seq.{drop-drop, drop-at, getD-drop, take-length, length-take-le, take-take}
 use Rattle.definitions.specs.Bytes.{Bytes}
-use Rattle.definitions.specs.Value.{Value, Items, no-items, item, Members, no-members, member, size}
-use Rattle.pool.specs.Pool.{words, text-in}
+use Rattle.definitions.specs.Value.{Value, Items, no-items, Members, no-members, size}
+use Rattle.pool.specs.Pool.{text-in, words}
 use Rattle.pool.specs.PoolLaws.{text-in-front}
-use Rattle.nodes.specs.Nodes.{head-word, Refers, refers, Rows, list-rows, rec-rows, row-size, Item-rows, no-item-rows, item-rows, Member-rows, no-member-rows, member-rows}
+use Rattle.nodes.specs.Nodes.{head-word, Refers, refers, Rows, list-rows, rec-rows, row-size, Item-rows, reference}
+use Rattle.nodes.specs.Nodes.{no-item-rows, item-rows, Member-rows, no-member-rows, member-rows}
 use Rattle.nodes.specs.NodesLaws.{reference-word, reference-bytes, length-rows, rows-begin, row-size-is, row-name-is}
 use Rattle.nodes.specs.Standing.{Value-stands, Items-stand, Members-stand, First-item, First-member}
 
@@ -180,3 +181,27 @@ text-referred pool {p} {t} front small (refers w h e) =
     let g : w < 65536 = omega arith in
     rw (reference-word w (length t) g, reference-bytes w (length t) g)
     (text-in-front p pool (length p) w (length t) (front ∙ sym (take-length p)) h ∙ e)
+
+-- where the used part is the first words of the pool
+pub text-referred-front
+    : (pool : List ℕ) (used : ℕ) {k : ℕ} {t : Bytes} → used ≤ length pool → used < 65536 → Refers (take used pool) t k
+    → text-in pool (k % 65536) (k / 65536) ≡ t
+text-referred-front pool used h few r =
+    let size : length (take used pool) ≡ used = length-take-le used pool h in
+    text-referred pool (ap (λ (k : ℕ). take k pool) size) (omega arith) r
+
+-- a text that was put behind the used part of a pool stands in what is used then
+pub text-refers
+    : (pool : List ℕ) (w n : ℕ) → length (text-in pool w n) ≡ n → w + words n ≤ length pool
+    → Refers (take (w + (n + 7) / 8) pool) (text-in pool w n) (reference w n)
+unfolding words
+text-refers pool w n e h =
+    let long : length (take (w + (n + 7) / 8) pool) ≡ w + (n + 7) / 8 = length-take-le (w + (n + 7) / 8) pool h in
+    let same-text : text-in (take (w + (n + 7) / 8) pool) w n ≡ text-in pool w n =
+    text-in-front pool (take (w + (n + 7) / 8) pool) (w + (n + 7) / 8) w n
+    (take-take (w + (n + 7) / 8) (w + (n + 7) / 8) pool (omega arith)) (omega arith)
+    in
+    subst (λ (k : ℕ). Refers (take (w + (n + 7) / 8) pool) (text-in pool w n) (reference w k)) e
+    (refers w
+    (subst (λ (k : ℕ). w + words k ≤ length (take (w + (n + 7) / 8) pool)) (sym e) (omega (arith, long)))
+    (ap (λ (k : ℕ). text-in (take (w + (n + 7) / 8) pool) w k) e ∙ same-text))

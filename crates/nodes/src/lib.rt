@@ -169,7 +169,8 @@ pub fn same_name(pool: &[u64], a: u64, b: u64) -> bool
 // Whether one of the members whose rows stand from one row up to another has the name of a reference.
 pub fn has_member(nodes: &[u64], at: usize, end: usize, pool: &[u64], name: u64) -> bool
     requires { ⌜ Members-held (now nodes) (now pool) at end ⌝ }
-    ensures found { λ r. ⌜ ((p : List ℕ) (ms : Members) → take (length p) (now (pool .entry)) ≡ p → length p < 65536 → Members-stand (now (nodes .entry)) p at end ms → r ≡ has-name (text-in (now (pool .entry)) (name % 65536) (name / 65536)) ms) ⌝ }
+    ensures found { λ r. ⌜ ((p : List ℕ) (ms : Members) → take (length p) (now (pool .entry)) ≡ p → length p < 65536
+        → Members-stand (now (nodes .entry)) p at end ms → r ≡ has-name (text-in (now (pool .entry)) (name % 65536) (name / 65536)) ms) ⌝ }
 {
     let mut i = at;
     while i < end {

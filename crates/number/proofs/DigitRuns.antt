@@ -6,12 +6,12 @@ use native.Mathlib.Omega.{arith}
 use mathlib.Core.Logic.{⊎-elim}
 use mathlib.Core.Path.{_≡_, refl, sym, ap, _∙_}
 use mathlib.Core.Bool.{Bool, true, false}
-use mathlib.Core.List.{_∷_}
 use mathlib.Core.Option.{none, some}
 use lib.ListN.{length, getD, drop}
 use lib.Seq.{drop-cons}
 use Rattle.definitions.specs.Bytes.{Bytes, between, look}
-use Rattle.definitions.specs.Number.{Numeral, Phase, no-digits, begin, after-minus, after-zero, in-int, after-point, in-frac, after-e, after-sign, in-exp, next, extend, shifted, int-rows, e-rows}
+use Rattle.definitions.specs.Number.{Numeral, Phase, no-digits, begin, after-minus, after-zero, in-int, after-point}
+use Rattle.definitions.specs.Number.{in-frac, after-e, after-sign, in-exp, next, extend, shifted, int-rows, e-rows}
 use Rattle.number.specs.NumberRun.{longest}
 use Rattle.number.specs.NumberRead.{Reads-number, Reads-on, numeral}
 use Rattle.number.specs.NumberCode.{Digit, Digit-run, Stands-at, Opening, opening-of, behind-minus, Pointed, Settled, Quiet, past-coefficient}
@@ -143,7 +143,8 @@ pub int-read
 unfolding next int-rows
 int-read doc i begin n o h d z =
     same-from doc i begin in-int n h
-    (sym (looked (past-one (λ q. omega (arith, q, d .least)) (past-one z (in-row (between-of 49 57 (getD doc i 0) (omega (arith, d .least, lt-of-ne (d .least) z)) (d .most)))))))
+    (sym (looked (past-one (λ q. omega (arith, q, d .least))
+    (past-one z (in-row (between-of 49 57 (getD doc i 0) (omega (arith, d .least, lt-of-ne (d .least) z)) (d .most)))))))
     (sym (looked (in-row (between-of 48 57 (getD doc i 0) (d .least) (d .most)))))
 int-read doc i after-minus n o h d z =
     same-from doc i after-minus in-int n h

@@ -11,7 +11,8 @@ use mathlib.Core.Option.{none, some}
 use lib.ListN.{length, getD, drop, drop-of-length-le}
 use lib.Seq.{drop-cons}
 use Rattle.definitions.specs.Bytes.{Bytes, Row, row, between, look}
-use Rattle.definitions.specs.Number.{Numeral, Phase, begin, after-minus, after-zero, in-int, after-point, in-frac, after-e, after-sign, in-exp, next, int-rows, e-rows, extend}
+use Rattle.definitions.specs.Number.{Numeral, Phase, begin, after-minus, after-zero, in-int, after-point}
+use Rattle.definitions.specs.Number.{in-frac, after-e, after-sign, in-exp, next, int-rows, e-rows, extend}
 use Rattle.number.specs.NumberRun.{longest}
 use Rattle.number.specs.NumberRead.{Reads-on}
 use Rattle.number.specs.NumberCode.{Answers, Stands-for, Takes, Digit, phase-of, step-of}

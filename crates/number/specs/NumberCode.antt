@@ -5,7 +5,8 @@ use mathlib.Core.Bool.{Bool, true, false}
 use mathlib.Core.Option.{Option, none, some}
 use lib.ListN.{length, getD, drop}
 use Rattle.definitions.specs.Bytes.{Bytes, between}
-use Rattle.definitions.specs.Number.{Numeral, beyond, number-of, Phase, begin, after-minus, after-zero, in-int, after-point, in-frac, after-e, after-sign, in-exp, complete}
+use Rattle.definitions.specs.Number.{Numeral, beyond, number-of, Phase, begin, after-minus, after-zero}
+use Rattle.definitions.specs.Number.{in-int, after-point, in-frac, after-e, after-sign, in-exp, complete}
 use Rattle.number.specs.NumberRead.{number-in, numeral}
 use Rattle.number.specs.NumberRun.{longest}
 use Rattle.number.specs.declared.NumberRead.{NumberRead}

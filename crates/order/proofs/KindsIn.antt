@@ -2,14 +2,14 @@
 use Prim.Native.Nat.{ℕ, _+_, _*_}
 use mathlib.Core.Path.{_≡_, refl, sym, ap, _∙_}
 use mathlib.Core.Logic.{_⊎_, inl, inr}
-use mathlib.Core.Bool.{Bool, true, false, not, _&&_, _||_, false≢true}
-use mathlib.Core.List.{List, [], _∷_}
+use mathlib.Core.Bool.{Bool, true, false, not, _||_, false≢true}
 use lib.Bits.{bitOr}
-use Rattle.definitions.specs.Shape.{Kind, all-kinds, every, Numeric, no-number, int-only, int-and-dec, Shape, shape, has, has-int, has-dec, has-list, has-rec}
+use Rattle.definitions.specs.Shape.{Kind, all-kinds, Numeric, no-number, int-only, int-and-dec, Shape, shape, has, has-int, has-dec, has-list, has-rec}
 use Rattle.definitions.specs.Order.{kinds-in}
 use Rattle.definitions.specs.Join.{join}
-use Rattle.laws.specs.Bools.{and-left, and-right, and-intro, tell}
+use Rattle.laws.specs.Bools.{tell}
 use Rattle.laws.specs.JoinParts.{has-join}
+use Rattle.laws.specs.OrderParts.{every-intro, every-kind}
 use Rattle.shapes.specs.Shapes.{bit, numeric-bits, kind-bit, kind-bits, has-bit}
 use Rattle.shapes.specs.ShapesLaws.{has-kind, union-bits}
 
@@ -50,30 +50,6 @@ same-bits s t h =
 
 -- ---- all kinds
 
-data Among (k : Kind) : List Kind → Type 0 where
-  here : {ks : List Kind} → Among k (k ∷ ks)
-  there : {j : Kind} {ks : List Kind} → Among k ks → Among k (j ∷ ks)
-
-among-all : (k : Kind) → Among k all-kinds
-unfolding all-kinds
-among-all Kind.null = here
-among-all Kind.bool = there here
-among-all Kind.int = there (there here)
-among-all Kind.dec = there (there (there here))
-among-all Kind.text = there (there (there (there here)))
-among-all Kind.list = there (there (there (there (there here))))
-among-all Kind.rec = there (there (there (there (there (there here)))))
-
-every-at : (p : Kind → Bool) (k : Kind) (ks : List Kind) → Among k ks → every p ks ≡ true → p k ≡ true
-unfolding every
-every-at p k _ (here {ks}) h = and-left (p k) (every p ks) h
-every-at p k _ (there {j} {ks} i) h = every-at p k ks i (and-right (p j) (every p ks) h)
-
-every-all : (p : Kind → Bool) (ks : List Kind) → ((k : Kind) → p k ≡ true) → every p ks ≡ true
-unfolding every
-every-all p [] h = refl
-every-all p (k ∷ ks) h = and-intro (h k) (every-all p ks h)
-
 -- nothing is added
 adds-none : (p q : Bool) → (not p || q) ≡ true → (p || q) ≡ q
 adds-none true true e = refl
@@ -88,7 +64,7 @@ none-added false q e = refl
 pub kind-in : (k : Kind) (s t : Shape) → kinds-in s t ≡ true → has k s ≡ true → has k t ≡ true
 unfolding kinds-in
 kind-in k s t h e =
-    sym (adds-none (has k s) (has k t) (every-at (λ j. not (has j s) || has j t) k all-kinds (among-all k) h))
+    sym (adds-none (has k s) (has k t) (every-kind (λ j. not (has j s) || has j t) h k))
     ∙ ap (λ (b : Bool). b || has k t) e
 
 -- ---- what the bits tell
@@ -96,7 +72,7 @@ kind-in k s t h e =
 pub kinds-all : (s t : Shape) → bitOr (kind-bits s) (kind-bits t) ≡ kind-bits t → kinds-in s t ≡ true
 unfolding kinds-in
 kinds-all s t h =
-    every-all (λ j. not (has j s) || has j t) all-kinds
+    every-intro (λ j. not (has j s) || has j t) all-kinds
     (λ k.
     none-added (has k s) (has k t)
     (sym (has-join k s t)
@@ -111,7 +87,7 @@ bits-all s t h =
     ∙ same-bits (join s t) t
     (λ k.
     has-join k s t
-    ∙ adds-none (has k s) (has k t) (every-at (λ j. not (has j s) || has j t) k all-kinds (among-all k) h))
+    ∙ adds-none (has k s) (has k t) (every-kind (λ j. not (has j s) || has j t) h k))
 
 pub kinds-beyond : (s t : Shape) → (bitOr (kind-bits s) (kind-bits t) ≡ kind-bits t → ⊥) → kinds-in s t ≡ false
 kinds-beyond s t h = go (tell (kinds-in s t))

@@ -3,11 +3,10 @@ use Prim.Native.Nat.{ℕ, _+_, _/_, _%_, _≤_, _<_}
 use mathlib.Core.Path.{_≡_, refl, sym, ap, ap₂, _∙_, subst}
 use mathlib.Core.Bool.{Bool, true, false, not, _&&_, _||_}
 use mathlib.Core.List.{List}
-use mathlib.Core.Option.{Option, none, some}
-use native.Mathlib.Omega.{arith}
+use mathlib.Core.Option.{Option, none}
 use lib.ListN.{getD}
 use Rattle.definitions.specs.Bytes.{Bytes, found}
-use Rattle.definitions.specs.Shape.{Kind, Shape, Fields, find, has}
+use Rattle.definitions.specs.Shape.{Kind, Shape, Fields, find}
 use Rattle.definitions.specs.Order.{lacked-have-null}
 use Rattle.laws.specs.Bools.{or-right, not-true}
 use Rattle.pool.specs.Pool.{text-in}
@@ -25,10 +24,6 @@ not-fails true e = refl
 not-fails false e = sym e
 
 -- ---- one member
-
-or-second : (a : Bool) {b : Bool} → b ≡ false → a ≡ (a || b)
-or-second true e = refl
-or-second false e = sym e
 
 module _ (first : List ℕ) (from to : ℕ) (second : List ℕ) (row : ℕ) (pool : List ℕ) where
   -- the name of the shape at the row

@@ -1,13 +1,12 @@
 -- The walk over the members of the first shape. Assumes nothing.
-use Prim.Native.Nat.{ℕ, _+_, _/_, _%_, max, _≤_, _<_}
+use Prim.Native.Nat.{ℕ, _+_, _≤_, _<_}
 use mathlib.Core.Path.{_≡_, refl, sym, ap, _∙_, subst}
 use mathlib.Core.Bool.{Bool, true, false, not, _&&_}
 use mathlib.Core.List.{List}
 use mathlib.Core.Option.{Option, none, some}
 use native.Mathlib.Omega.{arith}
-use lib.ListN.{getD}
 use Rattle.definitions.specs.Bytes.{Bytes}
-use Rattle.definitions.specs.Shape.{Shape, Fields, no-fields, field, find, levels, levels-fields}
+use Rattle.definitions.specs.Shape.{Shape, Fields, field, find, levels, levels-fields}
 use Rattle.definitions.specs.Order.{below, below-fields}
 use Rattle.laws.specs.Bools.{not-true}
 use Rattle.shapes.specs.Shapes.{size-at}

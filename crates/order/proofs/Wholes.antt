@@ -1,15 +1,16 @@
 -- Two shapes: where their parts stand, and how the order is put together from the parts. Assumes nothing.
-use Prim.Native.Nat.{ℕ, suc, _+_, _-_, _%_, max, _≤_, _<_}
+use Prim.Native.Nat.{ℕ, _+_, _-_, _%_, _≤_, _<_}
 use mathlib.Core.Path.{_≡_, refl, sym, ap, ap₂, _∙_, subst}
 use mathlib.Core.Bool.{Bool, true, false, not, _&&_}
 use mathlib.Core.List.{List}
 use native.Mathlib.Omega.{arith}
 use lib.Bits.{bitOr}
-use lib.ListN.{length, getD}
-use Rattle.definitions.specs.Shape.{Kind, Shape, shape, Element, no-list, list-of, Record, no-rec, rec-of, Fields, has, has-list, has-rec, element-of, record-of, levels, levels-fields}
+use lib.ListN.{getD}
+use Rattle.definitions.specs.Shape.{Kind, Shape, shape, no-list, list-of, no-rec, rec-of, Fields, has}
+use Rattle.definitions.specs.Shape.{has-list, has-rec, element-of, record-of, levels, levels-fields}
 use Rattle.definitions.specs.Order.{kinds-in, lacked-have-null, below, below-element, below-record, below-fields}
 use Rattle.laws.specs.Bools.{not-true, clash}
-use Rattle.shapes.specs.Shapes.{kind-bit, kind-bits, has-bit, size-at, members-at}
+use Rattle.shapes.specs.Shapes.{kind-bit, has-bit, size-at, members-at}
 use Rattle.shapes.specs.Held.{Holds-shape, Holds-fields}
 use Rattle.shapes.specs.HeldLaws.{held-kinds, held-has, held-element, held-members}
 use Rattle.order.specs.Comparing.{Shapes-asked, Shapes-told, Parts-asked, Element-told, Record-told, Listed-asked, Fields-asked, Fields-told, Nulls-told}

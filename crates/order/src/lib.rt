@@ -1,6 +1,7 @@
 // Whether a shape lies below another: the order goes down both together.
 ghost use Rattle.shapes.specs.Members.{Some-listed};
-ghost use Rattle.order.specs.Comparing.{Shapes-asked, Shapes-told, Parts-asked, Element-told, Record-told, Fields-asked, Fields-told, Nulls-told, Listed-asked, Lists, Lacks};
+ghost use Rattle.order.specs.Comparing.{Shapes-asked, Shapes-told, Parts-asked, Element-told, Record-told};
+ghost use Rattle.order.specs.Comparing.{Fields-asked, Fields-told, Nulls-told, Listed-asked, Lists, Lacks};
 use shapes::Member;
 use shapes::Shape;
 

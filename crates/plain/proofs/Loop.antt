@@ -10,9 +10,10 @@ use Rattle.definitions.specs.Bytes.{Bytes}
 use Rattle.definitions.specs.Value.{size}
 use Rattle.definitions.specs.Plain.{plain}
 use Rattle.nodes.specs.Nodes.{row-size}
+use Rattle.nodes.specs.StandingLaws.{size-some}
 use Rattle.plain.specs.Table.{Writable, Writes-value}
 use Rattle.plain.specs.Parts.{Parts, comma, label, plain-parts, Holds-parts, Writable-parts, Writable-label, Writes-label}
-use Rattle.plain.proofs.Rows.{size-some, stands-size, stands-within}
+use Rattle.plain.proofs.Rows.{stands-size, stands-within}
 use Rattle.plain.proofs.Parts.{First, first, length-part, Going, goes, goes-on}
 
 pub record Loop (nodes pool : List ℕ) (named : Bool) (row end : ℕ) (out₀ : Bytes) (at : ℕ) (out : Bytes) (i j : ℕ) : Type 0 where

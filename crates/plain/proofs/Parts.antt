@@ -15,10 +15,12 @@ use Rattle.definitions.specs.Plain.{plain, plain-text, plain-items, plain-membe
 use Rattle.text.specs.Writes.{Writes}
 use Rattle.nodes.specs.Nodes.{Item-rows, no-item-rows, item-rows, Member-rows, no-member-rows, member-rows}
 use Rattle.nodes.specs.NodesLaws.{length-rows}
+use Rattle.nodes.specs.StandingLaws.{size-some}
 use Rattle.plain.specs.Table.{Bounded-numbers, Bounded-items, Bounded-members, Stands, Holds}
-use Rattle.plain.specs.Parts.{Parts, no-parts, part, comma, label, plain-parts, unlabeled, labeled, Part-rows, no-part-rows, part-rows, Holds-parts, Holds-label}
+use Rattle.plain.specs.Parts.{Parts, no-parts, part, comma, label, plain-parts, unlabeled, labeled}
+use Rattle.plain.specs.Parts.{Part-rows, no-part-rows, part-rows, Holds-parts, Holds-label}
 use Rattle.plain.proofs.Writing.{writes-none, writes-then, writes-as}
-use Rattle.plain.proofs.Rows.{size-some, stands-name, stands-within, list-apart, rec-apart, Opens, opens}
+use Rattle.plain.proofs.Rows.{stands-name, stands-within, list-apart, rec-apart, Opens, opens}
 
 -- ---- items and members as parts
 

@@ -1,5 +1,5 @@
 -- What stands at a row that holds a value, and where its text or its parts stand. Assumes nothing.
-use Prim.Native.Nat.{ℕ, _+_, _*_, _/_, _%_, _≤_, _<_}
+use Prim.Native.Nat.{ℕ, _+_, _*_, _/_, _%_, _≤_}
 use native.Mathlib.Nat.{add-zero}
 use native.Mathlib.Omega.{arith}
 use mathlib.Core.Path.{_≡_, refl, sym, ap, _∙_}
@@ -12,17 +12,9 @@ use Rattle.definitions.specs.Value.{Value, Items, Members, size}
 use Rattle.definitions.specs.Plain.{plain}
 use Rattle.nodes.specs.Nodes.{kind-code, head-word, Refers, Rows, number-row, text-row, list-rows, rec-rows, Item-rows, Member-rows, row-size}
 use Rattle.nodes.specs.NodesLaws.{length-rows, Begins, rows-begin, row-size-is, row-name-is}
+use Rattle.nodes.specs.StandingLaws.{size-some}
 use Rattle.plain.specs.Table.{Stands, Bounded-numbers}
 use Rattle.plain.specs.HeadLaws.{bits-small, head-kind, head-length}
-
-pub size-some : (v : Value) → 1 ≤ size v
-unfolding size
-size-some Value.null = omega arith
-size-some (Value.bool b) = omega arith
-size-some (Value.number x) = omega arith
-size-some (Value.text t) = omega arith
-size-some (Value.list vs) = omega arith
-size-some (Value.rec ms) = omega arith
 
 -- ---- the words of a row
 

@@ -3,10 +3,10 @@ use Prim.Native.Nat.{ℕ, _+_, _≤_, _<_}
 use native.Mathlib.Nat.{add-zero}
 use native.Mathlib.Numerals.{add-one}
 use native.Mathlib.Omega.{arith}
-use mathlib.Core.Path.{_≡_, refl, sym, ap, ap₂, _∙_}
-use mathlib.Core.List.{[], _∷_, _++_, append-assoc, append-nil}
-use lib.ListN.{length, getD, take, drop, set, length-append, length-set, take-append-drop}
-use lib.Seq.{length-take-le, take-at, drop-at, drop-drop, set-split, append-snoc, take-length, paste, paste-zero, paste-suc}
+use mathlib.Core.Path.{_≡_, refl, sym, ap, _∙_}
+use mathlib.Core.List.{_++_}
+use lib.ListN.{length, getD, take, drop, set, length-set}
+use lib.Seq.{take-length, paste, paste-zero, paste-suc}
 use Rattle.definitions.specs.Bytes.{Bytes}
 use Rattle.text.specs.Writes.{Writes}
 pub use Rattle.text.specs.WritesLaws.{writes-none, writes-byte, writes-then, writes-as}

@@ -1,6 +1,7 @@
 -- A good value's numbers keep refusal 4's limits. Assumes nothing.
-use Rattle.definitions.specs.Value.{Value, Items, no-items, item, Members, no-members, member}
-use Rattle.laws.specs.Good.{Good-value, good-null, good-bool, good-number, good-text, good-list, good-rec, Good-items, good-no-items, good-item, Good-members, good-no-members, good-member}
+use Rattle.definitions.specs.Value.{Value, Items, Members}
+use Rattle.laws.specs.Good.{Good-value, good-null, good-bool, good-number, good-text, good-list, good-rec}
+use Rattle.laws.specs.Good.{Good-items, good-no-items, good-item, Good-members, good-no-members, good-member}
 use Rattle.plain.specs.Table.{Bounded-numbers, Bounded-items, Bounded-members}
 
 mutual

@@ -9,10 +9,12 @@ use Rattle.definitions.specs.Bytes.{Bytes, bytes, look, between}
 use Rattle.definitions.specs.Number.{most-coefficient, most-scale}
 use Rattle.definitions.specs.Value.{Value, no-items, item, no-members, member, size}
 use Rattle.definitions.specs.Json.{true-name}
-use Rattle.definitions.specs.Plain.{plain, plain-bool, plain-number, plain-text, escaped-all, escaped, short-escapes, decimal, decimal-within, last-digits, fraction, minus}
+use Rattle.definitions.specs.Plain.{plain, plain-bool, plain-number, plain-text, escaped-all, escaped}
+use Rattle.definitions.specs.Plain.{short-escapes, decimal, decimal-within, last-digits, fraction, minus}
 use Rattle.pool.specs.Pool.{words, text-in, pool-bytes, unpacked}
 use Rattle.number.specs.NumberWrite.{as-number}
-use Rattle.nodes.specs.Nodes.{kind-code, sign-bit, number-bits, head-word, reference, refers, Rows, bool-row, number-row, list-rows, rec-rows, no-item-rows, item-rows, no-member-rows, member-rows}
+use Rattle.nodes.specs.Nodes.{kind-code, sign-bit, number-bits, head-word, reference, refers, Rows, bool-row}
+use Rattle.nodes.specs.Nodes.{number-row, list-rows, rec-rows, no-item-rows, item-rows, no-member-rows, member-rows}
 use Rattle.plain.specs.Table.{Bounded-numbers, Writable}
 
 unfoldable pub sample : Value
@@ -28,7 +30,8 @@ unfoldable pub pool : List ℕ
 pool = 0x6100000000000000 ∷ []
 
 sample-rows : Rows pool 0 sample table
-unfolding sample table pool bytes head-word kind-code number-bits sign-bit size reference text-in pool-bytes unpacked words plain plain-bool true-name plain-number plain-text escaped-all escaped short-escapes decimal decimal-within last-digits fraction minus look between
+unfolding sample table pool bytes head-word kind-code number-bits sign-bit size reference text-in pool-bytes unpacked words plain plain-bool true-name
+    plain-number plain-text escaped-all escaped short-escapes decimal decimal-within last-digits fraction minus look between
 sample-rows =
     let within : 0 + words (length (bytes "a")) ≤ length pool = omega arith in
     list-rows
@@ -37,7 +40,8 @@ sample-rows =
 
 -- what `write_value` asks
 pub sample-writable : (out : Bytes) → 17 ≤ length out → Writable table pool 0 out 0
-unfolding sample table pool bytes plain plain-bool true-name plain-number plain-text escaped-all escaped short-escapes decimal decimal-within last-digits fraction minus look between Bounded-numbers most-coefficient most-scale
+unfolding sample table pool bytes plain plain-bool true-name plain-number plain-text escaped-all escaped short-escapes decimal decimal-within last-digits
+    fraction minus look between Bounded-numbers most-coefficient most-scale
 sample-writable out h =
     record {
       value = sample;

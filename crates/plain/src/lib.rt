@@ -155,8 +155,10 @@ pub fn write_value(out: &mut [u8], nodes: &[u64], pool: &[u64]) -> usize
 // The end of an operation that writes the value at the first row: refusal 15, or the bytes at the front of the output.
 pub fn deliver(output: &mut [u8], nodes: &[u64], pool: &[u64], steps: usize) -> Answer
     requires { ⌜ Held (now nodes) (now pool) ⌝ }
-    ensures answered { λ r. ⌜ ((v : Value) → Holds (now (nodes .entry)) (now (pool .entry)) 0 v → r ≡ deliver (now (output .entry)) (to-write (plain v) steps) .answer) ⌝ }
-    ensures kept { λ _. ⌜ ((v : Value) → Holds (now (nodes .entry)) (now (pool .entry)) 0 v → now (output .exit) ≡ deliver (now (output .entry)) (to-write (plain v) steps) .output) ⌝ }
+    ensures answered { λ r. ⌜ ((v : Value) → Holds (now (nodes .entry)) (now (pool .entry)) 0 v
+        → r ≡ deliver (now (output .entry)) (to-write (plain v) steps) .answer) ⌝ }
+    ensures kept { λ _. ⌜ ((v : Value) → Holds (now (nodes .entry)) (now (pool .entry)) 0 v
+        → now (output .exit) ≡ deliver (now (output .entry)) (to-write (plain v) steps) .output) ⌝ }
 {
     let needed = written_length(nodes, 0);
     if output.len() < needed {

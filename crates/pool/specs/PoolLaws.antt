@@ -5,7 +5,8 @@ use mathlib.Core.List.{List, [], _∷_, _++_, append-assoc}
 use native.Mathlib.Nat.{div-one, zero-div, zero-mod, zero-add, suc-add}
 use native.Mathlib.Omega.{arith}
 use lib.ListN.{length, getD, take, drop, replicate, length-append, length-take, length-drop, length-replicate, List·getD-append}
-use lib.Seq.{take-nil, drop-nil, take-append-le, take-append-add, drop-append-add, getD-append-add, getD-take, getD-drop, take-add, take-at, drop-at, length-take-le, take-take, drop-drop}
+use lib.Seq.{take-nil, drop-nil, take-append-le, take-append-add, drop-append-add, getD-append-add}
+use lib.Seq.{getD-take, getD-drop, take-add, take-at, drop-at, length-take-le, take-take, drop-drop}
 use Rattle.definitions.specs.Bytes.{Bytes}
 use Rattle.pool.specs.Pool.{Put, unpacked, pool-bytes, text-in, words, put-at}
 

@@ -1,12 +1,12 @@
 -- Answers for the element of a shape. Assumes nothing.
-use Prim.Native.Nat.{ℕ, _-_}
+use Prim.Native.Nat.{ℕ}
 use mathlib.Core.Path.{_≡_, refl, sym, ap, _∙_}
 use mathlib.Core.Bool.{Bool, true, false}
 use mathlib.Core.List.{List, []}
 use native.Mathlib.Omega.{arith}
 use Rattle.definitions.specs.declared.Limits.{Limits}
 use Rattle.definitions.specs.Bytes.{Bytes}
-use Rattle.definitions.specs.Shape.{Kind, among, shape, no-list, list-of, no-fields, has-list}
+use Rattle.definitions.specs.Shape.{Kind, among, no-list, list-of, no-fields, has-list}
 use Rattle.definitions.specs.ShapeText.{Around, as-element, shape-open, want, put, with-element}
 use Rattle.shapes.specs.Shapes.{has-bit, no-element-rows, element-rows}
 use Rattle.shaperead.specs.declared.reading.Cursor.{Cursor}

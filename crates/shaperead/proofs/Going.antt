@@ -1,5 +1,5 @@
 -- How reading goes on from one part of a shape to the next, and what the tables then hold. Assumes nothing.
-use Prim.Native.Nat.{ℕ, suc, _+_, _-_, _*_, _≤_}
+use Prim.Native.Nat.{ℕ, suc, _*_, _≤_}
 use mathlib.Core.Path.{_≡_, sym, ap, _∙_}
 use mathlib.Core.List.{List, [], _++_, append-assoc, append-nil}
 use native.Mathlib.Omega.{arith}
@@ -7,10 +7,9 @@ use lib.ListN.{take, drop, length-append, take-append-drop}
 use lib.Seq.{take-take}
 use Rattle.definitions.specs.declared.Limits.{Limits}
 use Rattle.definitions.specs.Bytes.{Bytes}
-use Rattle.definitions.specs.Shape.{shape}
 use Rattle.definitions.specs.ShapeText.{Parts, Around, as-element, as-member, depth}
 use Rattle.shaperead.specs.declared.reading.Cursor.{Cursor}
-use Rattle.shaperead.specs.ShapeParts.{reading, Limited, Moves, Ready, Goes, Sized}
+use Rattle.shaperead.specs.ShapeParts.{Limited, Moves, Ready, Goes, Sized}
 
 -- ---- going on
 

@@ -1,5 +1,5 @@
 -- The kind words of a shape, read one after the other. Assumes nothing.
-use Prim.Native.Nat.{ℕ, _+_, _-_, _≤_}
+use Prim.Native.Nat.{ℕ, _+_, _≤_}
 use mathlib.Core.Path.{_≡_, refl, sym, ap, _∙_, subst}
 use mathlib.Core.Bool.{Bool, true, false}
 use mathlib.Core.List.{List, [], _∷_}
@@ -13,7 +13,8 @@ use Rattle.definitions.specs.Bytes.{Bytes}
 use Rattle.definitions.specs.Outcome.{refused}
 use Rattle.definitions.specs.Shape.{Kind, among, no-list, no-fields}
 use Rattle.definitions.specs.Tokens.{opening, closing, word, broken, misplaced, go, look-word, where-some, where-true, want-open}
-use Rattle.definitions.specs.ShapeText.{Parts, Around, kind-word, want, no-parts, with-kind, depth, kind-words, may-follow, want-step, kind-step, bracket-step, element-step, member-step}
+use Rattle.definitions.specs.ShapeText.{Parts, Around, kind-word, want, no-parts, with-kind, depth, kind-words}
+use Rattle.definitions.specs.ShapeText.{may-follow, want-step, kind-step, bracket-step, element-step, member-step}
 use Rattle.laws.specs.Bools.{clash}
 use Rattle.shapes.specs.Shapes.{kind-bit}
 use Rattle.tokens.specs.declared.Token.{Token}

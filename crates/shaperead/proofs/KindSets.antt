@@ -1,14 +1,15 @@
 -- Sets of kinds, as kinds read in order and as sums of bits. Assumes nothing.
 use Prim.Native.Nat.{ℕ, suc, _+_, _*_, _^_, _≤_, _<_}
 use mathlib.Core.Path.{_≡_, refl, sym, ap, ap₂, _∙_}
-use mathlib.Core.Bool.{Bool, true, false, not, _&&_}
+use mathlib.Core.Bool.{Bool, true, false, _&&_}
 use mathlib.Core.List.{List, [], _∷_}
 use native.Mathlib.Decide.{decLt}
 use native.Mathlib.Omega.{arith}
 use lib.Pow.{pow-mono}
 use borrow.Author.Tests.{lt-ltb, le-ltb, ltb-true}
 use lib.Dec.{ltb}
-use Rattle.definitions.specs.Shape.{Kind, rank, among, no-number, int-only, int-and-dec, Shape, shape, Element, no-list, list-of, Record, no-rec, rec-of, no-fields, nothing, has-list, has-rec}
+use Rattle.definitions.specs.Shape.{Kind, rank, among, no-number, int-only, int-and-dec, Shape, shape, Element}
+use Rattle.definitions.specs.Shape.{no-list, list-of, Record, no-rec, rec-of, no-fields, nothing, has-list, has-rec}
 use Rattle.definitions.specs.ShapeText.{numeric-from, in-order, may-follow}
 use Rattle.laws.specs.Bools.{and-left, and-right, clash}
 use Rattle.shapes.specs.Shapes.{kind-bit, bit, numeric-bits, kind-bits, has-bit}

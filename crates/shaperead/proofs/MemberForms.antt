@@ -1,12 +1,12 @@
 -- Answers for the members of a shape, read one after the other. Assumes nothing.
-use Prim.Native.Nat.{ℕ, suc, _+_, _-_, _≤_, _<_}
+use Prim.Native.Nat.{ℕ, suc, _-_, _≤_, _<_}
 use mathlib.Core.Path.{_≡_, refl, sym, ap, _∙_, subst}
 use mathlib.Core.Bool.{true, false}
 use mathlib.Core.List.{List, [], _++_, append-assoc, append-nil}
 use native.Mathlib.Omega.{arith}
 use lib.ListN.{length, take, drop}
 use Rattle.definitions.specs.Bytes.{Bytes}
-use Rattle.definitions.specs.Shape.{shape, Fields, no-fields, field, has-rec}
+use Rattle.definitions.specs.Shape.{Fields, no-fields, field, has-rec}
 use Rattle.definitions.specs.ShapeText.{as-member, shape-open, member-open, member-close, want, put, with-member, fields-onto, build}
 use Rattle.laws.specs.Bools.{clash}
 use Rattle.nodes.specs.Nodes.{Refers}
@@ -18,7 +18,8 @@ use Rattle.shaperead.specs.declared.reading.Part.{Part}
 use Rattle.shaperead.specs.declared.reading.Part.the-variants.{Done, Refused}
 use Rattle.shaperead.specs.declared.members.Turn.{Turn}
 use Rattle.shaperead.specs.declared.members.Turn.the-variants.{More, Stop}
-use Rattle.shaperead.specs.ShapeParts.{reading, parts, none-yet, latest-is, Moves, Turn-is, Turns, Ready, Goes, Sized, Form-done, Form-answer, Reads-form, Fields-before, no-fields-before, field-before, Fields-read, Reads-members, Member-begun, Turn-answer}
+use Rattle.shaperead.specs.ShapeParts.{reading, parts, none-yet, latest-is, Moves, Turn-is, Turns, Ready, Goes, Sized, Form-done, Form-answer}
+use Rattle.shaperead.specs.ShapeParts.{Reads-form, Fields-before, no-fields-before, field-before, Fields-read, Reads-members, Member-begun, Turn-answer}
 use Rattle.shaperead.proofs.Going.{goes-then, goes-alone, sized-then, ready-then, grown, in-member}
 
 -- ---- members
@@ -156,7 +157,9 @@ module _
           → Turn-answer left values text s₀ p₀ s′ p″ kinds c t
       member-read {p″} {t} y = pick t (y .answer)
         where
-          b : Fields-read (λ ks el gs o. want (member-close (parts ks el gs) o)) left values text s₀ p₀ s′ p′ kinds c to (field (m .bytes) (done .form) (m .fields))
+          b
+              : Fields-read (λ ks el gs o. want (member-close (parts ks el gs) o)) left values text s₀ p₀ s′ p′ kinds c to
+              (field (m .bytes) (done .form) (m .fields))
           b = behind-form
 
           all-sized : Sized s₀ p₀ s′ p″
@@ -170,7 +173,8 @@ module _
 
           held-then : (u : Cursor) → to .top ≤ u .top → Fields-before (take (u .top) p″) (field (m .bytes) (done .form) (m .fields)) (b .rows)
           held-then u h =
-              subst (λ (q : List ℕ). Fields-before q (field (m .bytes) (done .form) (m .fields)) (b .rows)) (sym (grown p′ p″ (to .top) (u .top) (y .kept .front) h))
+              subst (λ (q : List ℕ). Fields-before q (field (m .bytes) (done .form) (m .fields)) (b .rows))
+              (sym (grown p′ p″ (to .top) (u .top) (y .kept .front) h))
               (fields-before-grow (drop (to .top) (take (u .top) p″)) (b .held))
 
           pick : (u : Turn) → Turn-is member-close false name text p′ p″ kinds to u → Turn-answer left values text s₀ p₀ s′ p″ kinds c u
@@ -183,7 +187,8 @@ module _
                       run = λ l o a ks k el.
                           b .run l o a ks k el
                           ∙ z .run ks el (field (m .bytes) (done .form) (m .fields)) k (latest-is name-still) l (to .begun) o
-                          ∙ ap (λ (i : ℕ). reading l i text (want (shape-open (as-member (parts ks el (field (m .bytes) (done .form) (m .fields))) (z .bytes) o))) (u .at))
+                          ∙ ap (λ (i : ℕ).
+                          reading l i text (want (shape-open (as-member (parts ks el (field (m .bytes) (done .form) (m .fields))) (z .bytes) o))) (u .at))
                           (sym (z .begun));
                       rows = b .rows;
                       held = held-then u (z .moves .grows);

@@ -1,5 +1,5 @@
 -- Answers for the names and the brackets of members. Assumes nothing.
-use Prim.Native.Nat.{ℕ, _+_, _-_, _/_, _%_, _≤_, _<_, Ordering, Ordering·lt, Ordering·eq, Ordering·gt}
+use Prim.Native.Nat.{ℕ, _+_, _/_, _%_, _≤_, _<_, Ordering, Ordering·lt, Ordering·eq, Ordering·gt}
 use mathlib.Core.Path.{_≡_, refl, sym, ap, ap₂, _∙_, subst}
 use mathlib.Core.Bool.{Bool, true, false}
 use mathlib.Core.List.{List, [], _∷_}
@@ -7,19 +7,17 @@ use native.Mathlib.Omega.{arith}
 use denote.Enum.Declared.{tagOf}
 use types.Run.{OneOf}
 use lib.ListN.{length, take}
-use lib.Seq.{take-take, length-take-le}
 use Rattle.definitions.specs.declared.Limits.{Limits}
 use Rattle.definitions.specs.Bytes.{Bytes, order}
 use Rattle.definitions.specs.Outcome.{refused}
 use Rattle.definitions.specs.Shape.{Kind, Element, Fields, field, before}
 use Rattle.definitions.specs.Tokens.{opening, closing, word, want-close, want-text, where-true}
-use Rattle.definitions.specs.ShapeText.{Parts, Around, member-open, member-word, member-name, member-close, want, put, name-fits, want-step, member-step}
+use Rattle.definitions.specs.ShapeText.{Parts, Around, member-open, member-word, member-name, member-close, want, name-fits, want-step, member-step}
 use Rattle.laws.specs.Bools.{clash}
-use Rattle.pool.specs.Pool.{words, text-in, ordering-of}
-use Rattle.pool.specs.PoolLaws.{text-in-front}
+use Rattle.pool.specs.Pool.{text-in, ordering-of}
 use Rattle.pool.specs.declared.Comparison.{Comparison}
-use Rattle.nodes.specs.Nodes.{reference, Refers, refers}
-use Rattle.nodes.specs.NodesLaws.{reference-word, reference-bytes}
+use Rattle.nodes.specs.Nodes.{reference, refers}
+use Rattle.nodes.specs.StandingLaws.{text-refers, text-referred-front}
 use Rattle.shapes.specs.Shapes.{has-bit}
 use Rattle.tokens.specs.declared.Token.{Token}
 use Rattle.tokens.specs.declared.Token.the-variants.{Opening, Closing, Quoted}
@@ -33,22 +31,13 @@ use Rattle.shaperead.specs.declared.members.Named.{Named}
 use Rattle.shaperead.specs.declared.members.Named.the-variants as Named-is
 use Rattle.shaperead.specs.declared.members.Turn.{Turn}
 use Rattle.shaperead.specs.declared.members.Turn.the-variants.{More, Stop}
-use Rattle.shaperead.specs.ShapeParts.{reading, Placed, Expected-answer, Expects, Kinds-held, parts, Latest, none-yet, latest-is, Named-answer, Reads-name, Names-answer, Names-member, Turn-is, Turns}
+use Rattle.shaperead.specs.ShapeParts.{reading, Placed, Expected-answer, Expects, Kinds-held, parts, Latest, none-yet}
+use Rattle.shaperead.specs.ShapeParts.{latest-is, Named-answer, Reads-name, Names-answer, Names-member, Turn-is, Turns}
 use Rattle.shaperead.proofs.Steps.{goes-on, misplaced-found, misplaced-read, no-closing, no-bracket, no-text, member-bytes, only-member, member-goes}
 use Rattle.shaperead.proofs.KindSets.{has-rec-kind}
 use Rattle.shaperead.proofs.Openings.{next-kept, kept-then, placed-further}
 
 -- ---- names in order
-
--- the text of a name word
-name-is
-    : (pool : List ℕ) (used : ℕ) {k : ℕ} {t : Bytes} → used ≤ length pool → used < 65536 → Refers (take used pool) t k
-    → text-in pool (k % 65536) (k / 65536) ≡ t
-name-is pool used {t} h few (refers w room e) =
-    let inside : w + words (length t) ≤ used = omega (arith, room, length-take-le used pool h) in
-    ap₂ (text-in pool) (reference-word w (length t) (omega (arith, inside))) (reference-bytes w (length t) (omega (arith, inside)))
-    ∙ sym (text-in-front pool (take used pool) used w (length t) (take-take used used pool (omega arith)) inside)
-    ∙ e
 
 pub first-fits
     : {p : List ℕ} {first : Bool} {latest : ℕ} (n : Bytes) → first ≡ true → (fs : Fields) → Latest p fs first latest → true ≡ name-fits fs n
@@ -81,7 +70,7 @@ compared-fits pool w n x h l f a b e fs none-yet = clash {b = true} refl f
 compared-fits pool w n {latest} {v} {m} x h l f a b e (field t s fs) (latest-is r) =
     ap is-less
     (e
-    ∙ ap (λ (u : Bytes). order u (text-in pool w n)) (ap₂ (text-in pool) a b ∙ name-is pool w h l r))
+    ∙ ap (λ (u : Bytes). order u (text-in pool w n)) (ap₂ (text-in pool) a b ∙ text-referred-front pool w h l r))
     ∙ sym (before-less t (text-in pool w n))
 
 -- ---- a name
@@ -139,22 +128,6 @@ module _ {text : Bytes} {at top : ℕ} {p₀ p : List ℕ} {e : Expected} (x : E
           }
 
 -- ---- a member up to its shape
-
--- a text that was put behind the used part of a pool stands in what is used then
-text-refers
-    : (pool : List ℕ) (w n : ℕ) → length (text-in pool w n) ≡ n → w + words n ≤ length pool
-    → Refers (take (w + (n + 7) / 8) pool) (text-in pool w n) (reference w n)
-unfolding words
-text-refers pool w n e h =
-    let long : length (take (w + (n + 7) / 8) pool) ≡ w + (n + 7) / 8 = length-take-le (w + (n + 7) / 8) pool h in
-    let same-text : text-in (take (w + (n + 7) / 8) pool) w n ≡ text-in pool w n =
-    text-in-front pool (take (w + (n + 7) / 8) pool) (w + (n + 7) / 8) w n
-    (take-take (w + (n + 7) / 8) (w + (n + 7) / 8) pool (omega arith)) (omega arith)
-    in
-    subst (λ (k : ℕ). Refers (take (w + (n + 7) / 8) pool) (text-in pool w n) (reference w k)) e
-    (refers w
-    (subst (λ (k : ℕ). w + words k ≤ length (take (w + (n + 7) / 8) pool)) (sym e) (omega (arith, long)))
-    (ap (λ (k : ℕ). text-in (take (w + (n + 7) / 8) pool) w k) e ∙ same-text))
 
 module _
     (first : Bool) (latest : ℕ) {at : ℕ} {text : Bytes} {p₀ p : List ℕ} (c : Cursor) {m : Named} (r₀ : Placed text p₀ at (c .top) × (c .at < at))

@@ -31,8 +31,10 @@ use Rattle.shaperead.specs.declared.opening.Expected.the-variants as Exp
 use Rattle.shaperead.specs.declared.opening.Begun.{Begun}
 use Rattle.shaperead.specs.declared.opening.Begun.the-variants as Begun-is
 use Rattle.shaperead.specs.declared.opening.Opened.the-variants as Opened-is
-use Rattle.shaperead.specs.ShapeParts.{reading, Limited, Judges, Placed, Kept, Expected-answer, Expects, Begun-answer, Begins-shape, Kinds-answer, Reads-kinds, Opens-form}
-use Rattle.shaperead.proofs.Steps.{shown, goes-on, opens-on, opens-full, misplaced-found, misplaced-read, no-opening, no-word, shape-bytes, only-shape, shape-goes}
+use Rattle.shaperead.specs.ShapeParts.{reading, Limited, Judges, Placed, Kept, Expected-answer, Expects}
+use Rattle.shaperead.specs.ShapeParts.{Begun-answer, Begins-shape, Kinds-answer, Reads-kinds, Opens-form}
+use Rattle.shaperead.proofs.Steps.{shown, goes-on, opens-on, opens-full, misplaced-found, misplaced-read}
+use Rattle.shaperead.proofs.Steps.{no-opening, no-word, shape-bytes, only-shape, shape-goes}
 
 -- ---- the pool
 

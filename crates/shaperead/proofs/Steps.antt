@@ -12,9 +12,11 @@ use Rattle.definitions.specs.Bytes.{Bytes, bytes, same}
 use Rattle.definitions.specs.Outcome.{refused}
 use Rattle.definitions.specs.Shape.{Shape}
 use Rattle.definitions.specs.Limits.{over}
-use Rattle.definitions.specs.Tokens.{opening, closing, quoted, word, broken, Placed, at-place, Step, misplaced, go, opens, want-open, want-close, want-text, want-word, where-some, look-word, want-named, judge-step, or-end, read-tokens}
+use Rattle.definitions.specs.Tokens.{opening, closing, quoted, word, broken, Placed, at-place, Step, misplaced, go, opens, want-open, want-close}
+use Rattle.definitions.specs.Tokens.{want-text, want-word, where-some, look-word, want-named, judge-step, or-end, read-tokens}
 use Rattle.definitions.specs.Tokens as Tokens
-use Rattle.definitions.specs.ShapeText.{Parts, Around, Want, shape-open, shape-word, kind-word, member-open, member-word, member-name, member-close, State, want, whole, no-parts, shape-words, member-words, want-step, member-step, step, finished}
+use Rattle.definitions.specs.ShapeText.{Parts, Around, Want, shape-open, shape-word, kind-word, member-open, member-word, member-name, member-close}
+use Rattle.definitions.specs.ShapeText.{State, want, whole, no-parts, shape-words, member-words, want-step, member-step, step, finished}
 use Rattle.laws.specs.Names.{same-eq, same-refl}
 use Rattle.laws.specs.Tests.{fails}
 use Rattle.pool.specs.Pool.{words, text-in}

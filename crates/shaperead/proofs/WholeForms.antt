@@ -8,7 +8,7 @@ use native.Mathlib.Omega.{arith}
 use lib.ListN.{length, take, drop}
 use Rattle.definitions.specs.declared.Limits.{Limits}
 use Rattle.definitions.specs.Bytes.{Bytes}
-use Rattle.definitions.specs.Shape.{Kind, among, shape, Element, no-list, no-rec, rec-of, Fields, no-fields, field, has-list, has-rec}
+use Rattle.definitions.specs.Shape.{Kind, among, Element, no-list, no-rec, rec-of, Fields, no-fields, field, has-list, has-rec}
 use Rattle.definitions.specs.ShapeText.{Around, shape-open, want, fields-onto, record-from, build}
 use Rattle.shapes.specs.Shapes.{kind-bits, has-bit, head-word, head-of, Shape-rows, shape-rows, Element-rows, Record-rows, no-record-rows, record-rows}
 use Rattle.shapes.specs.ShapesLaws.{element-rows-grow, length-shape-rows}
@@ -17,7 +17,9 @@ use Rattle.shaperead.specs.declared.reading.Part.{Part}
 use Rattle.shaperead.specs.declared.reading.Part.the-variants.{Done, Refused}
 use Rattle.shaperead.specs.declared.opening.Opened.{Opened}
 use Rattle.shaperead.specs.declared.opening.Opened.the-variants as Opened-is
-use Rattle.shaperead.specs.ShapeParts.{reading, Limited, Kinds-held, bits-of, parts, behind, Opens, Opened-answer, Opens-form, Ready, Goes, Reads-form, Element-done, Element-answer, Reads-element, Fields-before, no-fields-before, field-before, Members-done, Members-answer, Reads-members}
+use Rattle.shaperead.specs.ShapeParts.{reading, Limited, Kinds-held, bits-of, parts, behind, Opens, Opened-answer, Opens-form}
+use Rattle.shaperead.specs.ShapeParts.{Ready, Goes, Reads-form, Element-done, Element-answer, Reads-element, Fields-before}
+use Rattle.shaperead.specs.ShapeParts.{no-fields-before, field-before, Members-done, Members-answer, Reads-members}
 use Rattle.shaperead.proofs.KindSets.{with-parts, has-list-kind, has-rec-kind, held-small}
 use Rattle.shaperead.proofs.Openings.{placed-further}
 use Rattle.shaperead.proofs.Table.{with-row, length-with-row, row-put}
@@ -100,7 +102,8 @@ module _
         ∙ ap (λ (n : ℕ). reading l n text (want (behind (among Kind.list (opens .listed)) (parts (opens .listed) no-list no-fields) o)) at)
         (sym (add-one (c .begun)))
 
-    module _ {s′ p′ : List ℕ} {r : Part} (z : Reads-element (left - 1) values text s p s′ p′ kinds (record { at = at; begun = c .begun + 1; top = c .top }) r) where
+    module _ {s′ p′ : List ℕ} {r : Part}
+        (z : Reads-element (left - 1) values text s p s′ p′ kinds (record { at = at; begun = c .begun + 1; top = c .top }) r) where
       pub element-refused : {number place : ℕ} → r ≡ Refused number place → Reads-form left values text s p₀ s′ p′ name c r
       element-refused {number} {place} i =
           subst (Reads-form left values text s p₀ s′ p′ name c) (sym i)

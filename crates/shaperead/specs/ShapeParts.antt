@@ -1,6 +1,6 @@
 -- What the parts of reading a shape text answer: each says how `read-tokens` goes from where it starts to where it ends, for
 -- every stack of what is open around it, and what it put into the tables. Assumes nothing.
-use Prim.Native.Nat.{ℕ, suc, _+_, _-_, _*_, _≤_, _<_}
+use Prim.Native.Nat.{ℕ, suc, _+_, _*_, _≤_, _<_}
 use mathlib.Core.Path.{_≡_}
 use mathlib.Core.Bool.{Bool, true, false}
 use mathlib.Core.List.{List, [], _++_}
@@ -14,7 +14,8 @@ use Rattle.definitions.specs.Shape.{Kind, among, Shape, Element, no-list, Field
 use Rattle.definitions.specs.Limits.{over}
 use Rattle.definitions.specs.Tokens.{read-tokens, misplaced}
 use Rattle.definitions.specs.Tokens as Tokens
-use Rattle.definitions.specs.ShapeText.{Parts, Around, as-element, as-member, Want, shape-open, kind-word, member-open, member-word, State, want, no-parts, put, depth, build, numeric-from, in-order, may-follow, name-fits, want-step, step, finished}
+use Rattle.definitions.specs.ShapeText.{Parts, Around, as-element, as-member, Want, shape-open, kind-word, member-open, member-word, State, want}
+use Rattle.definitions.specs.ShapeText.{no-parts, put, depth, build, numeric-from, in-order, may-follow, name-fits, want-step, step, finished}
 use Rattle.pool.specs.Pool.{words, text-in}
 use Rattle.nodes.specs.Nodes.{Refers}
 use Rattle.shapes.specs.Shapes.{kind-bit, bit, numeric-bits, has-bit, Shape-rows, Element-rows}

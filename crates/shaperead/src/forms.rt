@@ -21,7 +21,8 @@ fn read_element(
     c: Cursor,
 ) -> Part
     requires { ⌜ Ready (now text) (now shapes) (now pool) values c ⌝ }
-    ensures read { λ r. ⌜ Reads-element left values (now (text .entry)) (now (shapes .entry)) (now (pool .entry)) (now (shapes .exit)) (now (pool .exit)) kinds c r ⌝ }
+    ensures read { λ r. ⌜ Reads-element left values (now (text .entry)) (now (shapes .entry)) (now (pool .entry)) (now (shapes .exit))
+        (now (pool .exit)) kinds c r ⌝ }
 {
     if shapes::has(kinds, Shape::LIST) {
         read_form(text, shapes, pool, values, left, c, 0)
@@ -41,7 +42,8 @@ fn read_members(
     c: Cursor,
 ) -> Part
     requires { ⌜ Ready (now text) (now shapes) (now pool) values c ⌝ }
-    ensures read { λ r. ⌜ Reads-members left values (now (text .entry)) (now (shapes .entry)) (now (pool .entry)) (now (shapes .exit)) (now (pool .exit)) kinds c r ⌝ }
+    ensures read { λ r. ⌜ Reads-members left values (now (text .entry)) (now (shapes .entry)) (now (pool .entry)) (now (shapes .exit))
+        (now (pool .exit)) kinds c r ⌝ }
 {
     let mut turn = next_member(text, pool, kinds, true, 0, c);
     loop {
@@ -71,7 +73,8 @@ pub fn read_form(
     name: u64,
 ) -> Part
     requires { ⌜ Ready (now text) (now shapes) (now pool) values c ⌝ }
-    ensures read { λ r. ⌜ Reads-form left values (now (text .entry)) (now (shapes .entry)) (now (pool .entry)) (now (shapes .exit)) (now (pool .exit)) name c r ⌝ }
+    ensures read { λ r. ⌜ Reads-form left values (now (text .entry)) (now (shapes .entry)) (now (pool .entry)) (now (shapes .exit))
+        (now (pool .exit)) name c r ⌝ }
 {
     match open_form(text, pool, values, left, c) {
         Opened::Form { kinds, at } => {

@@ -11,8 +11,10 @@ use Rattle.definitions.specs.Shape.{Shape, Fields, no-fields, field, find}
 use Rattle.laws.specs.Fields.{find-here, find-there, find-none}
 use Rattle.pool.specs.Pool.{text-in}
 use Rattle.shapes.specs.Shapes.{size-at}
-use Rattle.shapes.specs.ShapesLaws.{name-text, forms-some, stands-size, stands-name, Some-fields, some-fields, fields-left, fields-some, fields-first, fields-rest, fields-end}
+use Rattle.shapes.specs.ShapesLaws.{forms-some, stands-size, stands-name, Some-fields, some-fields}
+use Rattle.shapes.specs.ShapesLaws.{fields-left, fields-some, fields-first, fields-rest, fields-end}
 use Rattle.shapes.specs.Members.{Listed, Some-listed, Found-at}
+use Rattle.nodes.specs.StandingLaws.{text-referred}
 
 -- what is left to search at a row: the name of n bytes at word w is none of those before
 pub record Left (shapes pool : List ℕ) (end w n : ℕ) (p : List ℕ) (fs : Fields) (row : ℕ) : Type 0 where
@@ -52,7 +54,7 @@ module _ {shapes pool p : List ℕ} {row end : ℕ} where
       sym
       (a .told
       ∙ ap (λ (y : ℕ). same t (text-in pool (y % 65536) (y / 65536))) (stands-name (f .2))
-      ∙ ap (λ (u : Bytes). same t u) (name-text pool (l .front) (l .small) (f .1)))
+      ∙ ap (λ (u : Bytes). same t u) (text-referred pool (l .front) (l .small) (f .1)))
 
   step-by
       : {fs : Fields} → Listed shapes pool row end p fs → Some-fields fs

@@ -1,5 +1,5 @@
 -- Laws of what a shape table and a pool hold: the parts of a shape, and its members one by one. Assumes nothing.
-use Prim.Native.Nat.{ℕ, _+_, _*_, _/_, _%_, _≤_, _<_}
+use Prim.Native.Nat.{ℕ, _+_, _/_, _%_, _≤_, _<_}
 use mathlib.Core.Path.{_≡_, refl, sym, ap, _∙_}
 use mathlib.Core.Bool.{Bool}
 use mathlib.Core.List.{List}
@@ -7,12 +7,14 @@ use native.Mathlib.Omega.{arith}
 use lib.ListN.{length, take, drop, getD, take-append-drop}
 use lib.Seq.{length-take-le}
 use Rattle.definitions.specs.Bytes.{Bytes}
-use Rattle.definitions.specs.Shape.{Kind, Numeric, Shape, shape, Element, list-of, Record, rec-of, Fields, no-fields, field, has, forms}
+use Rattle.definitions.specs.Shape.{Kind, Numeric, Shape, shape, Element, list-of, Record, rec-of, Fields, no-fields, field, has}
 use Rattle.pool.specs.Pool.{text-in}
 use Rattle.shapes.specs.Shapes.{kind-bit, kind-bits, has-bit, Shape-rows, size-at, members-at}
-use Rattle.shapes.specs.ShapesLaws.{has-kind, name-text, forms-some, stands-kinds, stands-size, stands-name, stands-within, stands-element, stands-members, Some-fields, some-fields, fields-left, fields-first, fields-rest, fields-end, fields-some}
+use Rattle.shapes.specs.ShapesLaws.{has-kind, forms-some, stands-kinds, stands-size, stands-name, stands-within, stands-element}
+use Rattle.shapes.specs.ShapesLaws.{stands-members, Some-fields, some-fields, fields-left, fields-first, fields-rest, fields-end, fields-some}
 use Rattle.shapes.specs.Members.{Listed, Some-listed, Found-at}
 use Rattle.shapes.specs.Held.{Holds-shape, Holds-fields}
+use Rattle.nodes.specs.StandingLaws.{text-referred}
 
 -- ---- a table that was read
 
@@ -93,7 +95,7 @@ first-field {shapes} {pool} {i} {to} h more = go (h .listed) (fields-left (h .li
           others = os;
           same = refl;
           text =
-              ap (λ (y : ℕ). text-in pool (y % 65536) (y / 65536)) (stands-name (f .2)) ∙ name-text pool (l .front) (l .small) (f .1);
+              ap (λ (y : ℕ). text-in pool (y % 65536) (y / 65536)) (stands-name (f .2)) ∙ text-referred pool (l .front) (l .small) (f .1);
           held = record { used = h .used; name = f .0; stands = f .2; front = l .front; small = l .small };
           inside = omega (arith, fields-end (fields-rest (l .stand)));
           more = record { used = h .used; listed = record { stand = fields-rest (l .stand); front = l .front; small = l .small } };

@@ -1,7 +1,7 @@
 -- The shape table: a shape as rows of two words in preorder, the names of its members in a pool. The first word has the
 -- kinds and how many words the shape's rows take, their own among them; the second the name, if the shape is a member's.
 -- Assumes nothing.
-use Prim.Native.Nat.{ℕ, suc, _+_, _*_, _/_, _%_, _≤_}
+use Prim.Native.Nat.{ℕ, _+_, _*_, _/_, _%_}
 use mathlib.Core.Path.{_≡_}
 use mathlib.Core.Bool.{Bool, true, false, not}
 use mathlib.Core.List.{List, [], _∷_, _++_}
@@ -9,7 +9,8 @@ use lib.Bits.{bitAnd}
 use lib.Dec.{eqb}
 use lib.ListN.{length, getD, drop}
 use Rattle.definitions.specs.Bytes.{Bytes}
-use Rattle.definitions.specs.Shape.{Kind, Numeric, no-number, int-only, int-and-dec, Shape, shape, Element, no-list, list-of, Record, no-rec, rec-of, Fields, no-fields, field, has-list, has-rec, forms, forms-fields}
+use Rattle.definitions.specs.Shape.{Kind, Numeric, no-number, int-only, int-and-dec, Shape, shape, Element, no-list}
+use Rattle.definitions.specs.Shape.{list-of, Record, no-rec, rec-of, Fields, no-fields, field, has-list, has-rec, forms}
 use Rattle.nodes.specs.Nodes.{Refers}
 
 -- ---- the words of a row

@@ -9,16 +9,17 @@ use native.Mathlib.Omega.{arith}
 use lib.Bits.{bitAnd, bitOr, and-block, or-block, and-mask, and-zero-r}
 use lib.Dec.{eqb}
 use lib.Pow.{pow-pos}
-use lib.ListN.{length, take, drop, getD, length-append, length-drop}
-use lib.Seq.{take-length, drop-at, drop-append-seam, drop-drop, getD-drop}
+use lib.ListN.{length, drop, getD, length-append, length-drop}
+use lib.Seq.{drop-at, drop-append-seam, drop-drop, getD-drop}
 use Rattle.definitions.specs.Bytes.{Bytes}
-use Rattle.definitions.specs.Shape.{Kind, Numeric, no-number, int-only, int-and-dec, Shape, shape, Element, no-list, list-of, Record, no-rec, rec-of, Fields, no-fields, field, has, has-int, has-dec, has-list, has-rec, forms, forms-element, forms-record, forms-fields}
+use Rattle.definitions.specs.Shape.{Kind, Numeric, no-number, int-only, int-and-dec, Shape, shape, Element, no-list, list-of, Record, no-rec, rec-of}
+use Rattle.definitions.specs.Shape.{Fields, no-fields, field, has, has-int, has-dec, has-list, has-rec, forms, forms-element, forms-record, forms-fields}
 use Rattle.definitions.specs.Join.{join-numeric, join, join-element, join-record}
-use Rattle.pool.specs.Pool.{text-in}
-use Rattle.pool.specs.PoolLaws.{text-in-front}
-use Rattle.nodes.specs.Nodes.{Refers, refers}
-use Rattle.nodes.specs.NodesLaws.{reference-word, reference-bytes, refers-grow}
-use Rattle.shapes.specs.Shapes.{kind-bit, bit, numeric-bits, kind-bits, has-bit, head-word, Shape-rows, shape-rows, Element-rows, no-element-rows, element-rows, Record-rows, no-record-rows, record-rows, Field-rows, no-field-rows, field-rows, Stands, Fields-stand, size-at, members-at}
+use Rattle.nodes.specs.Nodes.{Refers}
+use Rattle.nodes.specs.NodesLaws.{refers-grow}
+use Rattle.shapes.specs.Shapes.{kind-bit, bit, numeric-bits, kind-bits, has-bit, head-word, Shape-rows, shape-rows}
+use Rattle.shapes.specs.Shapes.{Element-rows, no-element-rows, element-rows, Record-rows, no-record-rows, record-rows}
+use Rattle.shapes.specs.Shapes.{Field-rows, no-field-rows, field-rows, Stands, Fields-stand, size-at, members-at}
 
 -- ---- the kinds of a shape
 
@@ -288,16 +289,6 @@ unfolding head-word
 head-size s = omega (arith, kind-bits-lt s)
 
 -- ---- a name in a pool
-
--- where p is the used part of the pool, the name word k stands for the text t
-pub name-text
-    : (pool : List ℕ) {p : List ℕ} {t : Bytes} {k : ℕ} → take (length p) pool ≡ p → length p < 65536 → Refers p t k
-    → text-in pool (k % 65536) (k / 65536) ≡ t
-name-text pool {p} {t} front small (refers w room e) =
-    let h : w < 65536 = omega arith in
-    ap₂ (text-in pool) (reference-word w (length t) h) (reference-bytes w (length t) h)
-    ∙ text-in-front p pool (length p) w (length t) (front ∙ sym (take-length p)) room
-    ∙ e
 
 -- ---- a pool that grows
 

@@ -119,7 +119,8 @@ pub fn find_member(
     n: usize,
 ) -> Member
     requires { ⌜ Some-listed (now shapes) (now pool) from end ⌝ }
-    ensures told { λ r. ⌜ ((p : List ℕ) (fs : Fields) → Listed (now (shapes .entry)) (now (pool .entry)) from end p fs → Tells (now (shapes .entry)) p end (text-in (now (pool .entry)) w n) fs r) ⌝ }
+    ensures told { λ r. ⌜ ((p : List ℕ) (fs : Fields) → Listed (now (shapes .entry)) (now (pool .entry)) from end p fs
+        → Tells (now (shapes .entry)) p end (text-in (now (pool .entry)) w n) fs r) ⌝ }
 {
     let mut row = from;
     while row < end {

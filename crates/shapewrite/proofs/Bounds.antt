@@ -6,35 +6,26 @@ use mathlib.Core.Bool.{Bool, true, false}
 use mathlib.Core.List.{List, [], _∷_, _++_}
 use lib.ListN.{length, length-append}
 use Rattle.definitions.specs.Bytes.{Bytes, bytes}
-use Rattle.definitions.specs.Shape.{all-kinds, Shape, shape, Element, no-list, list-of, Record, no-rec, rec-of, Fields, no-fields, field, forms, forms-element, forms-record, forms-fields}
-use Rattle.definitions.specs.Plain.{escaped, escaped-all, plain-text}
+use Rattle.definitions.specs.Shape.{all-kinds, Shape, shape, Element, no-list, list-of, Record, no-rec, rec-of}
+use Rattle.definitions.specs.Shape.{Fields, no-fields, field, forms, forms-element, forms-record, forms-fields}
+use Rattle.definitions.specs.Plain.{plain-text}
 use Rattle.definitions.specs.ShapeText.{write, write-element, write-record, write-fields, write-kinds, new-line}
-use Rattle.laws.specs.StringWritten.{written, written-length}
 use Rattle.pool.specs.Pool.{words}
 use Rattle.nodes.specs.Nodes.{Refers, refers}
-use Rattle.shapes.specs.Shapes.{kind-bits, has-bit, Shape-rows, shape-rows, Element-rows, no-element-rows, element-rows, Record-rows, no-record-rows, record-rows, Field-rows, no-field-rows, field-rows}
+use Rattle.shapes.specs.Shapes.{kind-bits, has-bit, Shape-rows, shape-rows, Element-rows, no-element-rows, element-rows}
+use Rattle.shapes.specs.Shapes.{Record-rows, no-record-rows, record-rows, Field-rows, no-field-rows, field-rows}
 use Rattle.shapewrite.specs.Layout.{word-of, head-text, label-text}
 use Rattle.shapewrite.specs.Writing.{Deliverable, Printable}
 use Rattle.shapewrite.proofs.Lines.{length-new-line}
-use Rattle.shapewrite.proofs.Names.{length-label}
+use Rattle.shapewrite.proofs.Names.{length-label, plain-most}
 use Rattle.shapewrite.proofs.Heads.{length-head, head-of-kinds}
 use Rattle.shapewrite.proofs.Forms.{holds-within}
 
 -- ---- names
 
-escaped-bound : (t : Bytes) → length (escaped-all t) ≤ 6 * length t
-unfolding escaped-all
-escaped-bound [] = omega arith
-escaped-bound (b ∷ t) =
-    omega (arith, length-append (escaped b) (escaped-all t), written-length (written b), escaped-bound t)
-
-plain-bound : (t : Bytes) → length (plain-text t) ≤ 2 + 6 * length t
-unfolding plain-text bytes
-plain-bound t = omega (arith, length-append (escaped-all t) (0x22 ∷ []), escaped-bound t)
-
 name-bound : {p : List ℕ} {n : Bytes} {k : ℕ} → Refers p n k → length p < 65536 → length (plain-text n) ≤ 3145682
 unfolding words
-name-bound {n = n} (refers w h e) l = omega (arith, plain-bound n, h, l)
+name-bound {n = n} (refers w h e) l = omega (arith, plain-most n, h, l)
 
 -- ---- heads
 

@@ -113,7 +113,9 @@ module _ (shapes pool : List ℕ) (l : Limits) (out : Bytes) {m : Measured} (j :
       ap (finish out) (subst (Measures shapes pool l) e j s h)
       ∙ ap (λ (a : Answer). record { answer = a; output = out }) (sym f))
 
-  fitted : {n : ℕ} → m ≡ Fits n → (s : Shape) → Holds-shape shapes pool 0 s → (shape-out l s ≡ passed (to-write (write-shape s) 0)) × (n ≡ length (write-shape s))
+  fitted
+      : {n : ℕ} → m ≡ Fits n → (s : Shape) → Holds-shape shapes pool 0 s
+      → (shape-out l s ≡ passed (to-write (write-shape s) 0)) × (n ≡ length (write-shape s))
   fitted e s h = subst (Measures shapes pool l) e j s h
 
   pub delivers-short

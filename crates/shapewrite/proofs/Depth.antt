@@ -8,7 +8,8 @@ use borrow.Author.Tests.{ltb-true, ltb-false, lt-ltb, le-ltb}
 use lib.ListN.{length, drop, length-append}
 use lib.Seq.{drop-drop, drop-at}
 use Rattle.definitions.specs.Shape.{Shape, shape, no-list, list-of, Record, no-rec, rec-of, Fields, no-fields, field, levels, levels-fields}
-use Rattle.shapes.specs.Shapes.{Shape-rows, shape-rows, no-element-rows, element-rows, Record-rows, no-record-rows, record-rows, Field-rows, no-field-rows, field-rows, Stands, size-at}
+use Rattle.shapes.specs.Shapes.{Shape-rows, shape-rows, no-element-rows, element-rows, Record-rows, no-record-rows}
+use Rattle.shapes.specs.Shapes.{record-rows, Field-rows, no-field-rows, field-rows, Stands, size-at}
 use Rattle.shapes.specs.ShapesLaws.{forms-some, length-shape-rows, stands-size, stands-within}
 use Rattle.shapewrite.specs.Writing.{Standing, Tells-deeper}
 

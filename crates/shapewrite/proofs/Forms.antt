@@ -7,7 +7,8 @@ use mathlib.Core.Bool.{Bool, true, false, true≢false}
 use mathlib.Core.List.{List, [], _∷_, _++_, append-assoc}
 use lib.ListN.{length, getD, drop, length-append}
 use Rattle.definitions.specs.Bytes.{Bytes, bytes}
-use Rattle.definitions.specs.Shape.{Kind, all-kinds, Numeric, Shape, shape, Element, no-list, list-of, Record, no-rec, rec-of, Fields, no-fields, has, has-list, forms, forms-element}
+use Rattle.definitions.specs.Shape.{Kind, all-kinds, Numeric, Shape, shape, Element, no-list, list-of, Record}
+use Rattle.definitions.specs.Shape.{no-rec, rec-of, Fields, no-fields, has, has-list, forms, forms-element}
 use Rattle.definitions.specs.ShapeText.{write, write-element, write-record, write-fields, write-kinds, new-line}
 use Rattle.shapes.specs.Shapes.{kind-bit, kind-bits, has-bit, Stands, Fields-stand, no-field-rows, size-at}
 use Rattle.shapes.specs.ShapesLaws.{stands-size, stands-within, stands-element, stands-members, members-at-is}

@@ -63,7 +63,9 @@ prints-head kinds a b c d e f g h =
     prints-then (prints-then (prints-then (prints-then (prints-then (prints-then (prints-then a b) c) d) e) f) g) h
 
 -- the words of a shape's kinds
-word-kind : (s : Shape) (k : Kind) → word-of (has-bit (kind-bits s) (kind-bit k)) (bytes " " ++ kind-name k) ≡ elim (has k s) [ true ↦ bytes " " ++ kind-name k | false ↦ [] ]
+word-kind
+    : (s : Shape) (k : Kind)
+    → word-of (has-bit (kind-bits s) (kind-bit k)) (bytes " " ++ kind-name k) ≡ elim (has k s) [ true ↦ bytes " " ++ kind-name k | false ↦ [] ]
 unfolding word-of
 word-kind s k = go (has-bit (kind-bits s) (kind-bit k)) (has k s) (has-kind k s)
   where

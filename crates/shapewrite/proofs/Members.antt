@@ -132,7 +132,9 @@ module _
     pub close-room : j + 1 < 2 ^ 64
     close-room = omega (arith, left-room)
 
-    pub printed-all : {out′ : Bytes} {r : ℕ} → end ≤ i → Prints out out′ j (41 ∷ []) r → (fs : Fields) → Holds-fields shapes pool row end fs → Prints out₀ out′ at (write-fields fs around ++ bytes ")") r
+    pub printed-all
+        : {out′ : Bytes} {r : ℕ} → end ≤ i → Prints out out′ j (41 ∷ []) r → (fs : Fields) → Holds-fields shapes pool row end fs
+        → Prints out₀ out′ at (write-fields fs around ++ bytes ")") r
     unfolding bytes
     printed-all past p fs h =
         let g = l .going fs h in

@@ -28,7 +28,7 @@ unfolding escaped-all
 escaped-most [] = omega arith
 escaped-most (b ∷ t) = omega (arith, length-append (escaped b) (escaped-all t), written-length (written b), escaped-most t)
 
-plain-most : (t : Bytes) → length (plain-text t) ≤ 2 + 6 * length t
+pub plain-most : (t : Bytes) → length (plain-text t) ≤ 2 + 6 * length t
 unfolding plain-text bytes
 plain-most t = omega (arith, length-append (escaped-all t) (0x22 ∷ []), escaped-most t)
 

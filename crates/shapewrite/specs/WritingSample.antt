@@ -9,9 +9,11 @@ use Rattle.definitions.specs.Bytes.{bytes}
 use Rattle.definitions.specs.Shape.{no-number, int-and-dec, Shape, shape, no-list, list-of, no-rec, rec-of, no-fields, field, has-list, has-rec, forms}
 use Rattle.pool.specs.Pool.{words, text-in, pool-bytes, unpacked}
 use Rattle.nodes.specs.Nodes.{reference, refers}
-use Rattle.shapes.specs.Shapes.{bit, numeric-bits, kind-bits, head-word, Shape-rows, shape-rows, no-element-rows, element-rows, no-record-rows, record-rows, no-field-rows, field-rows}
+use Rattle.shapes.specs.Shapes.{bit, numeric-bits, kind-bits, head-word, Shape-rows, shape-rows, no-element-rows}
+use Rattle.shapes.specs.Shapes.{element-rows, no-record-rows, record-rows, no-field-rows, field-rows}
+use Rattle.shapes.specs.HeldLaws.{held-front}
 use Rattle.shapewrite.specs.Writing.{Deliverable}
-use Rattle.shapewrite.specs.WritingLaws.{holds-front, deliverable}
+use Rattle.shapewrite.specs.WritingLaws.{deliverable}
 
 unfoldable pub sample : Shape
 sample =
@@ -45,4 +47,4 @@ sample-rows =
 -- what `deliver` asks
 pub sample-deliverable : Deliverable table pool
 unfolding table pool
-sample-deliverable = deliverable (holds-front table pool 8 2 sample-rows (omega arith) (omega arith)) (omega arith)
+sample-deliverable = deliverable (held-front table pool 8 2 sample-rows (omega arith) (omega arith)) (omega arith)

@@ -2,7 +2,8 @@
 // a shape.
 ghost use mathlib.Core.Path.{_≡_};
 ghost use mathlib.Core.Bool.{false};
-ghost use Rattle.shapewrite.specs.Writing.{Printable, Prints-form, Length-of-form, Printable-fields, Prints-fields, Standing, Tells-deeper, Deliverable, Measures, Delivers-answer, Delivers-output};
+ghost use Rattle.shapewrite.specs.Writing.{Printable, Prints-form, Length-of-form, Printable-fields, Prints-fields};
+ghost use Rattle.shapewrite.specs.Writing.{Standing, Tells-deeper, Deliverable, Measures, Delivers-answer, Delivers-output};
 
 mod print; // the parts of a shape text
 

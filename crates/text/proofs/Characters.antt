@@ -1,19 +1,19 @@
 -- Characters of several bytes (definitions' Utf8): how reading goes over their bytes. Assumes nothing.
-use Prim.Native.Nat.{ℕ, zero, suc, _+_, _-_, _≤_, _<_}
-use mathlib.Core.Path.{_≡_, refl, sym, ap, _∙_, subst}
+use Prim.Native.Nat.{ℕ, suc, _+_, _-_, _≤_, _<_}
+use mathlib.Core.Path.{_≡_, sym, ap, _∙_}
 use mathlib.Core.Logic.{_⊎_, inl, inr}
-use mathlib.Core.Bool.{Bool, true, false}
-use mathlib.Core.List.{List, [], _∷_, _++_, reverseAux, reverseAux-append}
+use mathlib.Core.Bool.{true, false}
+use mathlib.Core.List.{[], _∷_, reverseAux, reverseAux-append}
 use mathlib.Core.Option.{none, some}
 use lib.ListN.{length, take, drop, getD}
 use native.Mathlib.Omega.{arith}
-use Rattle.definitions.specs.Bytes.{Bytes, between, look, is}
+use Rattle.definitions.specs.Bytes.{Bytes, between, look}
 use Rattle.definitions.specs.Utf8.{tails, head-table}
-use Rattle.definitions.specs.Text.{Inside, Text-move, wrong, more, head-step, char-step, behind-tail, text-step}
-use Rattle.definitions.specs.Plain.{escaped, escaped-all}
+use Rattle.definitions.specs.Text.{Inside, head-step, char-step, behind-tail, text-step}
+use Rattle.definitions.specs.Plain.{escaped-all}
 use Rattle.laws.specs.Rfc3629.{In}
 use Rattle.laws.specs.Ranges.{look-hit, in-between, out-between, between-out, ne-is}
-use Rattle.laws.specs.StringRows.{Heads, head-c2, head-e0, head-e1, head-ed, head-ee, head-f0, head-f1, head-f4, hit-heads, heads-above, heads-look}
+use Rattle.laws.specs.StringRows.{Heads, head-c2, head-e0, head-e1, head-ed, head-ee, head-f0, head-f1, head-f4, hit-heads, heads-above}
 use Rattle.text.specs.TextRun.{text-run}
 use Rattle.text.specs.TextParts.{Breaks, Wide-read, Reads-wide}
 use Rattle.text.specs.declared.wide.Wide.{Wide}
@@ -151,7 +151,9 @@ heads-of {b} {lo} {hi} {n} e = hit-heads (look-hit head-table b (tails lo hi n) 
 -- outside ASCII from the space on
 step-head : (acc : Bytes) (b : ℕ) → between 0x20 0x7F b ≡ false → text-step Inside.chars acc b ≡ head-step acc b
 unfolding text-step char-step
-step-head acc b o = let q = ne-is "\"" (off 0x22 (omega arith) (omega arith)) in let s = ne-is "\\" (off 0x5C (omega arith) (omega arith)) in rw (q, s, o, char-step)
+step-head acc b o = let q = ne-is "\"" (off 0x22 (omega arith) (omega arith)) in
+    let s = ne-is "\\" (off 0x5C (omega arith) (omega arith)) in
+    rw (q, s, o, char-step)
   where
     off : (k : ℕ) → 0x20 ≤ k → k ≤ 0x7F → b ≡ k → ⊥
     off k l m e = between-out o (record { from = omega arith; to = omega arith })
@@ -204,5 +206,7 @@ module _ (doc : Bytes) (at : ℕ) (l : at < length doc) (o : between 0x20 0x7F (
 
 pub head-none : (b : ℕ) → (b < 0xC2) ⊎ (0xF4 < b) → look head-table b ≡ none
 unfolding head-table
-head-none b (inl h) = misses-look head-table b (omega arith, (omega arith, (omega arith, (omega arith, (omega arith, (omega arith, (omega arith, (omega arith, tt))))))))
-head-none b (inr h) = misses-look head-table b (omega arith, (omega arith, (omega arith, (omega arith, (omega arith, (omega arith, (omega arith, (omega arith, tt))))))))
+head-none b (inl h) =
+    misses-look head-table b (omega arith, (omega arith, (omega arith, (omega arith, (omega arith, (omega arith, (omega arith, (omega arith, tt))))))))
+head-none b (inr h) =
+    misses-look head-table b (omega arith, (omega arith, (omega arith, (omega arith, (omega arith, (omega arith, (omega arith, (omega arith, tt))))))))

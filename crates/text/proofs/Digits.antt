@@ -1,22 +1,20 @@
 -- Four hexadecimal digits, one after the other: what `read_digits` keeps. Assumes nothing.
-use Prim.Native.Nat.{ℕ, zero, suc, _+_, _-_, _*_, _≤_, _<_}
+use Prim.Native.Nat.{ℕ, zero, suc, _+_, _*_, _≤_, _<_}
 use mathlib.Core.Path.{_≡_, refl, sym, ap, ap₂, _∙_, subst}
 use mathlib.Core.Logic.{_⊎_, inl, inr}
 use mathlib.Core.Bool.{Bool, true, false, not, _&&_, true≢false, false≢true}
-use mathlib.Core.List.{List, [], _∷_, reverseAux}
 use mathlib.Core.Option.{Option, none, some}
 use lib.Dec.{leb, ltb, eqb}
 use lib.ListN.{length, drop, getD}
 use native.Mathlib.Numerals.{add-one}
 use native.Mathlib.Nat.{add-assoc}
 use native.Mathlib.Omega.{arith}
-use Rattle.definitions.specs.Bytes.{Bytes, between, look, found}
-use Rattle.definitions.specs.Text.{Inside, Text-move, wrong, more, digit-fits, unicode, digit-step, hex-table, text-step}
+use Rattle.definitions.specs.Bytes.{Bytes, between, found}
+use Rattle.definitions.specs.Text.{Inside, wrong, digit-fits, unicode, digit-step, text-step}
 use Rattle.laws.specs.Ranges.{lt-or-le, le-leb, gt-leb, leb-le, eqb-eq, eq-eqb}
 use Rattle.laws.specs.StringThrough as through
 use Rattle.laws.specs.Bools.{and-left}
-use Rattle.text.specs.TextRun.{Text-end, broke, text-run}
-use Rattle.text.specs.TextLaws.{run-more}
+use Rattle.text.specs.TextRun.{Text-end, text-run}
 use Rattle.text.specs.TextParts.{hex-value, fits-as, onward, Breaks, Digits-read}
 use Rattle.text.proofs.Tables.{Hex, no-digit, digit, hex-of}
 use Rattle.text.proofs.Places.{byte-within, more-at, wrong-at}
@@ -219,7 +217,8 @@ module _ (doc : Bytes) (at : ℕ) (low : Bool) (n c : ℕ) (h : Digits-so-far do
       record {
         run = λ high g acc.
             h .run high g acc
-            ∙ run-next high n c acc doc (at + n) l (omega arith) (fits-high high low g n c (hex-value (getD doc (at + n) 256)) ∙ ap (fits-as low n c) (sym e) ∙ f)
+            ∙ run-next high n c acc doc (at + n) l (omega arith)
+            (fits-high high low g n c (hex-value (getD doc (at + n) 256)) ∙ ap (fits-as low n c) (sym e) ∙ f)
             ∙ ap (λ (k : ℕ). digits-run high (suc n) (c * 16 + hex-value (getD doc (at + n) 256)) acc (drop k doc)) (add-assoc at n 1)
             ∙ ap (λ (k : ℕ). digits-run high k (c * 16 + hex-value (getD doc (at + n) 256)) acc (drop (at + (n + 1)) doc)) (sym (add-one n))
             ∙ ap (λ (x : ℕ). digits-run high (n + 1) (c * 16 + x) acc (drop (at + (n + 1)) doc)) (sym e);
@@ -253,7 +252,9 @@ module _ (doc : Bytes) (at : ℕ) (low : Bool) (n c : ℕ) (h : Digits-so-far do
     where
       go : (high : Option ℕ) → found high ≡ low → (acc : Bytes) → text-step (Inside.digits high n c) acc (getD doc (at + n) 256) ≡ wrong
       go high g acc =
-          let k : digit-fits high n c (hex-value (getD doc (at + n) 256)) ≡ false = fits-high high low g n c (hex-value (getD doc (at + n) 256)) ∙ ap (fits-as low n c) (sym e) ∙ f in
+          let k
+          : digit-fits high n c (hex-value (getD doc (at + n) 256)) ≡ false =
+          fits-high high low g n c (hex-value (getD doc (at + n) 256)) ∙ ap (fits-as low n c) (sym e) ∙ f in
           step-digit high n c (getD doc (at + n) 256) acc (omega arith) ∙ rw (k, digit-step)
 
 -- all four

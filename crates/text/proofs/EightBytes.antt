@@ -1,27 +1,24 @@
 -- Eight bytes of a text at a time: the word that they make, that word put, and how reading goes over them. Assumes nothing.
-use Prim.Native.Nat.{ℕ, zero, suc, _+_, _-_, _*_, _/_, _%_, _^_, _≤_, _<_}
+use Prim.Native.Nat.{ℕ, zero, suc, _+_, _-_, _*_, _/_, _%_, _≤_, _<_}
 use mathlib.Core.Path.{_≡_, refl, sym, ap, ap₂, _∙_, subst}
-use mathlib.Core.Bool.{Bool, true, false, _&&_, false≢true}
+use mathlib.Core.Bool.{Bool, true, _&&_}
 use mathlib.Core.List.{List, [], _∷_, _++_, append-nil, reverseAux}
-use native.Mathlib.Nat.{add-zero}
-use native.Mathlib.Numerals.{add-one}
 use native.Mathlib.Decide.{decLt}
 use native.Mathlib.Omega.{arith}
 use lib.ListN.{length, take, drop, getD, set, replicate, length-set, length-drop}
 use lib.Seq.{drop-cons, take-suc-set, drop-set-add, take-set-le, length-take-le}
 use Rattle.definitions.specs.Bytes.{Bytes}
-use Rattle.definitions.specs.Text.{Inside, Text-move, more, char-step, text-step}
-use Rattle.definitions.specs.Plain.{escaped, escaped-all}
-use Rattle.laws.specs.Ranges.{in-between, ne-is}
+use Rattle.definitions.specs.Text.{Inside}
+use Rattle.definitions.specs.Plain.{escaped-all}
 use Rattle.pool.specs.Pool.{unpacked, pool-bytes, words, text-in}
 use Rattle.pool.specs.PoolLaws.{pool-bytes-append, take-pool-bytes, drop-pool-bytes}
 use Rattle.text.specs.TextRun.{text-run}
 use Rattle.text.specs.TextRead.{Padded}
-use Rattle.text.specs.TextParts.{stands, Stand, Word-ahead, Wide-read, Keeps, Puts, Piece-read}
-use Rattle.text.proofs.Tables.{Itself, stands-itself}
-use Rattle.text.proofs.Places.{getD-within, more-at}
+use Rattle.text.specs.TextParts.{stands, Stand, Word-ahead, Puts, Piece-read}
+use Rattle.text.proofs.Tables.{stands-itself}
 use Rattle.text.proofs.Escaped.{escaped-none, one-plain, itself-cons}
 use Rattle.text.proofs.Reading.{itself-run, piece-wide}
+use Rattle.laws.specs.Bools.{and-two}
 
 -- ---- the word
 
@@ -121,10 +118,6 @@ puts-word p w n x s z room e l =
 
 -- ---- that they stand for themselves
 
-pub both : (a b : Bool) → a && b ≡ true → (a ≡ true) × (b ≡ true)
-both true b e = (refl, e)
-both false b e = absurd (false≢true e)
-
 pub stand-four
     : (doc : Bytes) (i : ℕ) (a b c d : Bool) → a ≡ stands (getD doc i 0) → b ≡ stands (getD doc (i + 1) 0)
     → c ≡ stands (getD doc (i + 2) 0)
@@ -133,10 +126,10 @@ pub stand-four
     → Stand doc i 4
 stand-four doc i a b c d x y z w e zero h =
     subst (λ (k : ℕ). stands (getD doc k 0) ≡ true) (let f : i ≡ i + 0 = omega arith in f)
-    (sym x ∙ both a b (both (a && b) c (both ((a && b) && c) d e .0) .0) .0)
-stand-four doc i a b c d x y z w e (suc zero) h = sym y ∙ both a b (both (a && b) c (both ((a && b) && c) d e .0) .0) .1
-stand-four doc i a b c d x y z w e (suc (suc zero)) h = sym z ∙ both (a && b) c (both ((a && b) && c) d e .0) .1
-stand-four doc i a b c d x y z w e (suc (suc (suc zero))) h = sym w ∙ both ((a && b) && c) d e .1
+    (sym x ∙ and-two a b (and-two (a && b) c (and-two ((a && b) && c) d e .0) .0) .0)
+stand-four doc i a b c d x y z w e (suc zero) h = sym y ∙ and-two a b (and-two (a && b) c (and-two ((a && b) && c) d e .0) .0) .1
+stand-four doc i a b c d x y z w e (suc (suc zero)) h = sym z ∙ and-two (a && b) c (and-two ((a && b) && c) d e .0) .1
+stand-four doc i a b c d x y z w e (suc (suc (suc zero))) h = sym w ∙ and-two ((a && b) && c) d e .1
 stand-four doc i a b c d x y z w e (suc (suc (suc (suc j)))) h = absurd (let f : ⊥ = omega arith in f)
 
 pub stand-eight : (doc : Bytes) (i : ℕ) → Stand doc i 4 → Stand doc (i + 4) 4 → Stand doc i 8
@@ -163,7 +156,8 @@ module _ (doc : Bytes) where
   stand-run (suc k) i t h acc =
       itself-run doc i (omega arith) (stand-first i k t) acc
       ∙ stand-run k (i + 1) (stand-later i k t) (omega arith) (getD doc i 0 ∷ acc)
-      ∙ ap (λ (x : ℕ). text-run Inside.chars (reverseAux (getD doc i 0 ∷ take k (drop (i + 1) doc)) acc) (drop x doc)) (let e : i + 1 + k ≡ i + suc k = omega arith in e)
+      ∙ ap (λ (x : ℕ). text-run Inside.chars (reverseAux (getD doc i 0 ∷ take k (drop (i + 1) doc)) acc) (drop x doc))
+      (let e : i + 1 + k ≡ i + suc k = omega arith in e)
       ∙ ap (λ (s : Bytes). text-run Inside.chars (reverseAux s acc) (drop (i + suc k) doc)) (sym (part doc i k (omega arith)))
 
   stand-cost : (k i : ℕ) → Stand doc i k → i + k ≤ length doc → length (escaped-all (take k (drop i doc))) ≡ k

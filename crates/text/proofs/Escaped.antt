@@ -4,7 +4,7 @@ use mathlib.Core.Path.{_≡_, refl, sym, ap, _∙_}
 use mathlib.Core.Logic.{_⊎_, inl, inr}
 use mathlib.Core.Bool.{true, false}
 use mathlib.Core.Option.{Option, none, some}
-use mathlib.Core.List.{List, [], _∷_, _++_, append-assoc, append-nil}
+use mathlib.Core.List.{[], _∷_, _++_, append-assoc, append-nil}
 use lib.Dec.{ltb}
 use lib.ListN.{length, getD, length-append}
 use native.Mathlib.Omega.{arith}
@@ -13,7 +13,8 @@ use Rattle.definitions.specs.Utf8.{encode}
 use Rattle.definitions.specs.Plain.{short-escapes, escaped, escaped-all, plain-text}
 use Rattle.laws.specs.Ranges.{Hit, here, there, look-hit, le-leb, gt-leb, lt-or-le}
 use Rattle.laws.specs.StringUtf8.{encode-1, encode-2, encode-3, encode-4}
-use Rattle.laws.specs.StringWritten.{Written, as-short, as-hex, as-itself, written, written-length, written-plain, escaped-high-2, escaped-high-3, escaped-high-4}
+use Rattle.laws.specs.StringWritten.{Written, as-short, as-hex, as-itself, written, written-length}
+use Rattle.laws.specs.StringWritten.{written-plain, escaped-high-2, escaped-high-3, escaped-high-4}
 use Rattle.text.specs.TextParts.{short-form, hex-escape}
 use Rattle.text.proofs.Tables.{Misses, misses-look}
 

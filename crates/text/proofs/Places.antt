@@ -2,15 +2,15 @@
 use Prim.Native.Nat.{ℕ, zero, suc, _+_, _-_, _≤_, _<_}
 use mathlib.Core.Path.{_≡_, refl, sym, ap, _∙_}
 use mathlib.Core.Logic.{_⊎_, inl, inr}
-use mathlib.Core.List.{List, [], _∷_, _++_, reverse}
+use mathlib.Core.List.{[], _∷_, _++_, reverse}
 use lib.ListN.{length, take, drop, getD, length-drop, drop-of-length-le, List·getD-eq-default}
 use lib.Seq.{take-suc, drop-cons, getD-drop}
 use native.Mathlib.Numerals.{add-one}
 use native.Mathlib.Omega.{arith}
 use Rattle.definitions.specs.Bytes.{Bytes}
-use Rattle.definitions.specs.Text.{Inside, Text-move, wrong, more, closed, text-step}
+use Rattle.definitions.specs.Text.{Inside, wrong, more, closed, text-step}
 use Rattle.laws.specs.Ranges.{lt-or-le}
-use Rattle.text.specs.TextRun.{Text-end, ended, broke, text-run}
+use Rattle.text.specs.TextRun.{ended, broke, text-run}
 use Rattle.text.specs.TextLaws.{run-more, run-wrong, run-closed, run-end}
 
 -- within a list the default doesn't matter

@@ -2,23 +2,22 @@
 use Prim.Native.Nat.{ℕ, _+_, _-_, _*_, _/_, _≤_, _<_}
 use mathlib.Core.Path.{_≡_, refl, sym, ap, _∙_, subst}
 use mathlib.Core.List.{List, [], _∷_, _++_, append-nil, reverse, reverseAux, reverseAux-append, reverse-reverse}
-use mathlib.Core.Option.{none, some}
-use mathlib.Core.Bool.{true, false}
+use mathlib.Core.Option.{none}
+use mathlib.Core.Bool.{true}
 use lib.ListN.{length, take, drop, getD, length-append, length-take, length-drop}
 use lib.Seq.{length-take-le}
 use native.Mathlib.Nat.{add-assoc}
 use native.Mathlib.Omega.{arith}
 use Rattle.definitions.specs.Bytes.{Bytes, between, look, is}
 use Rattle.definitions.specs.Utf8.{encode}
-use Rattle.definitions.specs.Text.{Inside, Text-move, wrong, more, closed, char-step, escape-step, escape-table, text-step}
-use Rattle.definitions.specs.Plain.{escaped, escaped-all, plain-text}
-use Rattle.laws.specs.Ranges.{in-between, eq-is, ne-is}
+use Rattle.definitions.specs.Text.{Inside, more, char-step, escape-step, escape-table, text-step}
+use Rattle.definitions.specs.Plain.{escaped, escaped-all}
+use Rattle.laws.specs.Ranges.{in-between, ne-is}
 use Rattle.pool.specs.Pool.{words, text-in, Put}
 use Rattle.pool.specs.PoolLaws.{words-mono, words-room, words-bytes, text-in-zero, length-text-in}
-use Rattle.text.specs.TextRun.{ended, broke, text-run}
-use Rattle.text.specs.TextRead.{Padded, Text-closed, Text-broken, Reads-text}
-use Rattle.text.specs.TextParts.{stands, escape-value, Breaks, Code-read, Reads-code, Wide-read, Keeps, Puts, Piece-read, Piece-broken, Reads-piece}
-use Rattle.text.specs.declared.TextRead.{TextRead}
+use Rattle.text.specs.TextRun.{ended, text-run}
+use Rattle.text.specs.TextRead.{Padded, Reads-text}
+use Rattle.text.specs.TextParts.{stands, escape-value, Breaks, Code-read, Wide-read, Keeps, Puts, Piece-read, Piece-broken}
 use Rattle.text.specs.declared.TextRead.the-variants.{Closed, Broken}
 use Rattle.text.proofs.Tables.{Escape, no-escape, by-number, by-letter, escape-of, Itself, stands-itself}
 use Rattle.text.proofs.Places.{getD-within, byte-within, more-at, wrong-at, closed-at, end-at}

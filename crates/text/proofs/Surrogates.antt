@@ -1,16 +1,14 @@
 -- A character by its number, or by a pair of surrogates: how reading goes over its escapes. Assumes nothing.
 use Prim.Native.Nat.{ℕ, _+_, _-_, _*_, _≤_, _<_}
-use mathlib.Core.Path.{_≡_, refl, sym, ap, _∙_}
+use mathlib.Core.Path.{_≡_, refl, ap, _∙_}
 use mathlib.Core.Logic.{_⊎_, inl, inr}
 use mathlib.Core.Bool.{true, false}
-use mathlib.Core.List.{reverseAux}
 use mathlib.Core.Option.{none, some}
 use lib.ListN.{length, drop, getD}
 use native.Mathlib.Nat.{add-assoc}
 use native.Mathlib.Omega.{arith}
-use Rattle.definitions.specs.Bytes.{Bytes, between, is, found}
-use Rattle.definitions.specs.Utf8.{encode}
-use Rattle.definitions.specs.Text.{Inside, wrong, pair-of, unicode, text-step}
+use Rattle.definitions.specs.Bytes.{Bytes, between, found}
+use Rattle.definitions.specs.Text.{Inside, pair-of, unicode, text-step}
 use Rattle.laws.specs.Rfc3629.{In}
 use Rattle.laws.specs.Ranges.{in-between, out-between, eq-is, ne-is}
 use Rattle.text.specs.TextRun.{text-run}

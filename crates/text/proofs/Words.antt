@@ -1,5 +1,5 @@
 -- The bytes of a word from the highest on, as the word is shifted up, and the words of a text. Assumes nothing.
-use Prim.Native.Nat.{ℕ, suc, _+_, _-_, _*_, _/_, _%_, _^_, _≤_, _<_, min}
+use Prim.Native.Nat.{ℕ, _+_, _-_, _*_, _/_, _%_, _^_, _≤_, _<_, min}
 use mathlib.Core.Path.{_≡_, refl, sym, ap, ap₂, _∙_}
 use mathlib.Core.List.{List, [], _∷_, _++_}
 use native.Mathlib.Numerals.{add-one}
@@ -125,7 +125,9 @@ module _ (p : List ℕ) (w n : ℕ) (room : w + words n ≤ length p) (k : ℕ) 
       ext-getD 0 (take 8 (drop (8 * k) (text-in p w n))) (take (min 8 (n - 8 * k)) (unpacked (getD p (w + k) 0)))
       (length-take 8 (drop (8 * k) (text-in p w n)) ∙ sizes ∙ sym (length-take (min 8 (n - 8 * k)) (unpacked (getD p (w + k) 0))))
       (λ i l.
-      let s : i < min 8 (n - 8 * k) = omega (arith, l, length-take 8 (drop (8 * k) (text-in p w n)), length-drop (8 * k) (text-in p w n), length-text-in p w n room) in
+      let s
+      : i < min 8 (n - 8 * k) =
+      omega (arith, l, length-take 8 (drop (8 * k) (text-in p w n)), length-drop (8 * k) (text-in p w n), length-text-in p w n room) in
       getD-take 8 (drop (8 * k) (text-in p w n)) i 0 (omega arith)
       ∙ getD-drop (8 * k) (text-in p w n) i 0
       ∙ getD-text-in p w n (8 * k + i) (omega arith)

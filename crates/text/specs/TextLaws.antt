@@ -1,17 +1,17 @@
 -- How reading a document (definitions' Json) and cutting a text into tokens (definitions' Tokens) go over a JSON text, by `text-run`;
 -- and how `text-run` goes, byte by byte. Assumes nothing.
-use Prim.Native.Nat.{ℕ, suc, _+_, _-_, _≤_, _<_}
-use mathlib.Core.Path.{_≡_, refl, sym, ap, _∙_}
+use Prim.Native.Nat.{ℕ, suc, _+_, _-_, _≤_}
+use mathlib.Core.Path.{_≡_, refl, ap, _∙_}
 use mathlib.Core.List.{List, [], _∷_, reverse}
 use lib.ListN.{length, drop, length-drop}
 use native.Mathlib.Omega.{arith}
 use Rattle.definitions.specs.declared.Limits.{Limits}
 use Rattle.definitions.specs.Bytes.{Bytes}
-use Rattle.definitions.specs.Outcome.{Outcome, ok, refused}
+use Rattle.definitions.specs.Outcome.{Outcome, refused}
 use Rattle.definitions.specs.Value.{Value}
 use Rattle.definitions.specs.Text.{Inside, Text-move, wrong, more, closed, text-step}
 use Rattle.definitions.specs.Json.{Role, as-value, as-name, State, in-text, text-move, close-move, move, end-move, judge, scan}
-use Rattle.definitions.specs.Tokens.{Placed, at-place, quoted, Lexing, outside, inside, no-word, lex}
+use Rattle.definitions.specs.Tokens.{Placed, at-place, quoted, outside, inside, no-word, lex}
 use Rattle.definitions.specs.Tokens as Tokens
 use Rattle.text.specs.TextRun.{Text-end, ended, broke, text-run}
 

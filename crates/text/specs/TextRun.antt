@@ -1,5 +1,4 @@
 -- A JSON text read whole, from behind its opening quote (definitions' Text, step by step). Assumes nothing.
-use Prim.Native.Nat.{ℕ}
 use mathlib.Core.List.{[], _∷_, reverse}
 use Rattle.definitions.specs.Bytes.{Bytes}
 use Rattle.definitions.specs.Text.{Inside, wrong, more, closed, text-step}

@@ -11,8 +11,9 @@ use lib.Seq.{drop-cons, take-suc, getD-drop}
 use Rattle.definitions.specs.Bytes.{Bytes}
 use Rattle.definitions.specs.Tokens.{no-word, outside, lex}
 use Rattle.laws.specs.Rfc8259.{ws-char}
-use Rattle.laws.specs.TokenGrammar.{Word-byte, Word-bytes, no-bytes, next-byte}
+use Rattle.laws.specs.TokenGrammar.{Word-byte, Word-bytes, no-bytes}
 use Rattle.laws.specs.TokenLexing.{lex-white}
+use Rattle.laws.specs.TokenLaws.{word-bytes-more}
 use Rattle.tokens.specs.TokenRead.{Space-answer, Border-answer, tokens-from, Skips, Runs}
 
 -- ---- one byte
@@ -64,10 +65,6 @@ pub record Running (text : Bytes) (at i : ℕ) : Type 0 where
   pub bytes : Word-bytes (take (i - at) (drop at text))
   pub from : at ≤ i
   pub within : i ≤ length text
-
-word-bytes-more : {w : Bytes} {b : ℕ} → Word-bytes w → Word-byte b → Word-bytes (w ++ b ∷ [])
-word-bytes-more no-bytes x = next-byte x no-bytes
-word-bytes-more (next-byte y g) x = next-byte y (word-bytes-more g x)
 
 pub running : {text : Bytes} {at : ℕ} → at ≤ length text → Running text at at
 running {text} {at} h =

@@ -101,98 +101,129 @@ admits-claims t = (
 -- what is known behind the first test
 seen-here
     : (t : ℕ) (c : admits-lts.After-has (admits-claims t) (admits-at t) admits.Reads.Post)
-    → Seen (c .before .before .before .before .before .before .args .shapes .now) (c .before .before .before .before .before .before .args .row) (c .before .before .before .before .before .before .args .nodes .now) (c .before .before .before .before .before .before .args .at) (c .before .before .before .before .before .before .args .pool .now) (c .before .before .kind-bit .result) (c .has .result)
-seen-here t c = seen (c .before .before .before .before .before .before .args .shapes .now) (c .before .before .before .before .before .before .args .row) (c .before .before .before .before .before .before .args .nodes .now) (c .before .before .before .before .before .before .args .at) (c .before .before .before .before .before .before .args .pool .now) (c .before .before .kind-bit .ensures) (c .before .kinds .ensures) (c .has .ensures)
-
-admits-kind-bit-requires : (t : ℕ) → admits-lts.Need-kind-bit-requires (admits-claims t) (admits-at t) admits.Reads.Post
-admits-kind-bit-requires t c κs = search needs
-
-admits-kinds-requires : (t : ℕ) → admits-lts.Need-kinds-requires (admits-claims t) (admits-at t) admits.Reads.Post
-admits-kinds-requires t c κs = search needs
-
-admits-has-requires : (t : ℕ) → admits-lts.Need-has-requires (admits-claims t) (admits-at t) admits.Reads.Post
-admits-has-requires t c κs = search needs
+    → let at-start = c .before .before .before .before .before .before in
+    Seen (at-start .args .shapes .now) (at-start .args .row) (at-start .args .nodes .now) (at-start .args .at) (at-start .args .pool .now)
+    (c .before .before .kind-bit .result) (c .has .result)
+seen-here t c =
+    let at-start = c .before .before .before .before .before .before in
+    seen (at-start .args .shapes .now) (at-start .args .row) (at-start .args .nodes .now) (at-start .args .at) (at-start .args .pool .now)
+    (c .before .before .kind-bit .ensures) (c .before .kinds .ensures) (c .has .ensures)
 
 admits-returns : (t : ℕ) → admits-lts.Need-returns (admits-claims t) (admits-at t) admits.Reads.Post
 admits-returns t c =
-    without-kind (c .before .before .before .before .before .before .before .args .shapes .now) (c .before .before .before .before .before .before .before .args .row) (c .before .before .before .before .before .before .before .args .nodes .now) (c .before .before .before .before .before .before .before .args .at) (c .before .before .before .before .before .before .before .args .pool .now)
+    let at-start = c .before .before .before .before .before .before .before in
+    without-kind (at-start .args .shapes .now) (at-start .args .row) (at-start .args .nodes .now) (at-start .args .at) (at-start .args .pool .now)
     (seen-here t (c .before)) (c .if1 .taken)
 
 admits-returns-2 : (t : ℕ) → admits-lts.Need-returns-2 (admits-claims t) (admits-at t) admits.Reads.Post
 admits-returns-2 t c =
-    single (c .before .before .before .before .before .before .before .before .args .shapes .now) (c .before .before .before .before .before .before .before .before .args .row) (c .before .before .before .before .before .before .before .before .args .nodes .now) (c .before .before .before .before .before .before .before .before .args .at) (c .before .before .before .before .before .before .before .before .args .pool .now)
+    let at-start = c .before .before .before .before .before .before .before .before in
+    single (at-start .args .shapes .now) (at-start .args .row) (at-start .args .nodes .now) (at-start .args .at) (at-start .args .pool .now)
     (seen-here t (c .before .before)) (c .before .if1 .left) (c .if2 .taken)
 
-admits-row-size-requires : (t : ℕ) → admits-lts.Need-row-size-requires (admits-claims t) (admits-at t) admits.Reads.Post
-admits-row-size-requires t c κs = search needs
-
 admits-add-end : (t : ℕ) → admits-lts.Need-add-end (admits-claims t) (admits-at t) admits.Reads.Post
-admits-add-end t c = omega (arith, value-ends (c .before .before .before .before .before .before .before .before .before .pre .1 .holds) .1, c .row-size .ensures, c .before .before .before .before .before .before .before .before .before .good .1 .1 .0 .0)
+admits-add-end t c =
+    let at-start = c .before .before .before .before .before .before .before .before .before in
+    omega (arith, value-ends (at-start .pre .1 .holds) .1, c .row-size .ensures, at-start .good .1 .1 .0 .0)
 
 admits-add-admits-items : (t : ℕ) → admits-lts.Need-add-admits-items (admits-claims t) (admits-at t) admits.Reads.Post
-admits-add-admits-items t c = omega (arith, held-within (c .before .before .before .before .before .before .before .before .before .before .pre .1 .held) .0, held-within (c .before .before .before .before .before .before .before .before .before .before .pre .1 .held) .1, c .before .before .before .before .before .before .before .before .before .before .good .0 .0)
+admits-add-admits-items t c =
+    let after-kinds = c .before .before .before .before .before in
+    let at-start = after-kinds .before .before .before .before .before in
+    omega (arith, held-within (at-start .pre .1 .held) .0, held-within (at-start .pre .1 .held) .1, at-start .good .0 .0)
 
 admits-add-admits-items-2 : (t : ℕ) → admits-lts.Need-add-admits-items-2 (admits-claims t) (admits-at t) admits.Reads.Post
-admits-add-admits-items-2 t c = omega (arith, value-ends (c .before .before .before .before .before .before .before .before .before .before .pre .1 .holds) .0, value-ends (c .before .before .before .before .before .before .before .before .before .before .pre .1 .holds) .1, c .before .before .before .before .before .before .before .before .before .before .good .1 .1 .0 .0)
+admits-add-admits-items-2 t c =
+    let after-kinds = c .before .before .before .before .before in
+    let at-start = after-kinds .before .before .before .before .before in
+    omega (arith, value-ends (at-start .pre .1 .holds) .0, value-ends (at-start .pre .1 .holds) .1, at-start .good .1 .1 .0 .0)
 
 admits-admits-items-requires : (t : ℕ) → admits-lts.Need-admits-items-requires (admits-claims t) (admits-at t) admits.Reads.Post
-admits-admits-items-requires t c κs = (
-  omega (arith, c .before .before .before .before .before .before .before .before .before .before .pre .0, value-ends (c .before .before .before .before .before .before .before .before .before .before .pre .1 .holds) .0, value-ends (c .before .before .before .before .before .before .before .before .before .before .pre .1 .holds) .1),
-  list-asks (c .before .before .before .before .before .before .before .before .before .before .args .shapes .now) (c .before .before .before .before .before .before .before .before .before .before .args .row) (c .before .before .before .before .before .before .before .before .before .before .args .nodes .now) (c .before .before .before .before .before .before .before .before .before .before .args .at) (c .before .before .before .before .before .before .before .before .before .before .args .pool .now)
-      (seen-here t (c .before .before .before .before)) (c .before .before .before .if1 .left) (c .before .row-size .ensures) (c .if3 .taken) (c .before .before .before .before .before .before .before .before .before .before .pre .1),
-)
+admits-admits-items-requires t c κs =
+    let after-has = c .before .before .before .before in
+    let at-start = after-has .before .before .before .before .before .before in (
+      omega (arith, at-start .pre .0, value-ends (at-start .pre .1 .holds) .0, value-ends (at-start .pre .1 .holds) .1),
+      list-asks (at-start .args .shapes .now) (at-start .args .row) (at-start .args .nodes .now) (at-start .args .at) (at-start .args .pool .now)
+          (seen-here t after-has) (c .before .before .before .if1 .left) (c .before .row-size .ensures) (c .if3 .taken) (at-start .pre .1),
+    )
 
 admits-returns-3 : (t : ℕ) → admits-lts.Need-returns-3 (admits-claims t) (admits-at t) admits.Reads.Post
 admits-returns-3 t c =
-    list-told (c .before .before .before .before .before .before .before .before .before .before .before .args .shapes .now) (c .before .before .before .before .before .before .before .before .before .before .before .args .row) (c .before .before .before .before .before .before .before .before .before .before .before .args .nodes .now) (c .before .before .before .before .before .before .before .before .before .before .before .args .at) (c .before .before .before .before .before .before .before .before .before .before .before .args .pool .now)
-    (seen-here t (c .before .before .before .before .before)) (c .before .before .before .before .if1 .left) (c .before .before .row-size .ensures) (c .before .if3 .taken) (c .admits-items .ensures)
+    let else1 = c .before .before .before .before in
+    let at-start = else1 .before .before .before .before .before .before .before in
+    list-told (at-start .args .shapes .now) (at-start .args .row) (at-start .args .nodes .now) (at-start .args .at) (at-start .args .pool .now)
+    (seen-here t (else1 .before)) (else1 .if1 .left) (c .before .before .row-size .ensures) (c .before .if3 .taken) (c .admits-items .ensures)
 
 admits-members-requires : (t : ℕ) → admits-lts.Need-members-requires (admits-claims t) (admits-at t) admits.Reads.Post
-admits-members-requires t c κs = (
-  omega (arith, held-within (c .before .before .before .before .before .before .before .before .before .before .pre .1 .held) .0, held-within (c .before .before .before .before .before .before .before .before .before .before .pre .1 .held) .1),
-  omega (
-    arith,
-    members-within (c .before .before .before .before .before .before .before .before .before .before .args .shapes .now) (c .before .before .before .before .before .before .before .before .before .before .args .row) (c .before .before .before .before .before .before .before .before .before .before .args .nodes .now) (c .before .before .before .before .before .before .before .before .before .before .args .at) (c .before .before .before .before .before .before .before .before .before .before .args .pool .now)
-        (seen-here t (c .before .before .before .before)) (c .before .before .before .if1 .left) (c .before .row-size .ensures) (c .before .before .if2 .left) (c .if3 .left) (c .before .before .before .before .before .before .before .before .before .before .pre .1),
-    held-within (c .before .before .before .before .before .before .before .before .before .before .pre .1 .held) .1,
-    c .before .before .before .before .before .before .before .before .before .before .good .0 .0,
-  ),
-)
-
-admits-size-requires : (t : ℕ) → admits-lts.Need-size-requires (admits-claims t) (admits-at t) admits.Reads.Post
-admits-size-requires t c κs = search needs
+admits-members-requires t c κs =
+    let after-has = c .before .before .before .before in
+    let at-start = after-has .before .before .before .before .before .before in (
+      omega (arith, held-within (at-start .pre .1 .held) .0, held-within (at-start .pre .1 .held) .1),
+      omega (
+        arith,
+        members-within (at-start .args .shapes .now) (at-start .args .row) (at-start .args .nodes .now) (at-start .args .at) (at-start .args .pool .now)
+            (seen-here t after-has) (c .before .before .before .if1 .left) (c .before .row-size .ensures) (c .before .before .if2 .left)
+            (c .if3 .left) (at-start .pre .1),
+        held-within (at-start .pre .1 .held) .1,
+        at-start .good .0 .0,
+      ),
+    )
 
 admits-add-to : (t : ℕ) → admits-lts.Need-add-to (admits-claims t) (admits-at t) admits.Reads.Post
-admits-add-to t c = omega (arith, held-within (c .before .before .before .before .before .before .before .before .before .before .before .before .pre .1 .held) .1, c .size .ensures, c .before .before .before .before .before .before .before .before .before .before .before .before .good .0 .0)
+admits-add-to t c =
+    let after-has = c .before .before .before .before .before .before in
+    let at-start = after-has .before .before .before .before .before .before in
+    omega (arith, held-within (at-start .pre .1 .held) .1, c .size .ensures, at-start .good .0 .0)
 
 admits-add-admits-members : (t : ℕ) → admits-lts.Need-add-admits-members (admits-claims t) (admits-at t) admits.Reads.Post
-admits-add-admits-members t c = omega (arith, value-ends (c .before .before .before .before .before .before .before .before .before .before .before .before .pre .1 .holds) .0, value-ends (c .before .before .before .before .before .before .before .before .before .before .before .before .pre .1 .holds) .1, c .before .before .before .before .before .before .before .before .before .before .before .before .good .1 .1 .0 .0)
+admits-add-admits-members t c =
+    let after-has = c .before .before .before .before .before .before in
+    let at-start = after-has .before .before .before .before .before .before in
+    omega (arith, value-ends (at-start .pre .1 .holds) .0, value-ends (at-start .pre .1 .holds) .1, at-start .good .1 .1 .0 .0)
 
 admits-admits-members-requires : (t : ℕ) → admits-lts.Need-admits-members-requires (admits-claims t) (admits-at t) admits.Reads.Post
-admits-admits-members-requires t c κs = (
-  omega (arith, c .before .before .before .before .before .before .before .before .before .before .before .before .pre .0, value-ends (c .before .before .before .before .before .before .before .before .before .before .before .before .pre .1 .holds) .0, value-ends (c .before .before .before .before .before .before .before .before .before .before .before .before .pre .1 .holds) .1),
-  rec-asks (c .before .before .before .before .before .before .before .before .before .before .before .before .args .shapes .now) (c .before .before .before .before .before .before .before .before .before .before .before .before .args .row) (c .before .before .before .before .before .before .before .before .before .before .before .before .args .nodes .now) (c .before .before .before .before .before .before .before .before .before .before .before .before .args .at) (c .before .before .before .before .before .before .before .before .before .before .before .before .args .pool .now)
-      (seen-here t (c .before .before .before .before .before .before)) (c .before .before .before .before .before .if1 .left) (c .before .before .before .row-size .ensures) (c .before .before .before .before .if2 .left) (c .before .before .if3 .left) (c .before .members .ensures) (c .size .ensures) (c .before .before .before .before .before .before .before .before .before .before .before .before .pre .1),
-)
+admits-admits-members-requires t c κs =
+    let else2 = c .before .before .before .before in
+    let at-start = else2 .before .before .before .before .before .before .before .before in (
+      omega (arith, at-start .pre .0, value-ends (at-start .pre .1 .holds) .0, value-ends (at-start .pre .1 .holds) .1),
+      rec-asks (at-start .args .shapes .now) (at-start .args .row) (at-start .args .nodes .now) (at-start .args .at) (at-start .args .pool .now)
+          (seen-here t (else2 .before .before)) (else2 .before .if1 .left) (c .before .before .before .row-size .ensures) (else2 .if2 .left)
+          (c .before .before .if3 .left) (c .before .members .ensures) (c .size .ensures) (at-start .pre .1),
+    )
 
 admits-returns-4 : (t : ℕ) → admits-lts.Need-returns-4 (admits-claims t) (admits-at t) admits.Reads.Post
 admits-returns-4 t c =
-    rec-fails (c .before .before .before .before .before .before .before .before .before .before .before .before .before .before .args .shapes .now) (c .before .before .before .before .before .before .before .before .before .before .before .before .before .before .args .row) (c .before .before .before .before .before .before .before .before .before .before .before .before .before .before .args .nodes .now) (c .before .before .before .before .before .before .before .before .before .before .before .before .before .before .args .at) (c .before .before .before .before .before .before .before .before .before .before .before .before .before .before .args .pool .now)
-    (seen-here t (c .before .before .before .before .before .before .before .before)) (c .before .before .before .before .before .before .before .if1 .left) (c .before .before .before .before .before .row-size .ensures) (c .before .before .before .before .before .before .if2 .left) (c .before .before .before .before .if3 .left) (c .before .before .before .members .ensures) (c .before .before .size .ensures)
+    let else3 = c .before .before .before .before in
+    let after-has = else3 .before .before .before .before in
+    let at-start = after-has .before .before .before .before .before .before in
+    rec-fails (at-start .args .shapes .now) (at-start .args .row) (at-start .args .nodes .now) (at-start .args .at) (at-start .args .pool .now)
+    (seen-here t after-has) (else3 .before .before .before .if1 .left) (else3 .before .row-size .ensures) (else3 .before .before .if2 .left) (else3 .if3 .left)
+    (c .before .before .before .members .ensures) (c .before .before .size .ensures)
     (c .before .admits-members .ensures) (c .if4 .taken)
 
 admits-add-missing-have-null : (t : ℕ) → admits-lts.Need-add-missing-have-null (admits-claims t) (admits-at t) admits.Reads.Post
-admits-add-missing-have-null t c = omega (arith, value-ends (c .before .before .before .before .before .before .before .before .before .before .before .before .before .before .pre .1 .holds) .0, value-ends (c .before .before .before .before .before .before .before .before .before .before .before .before .before .before .pre .1 .holds) .1, c .before .before .before .before .before .before .before .before .before .before .before .before .before .before .good .1 .1 .0 .0)
+admits-add-missing-have-null t c =
+    let after-has = c .before .before .before .before .before .before .before .before in
+    let at-start = after-has .before .before .before .before .before .before in
+    omega (arith, value-ends (at-start .pre .1 .holds) .0, value-ends (at-start .pre .1 .holds) .1, at-start .good .1 .1 .0 .0)
 
 admits-missing-have-null-requires : (t : ℕ) → admits-lts.Need-missing-have-null-requires (admits-claims t) (admits-at t) admits.Reads.Post
 admits-missing-have-null-requires t c κs =
-    rec-asks (c .before .before .before .before .before .before .before .before .before .before .before .before .before .before .args .shapes .now) (c .before .before .before .before .before .before .before .before .before .before .before .before .before .before .args .row) (c .before .before .before .before .before .before .before .before .before .before .before .before .before .before .args .nodes .now) (c .before .before .before .before .before .before .before .before .before .before .before .before .before .before .args .at) (c .before .before .before .before .before .before .before .before .before .before .before .before .before .before .args .pool .now)
-    (seen-here t (c .before .before .before .before .before .before .before .before)) (c .before .before .before .before .before .before .before .if1 .left) (c .before .before .before .before .before .row-size .ensures) (c .before .before .before .before .before .before .if2 .left) (c .before .before .before .before .if3 .left) (c .before .before .before .members .ensures) (c .before .before .size .ensures) (c .before .before .before .before .before .before .before .before .before .before .before .before .before .before .pre .1)
+    let else3 = c .before .before .before .before in
+    let after-has = else3 .before .before .before .before in
+    let at-start = after-has .before .before .before .before .before .before in
+    rec-asks (at-start .args .shapes .now) (at-start .args .row) (at-start .args .nodes .now) (at-start .args .at) (at-start .args .pool .now)
+    (seen-here t after-has) (else3 .before .before .before .if1 .left) (else3 .before .row-size .ensures) (else3 .before .before .if2 .left) (else3 .if3 .left)
+    (c .before .before .before .members .ensures) (c .before .before .size .ensures) (at-start .pre .1)
 
 admits-returns-5 : (t : ℕ) → admits-lts.Need-returns-5 (admits-claims t) (admits-at t) admits.Reads.Post
 admits-returns-5 t c =
-    rec-told (c .before .before .before .before .before .before .before .before .before .before .before .before .before .before .before .args .shapes .now) (c .before .before .before .before .before .before .before .before .before .before .before .before .before .before .before .args .row) (c .before .before .before .before .before .before .before .before .before .before .before .before .before .before .before .args .nodes .now) (c .before .before .before .before .before .before .before .before .before .before .before .before .before .before .before .args .at) (c .before .before .before .before .before .before .before .before .before .before .before .before .before .before .before .args .pool .now)
-    (seen-here t (c .before .before .before .before .before .before .before .before .before)) (c .before .before .before .before .before .before .before .before .if1 .left) (c .before .before .before .before .before .before .row-size .ensures) (c .before .before .before .before .before .before .before .if2 .left) (c .before .before .before .before .before .if3 .left) (c .before .before .before .before .members .ensures) (c .before .before .before .size .ensures)
+    let after-members = c .before .before .before .before in
+    let else1 = after-members .before .before .before .before in
+    let at-start = else1 .before .before .before .before .before .before .before in
+    rec-told (at-start .args .shapes .now) (at-start .args .row) (at-start .args .nodes .now) (at-start .args .at) (at-start .args .pool .now)
+    (seen-here t (else1 .before)) (else1 .if1 .left) (after-members .before .before .row-size .ensures) (after-members .before .before .before .if2 .left)
+    (after-members .before .if3 .left) (after-members .members .ensures) (c .before .before .before .size .ensures)
     (c .before .before .admits-members .ensures) (c .before .if4 .left) (c .missing-have-null .ensures)
 
 abbrev admits-items-Inv-loop : admits-items-lts.InvT-loop
@@ -212,42 +243,66 @@ admits-items-claims t = (
 
 -- ---- admits_items
 
-admits-items-loop-holds : (t : ℕ) → admits-items-lts.Need-loop-holds (admits-items-claims t) (admits-items-at t) admits-items.Reads.Post admits-items-Inv-loop admits-items-μ-loop
-admits-items-loop-holds t c = elements.walk-begins (c .before .before .before .args .shapes .now) (c .before .before .before .args .row) (c .before .before .before .args .nodes .now) (c .before .before .before .args .at) (c .before .before .before .args .end) (c .before .before .before .args .pool .now)
+admits-items-loop-holds
+    : (t : ℕ) → admits-items-lts.Need-loop-holds (admits-items-claims t) (admits-items-at t) admits-items.Reads.Post admits-items-Inv-loop admits-items-μ-loop
+admits-items-loop-holds t c =
+    let at-start = c .before .before .before in
+    elements.walk-begins (at-start .args .shapes .now) (at-start .args .row) (at-start .args .nodes .now) (at-start .args .at) (at-start .args .end)
+    (at-start .args .pool .now)
 
-admits-items-admits-requires : (t : ℕ) → admits-items-lts.Need-admits-requires (admits-items-claims t) (admits-items-at t) admits-items.Reads.Post admits-items-Inv-loop admits-items-μ-loop
+admits-items-admits-requires
+    : (t : ℕ)
+    → admits-items-lts.Need-admits-requires (admits-items-claims t) (admits-items-at t) admits-items.Reads.Post admits-items-Inv-loop admits-items-μ-loop
 admits-items-admits-requires t c κs =
-    let s = elements.walk-step (c .before .before .before .before .before .args .shapes .now) (c .before .before .before .before .before .args .row) (c .before .before .before .before .before .args .nodes .now) (c .before .before .before .before .before .args .at) (c .before .before .before .before .before .args .end) (c .before .before .before .before .before .args .pool .now) (c .before .loop .inv) (c .loop-test .taken) (c .before .before .before .before .before .pre .1) in (
-      omega (arith, c .before .before .before .before .before .pre .0, c .before .loop .inv .ahead, s .0, s .1),
-      elements.walk-asks (c .before .before .before .before .before .args .shapes .now) (c .before .before .before .before .before .args .row) (c .before .before .before .before .before .args .nodes .now) (c .before .before .before .before .before .args .at) (c .before .before .before .before .before .args .end) (c .before .before .before .before .before .args .pool .now) (c .before .loop .inv) (c .loop-test .taken) (c .before .before .before .before .before .pre .1),
+    let at-start = c .before .before .before .before .before in
+    let s = elements.walk-step (at-start .args .shapes .now) (at-start .args .row) (at-start .args .nodes .now) (at-start .args .at) (at-start .args .end)
+    (at-start .args .pool .now) (c .before .loop .inv) (c .loop-test .taken) (at-start .pre .1) in (
+      omega (arith, at-start .pre .0, c .before .loop .inv .ahead, s .0, s .1),
+      elements.walk-asks (at-start .args .shapes .now) (at-start .args .row) (at-start .args .nodes .now) (at-start .args .at) (at-start .args .end)
+          (at-start .args .pool .now) (c .before .loop .inv) (c .loop-test .taken) (at-start .pre .1),
     )
 
-admits-items-returns : (t : ℕ) → admits-items-lts.Need-returns (admits-items-claims t) (admits-items-at t) admits-items.Reads.Post admits-items-Inv-loop admits-items-μ-loop
+admits-items-returns
+    : (t : ℕ) → admits-items-lts.Need-returns (admits-items-claims t) (admits-items-at t) admits-items.Reads.Post admits-items-Inv-loop admits-items-μ-loop
 admits-items-returns t c =
-    elements.walk-fails (c .before .before .before .before .before .before .before .args .shapes .now) (c .before .before .before .before .before .before .before .args .row) (c .before .before .before .before .before .before .before .args .nodes .now) (c .before .before .before .before .before .before .before .args .at) (c .before .before .before .before .before .before .before .args .end) (c .before .before .before .before .before .before .before .args .pool .now) (c .before .before .before .loop .inv) (c .before .before .loop-test .taken)
+    let at-start = c .before .before .before .before .before .before .before in
+    elements.walk-fails (at-start .args .shapes .now) (at-start .args .row) (at-start .args .nodes .now) (at-start .args .at) (at-start .args .end)
+    (at-start .args .pool .now) (c .before .before .before .loop .inv) (c .before .before .loop-test .taken)
     (c .before .admits .ensures) (c .if1 .taken)
 
-admits-items-row-size-requires : (t : ℕ) → admits-items-lts.Need-row-size-requires (admits-items-claims t) (admits-items-at t) admits-items.Reads.Post admits-items-Inv-loop admits-items-μ-loop
-admits-items-row-size-requires t c κs = search needs
-
-admits-items-add-i : (t : ℕ) → admits-items-lts.Need-add-i (admits-items-claims t) (admits-items-at t) admits-items.Reads.Post admits-items-Inv-loop admits-items-μ-loop
+admits-items-add-i
+    : (t : ℕ) → admits-items-lts.Need-add-i (admits-items-claims t) (admits-items-at t) admits-items.Reads.Post admits-items-Inv-loop admits-items-μ-loop
 admits-items-add-i t c =
-    let s = elements.walk-step (c .before .before .before .before .before .before .before .before .args .shapes .now) (c .before .before .before .before .before .before .before .before .args .row) (c .before .before .before .before .before .before .before .before .args .nodes .now) (c .before .before .before .before .before .before .before .before .args .at) (c .before .before .before .before .before .before .before .before .args .end) (c .before .before .before .before .before .before .before .before .args .pool .now) (c .before .before .before .before .loop .inv) (c .before .before .before .loop-test .taken) (c .before .before .before .before .before .before .before .before .pre .1) in
+    let at-loop = c .before .before .before .before in
+    let at-start = at-loop .before .before .before .before in
+    let s = elements.walk-step (at-start .args .shapes .now) (at-start .args .row) (at-start .args .nodes .now) (at-start .args .at) (at-start .args .end)
+    (at-start .args .pool .now) (at-loop .loop .inv) (c .before .before .before .loop-test .taken) (at-start .pre .1) in
     omega (arith, c .row-size .ensures, s .2)
 
-admits-items-loop-less : (t : ℕ) → admits-items-lts.Need-loop-less (admits-items-claims t) (admits-items-at t) admits-items.Reads.Post admits-items-Inv-loop admits-items-μ-loop
+admits-items-loop-less
+    : (t : ℕ) → admits-items-lts.Need-loop-less (admits-items-claims t) (admits-items-at t) admits-items.Reads.Post admits-items-Inv-loop admits-items-μ-loop
 admits-items-loop-less t c =
-    let s = elements.walk-step (c .before .before .before .before .before .before .before .before .args .shapes .now) (c .before .before .before .before .before .before .before .before .args .row) (c .before .before .before .before .before .before .before .before .args .nodes .now) (c .before .before .before .before .before .before .before .before .args .at) (c .before .before .before .before .before .before .before .before .args .end) (c .before .before .before .before .before .before .before .before .args .pool .now) (c .before .before .before .before .loop .inv) (c .before .before .before .loop-test .taken) (c .before .before .before .before .before .before .before .before .pre .1) in
-    omega (arith, c .row-size .ensures, c .before .before .before .loop-test .taken, s .0, s .2)
+    let in-loop = c .before .before .before in
+    let at-start = in-loop .before .before .before .before .before in
+    let s = elements.walk-step (at-start .args .shapes .now) (at-start .args .row) (at-start .args .nodes .now) (at-start .args .at) (at-start .args .end)
+    (at-start .args .pool .now) (in-loop .before .loop .inv) (in-loop .loop-test .taken) (at-start .pre .1) in
+    omega (arith, c .row-size .ensures, in-loop .loop-test .taken, s .0, s .2)
 
-admits-items-loop-again : (t : ℕ) → admits-items-lts.Need-loop-again (admits-items-claims t) (admits-items-at t) admits-items.Reads.Post admits-items-Inv-loop admits-items-μ-loop
+admits-items-loop-again
+    : (t : ℕ) → admits-items-lts.Need-loop-again (admits-items-claims t) (admits-items-at t) admits-items.Reads.Post admits-items-Inv-loop admits-items-μ-loop
 admits-items-loop-again t c =
-    elements.walk-on (c .before .before .before .before .before .before .before .before .args .shapes .now) (c .before .before .before .before .before .before .before .before .args .row) (c .before .before .before .before .before .before .before .before .args .nodes .now) (c .before .before .before .before .before .before .before .before .args .at) (c .before .before .before .before .before .before .before .before .args .end) (c .before .before .before .before .before .before .before .before .args .pool .now) (c .before .before .before .before .loop .inv) (c .before .before .before .loop-test .taken)
+    let at-loop = c .before .before .before .before in
+    let at-start = at-loop .before .before .before .before in
+    elements.walk-on (at-start .args .shapes .now) (at-start .args .row) (at-start .args .nodes .now) (at-start .args .at) (at-start .args .end)
+    (at-start .args .pool .now) (at-loop .loop .inv) (c .before .before .before .loop-test .taken)
     (c .before .before .admits .ensures) (c .before .if1 .left) (c .row-size .ensures)
 
-admits-items-returns-2 : (t : ℕ) → admits-items-lts.Need-returns-2 (admits-items-claims t) (admits-items-at t) admits-items.Reads.Post admits-items-Inv-loop admits-items-μ-loop
+admits-items-returns-2
+    : (t : ℕ) → admits-items-lts.Need-returns-2 (admits-items-claims t) (admits-items-at t) admits-items.Reads.Post admits-items-Inv-loop admits-items-μ-loop
 admits-items-returns-2 t c =
-    elements.walk-ends (c .before .before .before .before .before .args .shapes .now) (c .before .before .before .before .before .args .row) (c .before .before .before .before .before .args .nodes .now) (c .before .before .before .before .before .args .at) (c .before .before .before .before .before .args .end) (c .before .before .before .before .before .args .pool .now) (c .before .loop .inv) (c .loop-test .left)
+    let at-start = c .before .before .before .before .before in
+    elements.walk-ends (at-start .args .shapes .now) (at-start .args .row) (at-start .args .nodes .now) (at-start .args .at) (at-start .args .end)
+    (at-start .args .pool .now) (c .before .loop .inv) (c .loop-test .left)
 
 abbrev admits-members-Inv-loop : admits-members-lts.InvT-loop
 admits-members-Inv-loop shapes from to nodes at end pool i₀ i = named.Walking shapes from to nodes at end pool i
@@ -268,76 +323,114 @@ admits-members-claims t = (
 
 -- ---- admits_members
 
-admits-members-loop-holds : (t : ℕ) → admits-members-lts.Need-loop-holds (admits-members-claims t) (admits-members-at t) admits-members.Reads.Post admits-members-Inv-loop admits-members-μ-loop
-admits-members-loop-holds t c = named.walk-begins (c .before .before .before .args .shapes .now) (c .before .before .before .args .from) (c .before .before .before .args .to) (c .before .before .before .args .nodes .now) (c .before .before .before .args .at) (c .before .before .before .args .end) (c .before .before .before .args .pool .now)
+admits-members-loop-holds
+    : (t : ℕ)
+    → admits-members-lts.Need-loop-holds (admits-members-claims t) (admits-members-at t) admits-members.Reads.Post admits-members-Inv-loop admits-members-μ-loop
+admits-members-loop-holds t c =
+    let at-start = c .before .before .before in
+    named.walk-begins (at-start .args .shapes .now) (at-start .args .from) (at-start .args .to) (at-start .args .nodes .now) (at-start .args .at)
+    (at-start .args .end) (at-start .args .pool .now)
 
-admits-members-listed-requires : (t : ℕ) → admits-members-lts.Need-listed-requires (admits-members-claims t) (admits-members-at t) admits-members.Reads.Post admits-members-Inv-loop admits-members-μ-loop
-admits-members-listed-requires t c κs = some-listed (c .before .before .before .before .before .pre .1 .held)
+admits-members-listed-requires
+    : (t : ℕ)
+    → admits-members-lts.Need-listed-requires (admits-members-claims t) (admits-members-at t) admits-members.Reads.Post
+    admits-members-Inv-loop admits-members-μ-loop
+admits-members-listed-requires t c κs =
+    let at-start = c .before .before .before .before .before in
+    some-listed (at-start .pre .1 .held)
 
-admits-members-enum-known-row : (t : ℕ) → admits-members-lts.Need-enum-known-row (admits-members-claims t) (admits-members-at t) admits-members.Reads.Post admits-members-Inv-loop admits-members-μ-loop
-admits-members-enum-known-row t c = search needs
-
-admits-members-enum-told : (t : ℕ) → admits-members-lts.Need-enum-told (admits-members-claims t) (admits-members-at t) admits-members.Reads.Post admits-members-Inv-loop admits-members-μ-loop
-admits-members-enum-told t c = search needs
-
-admits-members-returns : (t : ℕ) → admits-members-lts.Need-returns (admits-members-claims t) (admits-members-at t) admits-members.Reads.Post admits-members-Inv-loop admits-members-μ-loop
+admits-members-returns
+    : (t : ℕ)
+    → admits-members-lts.Need-returns (admits-members-claims t) (admits-members-at t) admits-members.Reads.Post admits-members-Inv-loop admits-members-μ-loop
 admits-members-returns t c =
-    named.walk-misses (c .before .before .before .before .before .before .before .before .args .shapes .now) (c .before .before .before .before .before .before .before .before .args .from) (c .before .before .before .before .before .before .before .before .args .to) (c .before .before .before .before .before .before .before .before .args .nodes .now) (c .before .before .before .before .before .before .before .before .args .at) (c .before .before .before .before .before .before .before .before .args .end) (c .before .before .before .before .before .before .before .before .args .pool .now) (c .before .before .before .before .loop .inv) (c .before .before .before .loop-test .taken)
-    (c .before .before .listed .result) (c .before .before .listed .ensures) (c .enum-told .given .1)
+    let after-listed = c .before .before in
+    let at-start = after-listed .before .before .before .before .before .before in
+    named.walk-misses (at-start .args .shapes .now) (at-start .args .from) (at-start .args .to) (at-start .args .nodes .now) (at-start .args .at)
+    (at-start .args .end) (at-start .args .pool .now) (after-listed .before .before .loop .inv) (after-listed .before .loop-test .taken)
+    (after-listed .listed .result) (after-listed .listed .ensures) (c .enum-told .given .1)
 
-admits-members-admits-requires : (t : ℕ) → admits-members-lts.Need-admits-requires (admits-members-claims t) (admits-members-at t) admits-members.Reads.Post admits-members-Inv-loop admits-members-μ-loop
+admits-members-admits-requires
+    : (t : ℕ)
+    → admits-members-lts.Need-admits-requires (admits-members-claims t) (admits-members-at t) admits-members.Reads.Post
+    admits-members-Inv-loop admits-members-μ-loop
 admits-members-admits-requires t c κs =
-    let s = named.walk-step (c .before .before .before .before .before .before .before .before .before .args .shapes .now) (c .before .before .before .before .before .before .before .before .before .args .from) (c .before .before .before .before .before .before .before .before .before .args .to) (c .before .before .before .before .before .before .before .before .before .args .nodes .now) (c .before .before .before .before .before .before .before .before .before .args .at) (c .before .before .before .before .before .before .before .before .before .args .end) (c .before .before .before .before .before .before .before .before .before .args .pool .now) (c .before .before .before .before .before .loop .inv) (c .before .before .before .before .loop-test .taken) (c .before .before .before .before .before .before .before .before .before .pre .1) in (
-      omega (arith, c .before .before .before .before .before .before .before .before .before .pre .0, c .before .before .before .before .before .loop .inv .ahead, s .0, s .1),
-      named.walk-asks (c .before .before .before .before .before .before .before .before .before .args .shapes .now) (c .before .before .before .before .before .before .before .before .before .args .from) (c .before .before .before .before .before .before .before .before .before .args .to) (c .before .before .before .before .before .before .before .before .before .args .nodes .now) (c .before .before .before .before .before .before .before .before .before .args .at) (c .before .before .before .before .before .before .before .before .before .args .end) (c .before .before .before .before .before .before .before .before .before .args .pool .now) (c .before .before .before .before .before .loop .inv) (c .before .before .before .before .loop-test .taken)
-          (c .before .before .before .listed .result) (c .before .before .before .listed .ensures) (c .before .row .given .1) (c .before .before .before .before .before .before .before .before .before .pre .1),
+    let after-listed = c .before .before .before in
+    let at-loop = after-listed .before .before in
+    let at-start = at-loop .before .before .before .before in
+    let s = named.walk-step (at-start .args .shapes .now) (at-start .args .from) (at-start .args .to) (at-start .args .nodes .now) (at-start .args .at)
+    (at-start .args .end) (at-start .args .pool .now) (at-loop .loop .inv) (after-listed .before .loop-test .taken) (at-start .pre .1) in (
+      omega (arith, at-start .pre .0, at-loop .loop .inv .ahead, s .0, s .1),
+      named.walk-asks (at-start .args .shapes .now) (at-start .args .from) (at-start .args .to) (at-start .args .nodes .now) (at-start .args .at)
+          (at-start .args .end) (at-start .args .pool .now) (at-loop .loop .inv) (after-listed .before .loop-test .taken)
+          (after-listed .listed .result) (after-listed .listed .ensures) (c .before .row .given .1) (at-start .pre .1),
     )
 
-admits-members-returns-2 : (t : ℕ) → admits-members-lts.Need-returns-2 (admits-members-claims t) (admits-members-at t) admits-members.Reads.Post admits-members-Inv-loop admits-members-μ-loop
+admits-members-returns-2
+    : (t : ℕ)
+    → admits-members-lts.Need-returns-2 (admits-members-claims t) (admits-members-at t) admits-members.Reads.Post admits-members-Inv-loop admits-members-μ-loop
 admits-members-returns-2 t c =
-    named.walk-fails (c .before .before .before .before .before .before .before .before .before .before .before .args .shapes .now) (c .before .before .before .before .before .before .before .before .before .before .before .args .from) (c .before .before .before .before .before .before .before .before .before .before .before .args .to) (c .before .before .before .before .before .before .before .before .before .before .before .args .nodes .now) (c .before .before .before .before .before .before .before .before .before .before .before .args .at) (c .before .before .before .before .before .before .before .before .before .before .before .args .end) (c .before .before .before .before .before .before .before .before .before .before .before .args .pool .now) (c .before .before .before .before .before .before .before .loop .inv) (c .before .before .before .before .before .before .loop-test .taken)
-    (c .before .before .before .before .before .listed .result) (c .before .before .before .before .before .listed .ensures) (c .before .before .before .row .given .1) (c .before .admits .ensures) (c .if1 .taken)
+    let after-listed = c .before .before .before .before .before in
+    let at-start = after-listed .before .before .before .before .before .before in
+    named.walk-fails (at-start .args .shapes .now) (at-start .args .from) (at-start .args .to) (at-start .args .nodes .now) (at-start .args .at)
+    (at-start .args .end) (at-start .args .pool .now) (after-listed .before .before .loop .inv) (after-listed .before .loop-test .taken)
+    (after-listed .listed .result) (after-listed .listed .ensures) (c .before .before .before .row .given .1) (c .before .admits .ensures) (c .if1 .taken)
 
-admits-members-row-size-requires : (t : ℕ) → admits-members-lts.Need-row-size-requires (admits-members-claims t) (admits-members-at t) admits-members.Reads.Post admits-members-Inv-loop admits-members-μ-loop
-admits-members-row-size-requires t c κs = search needs
-
-admits-members-add-i : (t : ℕ) → admits-members-lts.Need-add-i (admits-members-claims t) (admits-members-at t) admits-members.Reads.Post admits-members-Inv-loop admits-members-μ-loop
+admits-members-add-i
+    : (t : ℕ)
+    → admits-members-lts.Need-add-i (admits-members-claims t) (admits-members-at t) admits-members.Reads.Post admits-members-Inv-loop admits-members-μ-loop
 admits-members-add-i t c =
-    let s = named.walk-step (c .before .before .before .before .before .before .before .before .before .before .before .before .args .shapes .now) (c .before .before .before .before .before .before .before .before .before .before .before .before .args .from) (c .before .before .before .before .before .before .before .before .before .before .before .before .args .to) (c .before .before .before .before .before .before .before .before .before .before .before .before .args .nodes .now) (c .before .before .before .before .before .before .before .before .before .before .before .before .args .at) (c .before .before .before .before .before .before .before .before .before .before .before .before .args .end) (c .before .before .before .before .before .before .before .before .before .before .before .before .args .pool .now) (c .before .before .before .before .before .before .before .before .loop .inv) (c .before .before .before .before .before .before .before .loop-test .taken) (c .before .before .before .before .before .before .before .before .before .before .before .before .pre .1) in
+    let in-loop = c .before .before .before .before .before .before .before in
+    let at-start = in-loop .before .before .before .before .before in
+    let s = named.walk-step (at-start .args .shapes .now) (at-start .args .from) (at-start .args .to) (at-start .args .nodes .now) (at-start .args .at)
+    (at-start .args .end) (at-start .args .pool .now) (in-loop .before .loop .inv) (in-loop .loop-test .taken) (at-start .pre .1) in
     omega (arith, c .row-size .ensures, s .2)
 
-admits-members-loop-less : (t : ℕ) → admits-members-lts.Need-loop-less (admits-members-claims t) (admits-members-at t) admits-members.Reads.Post admits-members-Inv-loop admits-members-μ-loop
+admits-members-loop-less
+    : (t : ℕ)
+    → admits-members-lts.Need-loop-less (admits-members-claims t) (admits-members-at t) admits-members.Reads.Post admits-members-Inv-loop admits-members-μ-loop
 admits-members-loop-less t c =
-    let s = named.walk-step (c .before .before .before .before .before .before .before .before .before .before .before .before .args .shapes .now) (c .before .before .before .before .before .before .before .before .before .before .before .before .args .from) (c .before .before .before .before .before .before .before .before .before .before .before .before .args .to) (c .before .before .before .before .before .before .before .before .before .before .before .before .args .nodes .now) (c .before .before .before .before .before .before .before .before .before .before .before .before .args .at) (c .before .before .before .before .before .before .before .before .before .before .before .before .args .end) (c .before .before .before .before .before .before .before .before .before .before .before .before .args .pool .now) (c .before .before .before .before .before .before .before .before .loop .inv) (c .before .before .before .before .before .before .before .loop-test .taken) (c .before .before .before .before .before .before .before .before .before .before .before .before .pre .1) in
-    omega (arith, c .row-size .ensures, c .before .before .before .before .before .before .before .loop-test .taken, s .0, s .2)
+    let in-loop = c .before .before .before .before .before .before .before in
+    let at-start = in-loop .before .before .before .before .before in
+    let s = named.walk-step (at-start .args .shapes .now) (at-start .args .from) (at-start .args .to) (at-start .args .nodes .now) (at-start .args .at)
+    (at-start .args .end) (at-start .args .pool .now) (in-loop .before .loop .inv) (in-loop .loop-test .taken) (at-start .pre .1) in
+    omega (arith, c .row-size .ensures, in-loop .loop-test .taken, s .0, s .2)
 
-admits-members-loop-again : (t : ℕ) → admits-members-lts.Need-loop-again (admits-members-claims t) (admits-members-at t) admits-members.Reads.Post admits-members-Inv-loop admits-members-μ-loop
+admits-members-loop-again
+    : (t : ℕ)
+    → admits-members-lts.Need-loop-again (admits-members-claims t) (admits-members-at t) admits-members.Reads.Post admits-members-Inv-loop admits-members-μ-loop
 admits-members-loop-again t c =
-    named.walk-on (c .before .before .before .before .before .before .before .before .before .before .before .before .args .shapes .now) (c .before .before .before .before .before .before .before .before .before .before .before .before .args .from) (c .before .before .before .before .before .before .before .before .before .before .before .before .args .to) (c .before .before .before .before .before .before .before .before .before .before .before .before .args .nodes .now) (c .before .before .before .before .before .before .before .before .before .before .before .before .args .at) (c .before .before .before .before .before .before .before .before .before .before .before .before .args .end) (c .before .before .before .before .before .before .before .before .before .before .before .before .args .pool .now) (c .before .before .before .before .before .before .before .before .loop .inv) (c .before .before .before .before .before .before .before .loop-test .taken)
-    (c .before .before .before .before .before .before .listed .result) (c .before .before .before .before .before .before .listed .ensures) (c .before .before .before .before .row .given .1) (c .before .before .admits .ensures) (c .before .if1 .left) (c .row-size .ensures)
+    let after-row = c .before .before .before .before in
+    let after-listed = after-row .before .before in
+    let at-start = after-listed .before .before .before .before .before .before in
+    named.walk-on (at-start .args .shapes .now) (at-start .args .from) (at-start .args .to) (at-start .args .nodes .now) (at-start .args .at)
+    (at-start .args .end) (at-start .args .pool .now) (after-listed .before .before .loop .inv) (after-listed .before .loop-test .taken)
+    (after-listed .listed .result) (after-listed .listed .ensures) (after-row .row .given .1) (c .before .before .admits .ensures)
+    (c .before .if1 .left) (c .row-size .ensures)
 
-admits-members-returns-3 : (t : ℕ) → admits-members-lts.Need-returns-3 (admits-members-claims t) (admits-members-at t) admits-members.Reads.Post admits-members-Inv-loop admits-members-μ-loop
+admits-members-returns-3
+    : (t : ℕ)
+    → admits-members-lts.Need-returns-3 (admits-members-claims t) (admits-members-at t) admits-members.Reads.Post admits-members-Inv-loop admits-members-μ-loop
 admits-members-returns-3 t c =
-    named.walk-ends (c .before .before .before .before .before .args .shapes .now) (c .before .before .before .before .before .args .from) (c .before .before .before .before .before .args .to) (c .before .before .before .before .before .args .nodes .now) (c .before .before .before .before .before .args .at) (c .before .before .before .before .before .args .end) (c .before .before .before .before .before .args .pool .now) (c .before .loop .inv) (c .loop-test .left)
+    let at-start = c .before .before .before .before .before in
+    named.walk-ends (at-start .args .shapes .now) (at-start .args .from) (at-start .args .to) (at-start .args .nodes .now) (at-start .args .at)
+    (at-start .args .end) (at-start .args .pool .now) (c .before .loop .inv) (c .loop-test .left)
 
 pub +admits+admits-items+admits-members-spec : {M : Type 1} → statement M
 +admits+admits-items+admits-members-spec =
     close μ-admits μ-admits-items μ-admits-members (λ t. admits-lts.spec (admits-claims t)
     (admits-at t)
     admits.Reads.Post
-    (admits-kind-bit-requires t)
-    (admits-kinds-requires t)
-    (admits-has-requires t)
+    (λ c κs. search needs) (λ c κs. search needs) (λ c κs. search needs)
     (admits-returns t)
     (admits-returns-2 t)
-    (admits-row-size-requires t)
+    (λ c κs. search needs)
     (admits-add-end t)
     (admits-add-admits-items t)
     (admits-add-admits-items-2 t)
     (admits-admits-items-requires t)
     (admits-returns-3 t)
     (admits-members-requires t)
-    (admits-size-requires t)
+    (λ c κs. search needs)
     (admits-add-to t)
     (admits-add-admits-members t)
     (admits-admits-members-requires t)
@@ -353,7 +446,7 @@ pub +admits+admits-items+admits-members-spec : {M : Type 1} → statement M
     (admits-items-loop-holds t)
     (admits-items-admits-requires t)
     (admits-items-returns t)
-    (admits-items-row-size-requires t)
+    (λ c κs. search needs)
     (admits-items-add-i t)
     (admits-items-loop-less t)
     (admits-items-loop-again t)
@@ -365,12 +458,11 @@ pub +admits+admits-items+admits-members-spec : {M : Type 1} → statement M
     admits-members-μ-loop
     (admits-members-loop-holds t)
     (admits-members-listed-requires t)
-    (admits-members-enum-known-row t)
-    (admits-members-enum-told t)
+    (λ c. search needs) (λ c. search needs)
     (admits-members-returns t)
     (admits-members-admits-requires t)
     (admits-members-returns-2 t)
-    (admits-members-row-size-requires t)
+    (λ c κs. search needs)
     (admits-members-add-i t)
     (admits-members-loop-less t)
     (admits-members-loop-again t)

@@ -10,17 +10,15 @@ use Rattle.admits.proofs.listed.Tie as tie
 
 returns : tie.Need-returns
 returns c p fs l =
-    subst (λ (t : Bytes). Tells (c .before .before .before .before .before .before .before .args .shapes .now) p (c .before .before .before .before .before .before .before .args .to) t fs (c .find-member .result))
-    (ap₂ (λ (w n : ℕ). text-in (c .before .before .before .before .before .before .before .args .pool .now) w n) (c .before .before .text-word .ensures) (c .before .text-bytes .ensures)
-    ∙ ap (λ (k : ℕ). text-in (c .before .before .before .before .before .before .before .args .pool .now) (k % 65536) (k / 65536)) (c .before .before .before .row-name .ensures))
+    let at-start = c .before .before .before .before .before .before .before in
+    subst (λ (t : Bytes). Tells (at-start .args .shapes .now) p (at-start .args .to) t fs (c .find-member .result))
+    (ap₂ (λ (w n : ℕ). text-in (at-start .args .pool .now) w n) (c .before .before .text-word .ensures) (c .before .text-bytes .ensures)
+    ∙ ap (λ (k : ℕ). text-in (at-start .args .pool .now) (k % 65536) (k / 65536)) (c .before .before .before .row-name .ensures))
     (c .find-member .ensures p fs l)
 
 pub listed-spec : {M : Type 1} → statement M
 listed-spec =
     tie.close
     (tie.spec
-    (λ c κs. search needs)
-    (λ c κs. search needs)
-    (λ c κs. search needs)
-    (λ c κs. search needs)
+    (λ c κs. search needs) (λ c κs. search needs) (λ c κs. search needs) (λ c κs. search needs)
     returns)

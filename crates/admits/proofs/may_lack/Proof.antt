@@ -5,11 +5,16 @@ use Rattle.admits.proofs.may_lack.Statement.{statement}
 use Rattle.admits.proofs.may_lack.Tie as tie
 
 returns : tie.Need-returns
-returns c = null-told (c .before .before .before .before .before .before .args .shapes .now) (c .before .before .before .before .before .before .args .row) (c .before .before .kinds .ensures) (c .before .has .ensures) (c .if1 .taken)
+returns c =
+    let at-start = c .before .before .before .before .before .before in
+    null-told (at-start .args .shapes .now) (at-start .args .row) (c .before .before .kinds .ensures) (c .before .has .ensures) (c .if1 .taken)
 
 returns-2 : tie.Need-returns-2
 returns-2 c =
-    member-told (c .before .before .before .before .before .before .before .before .args .shapes .now) (c .before .before .before .before .before .before .before .before .args .row) (c .before .before .before .before .kinds .ensures) (c .before .before .before .has .ensures) (c .before .before .if1 .left) (c .before .name .ensures) (c .has-member .ensures)
+    let after-kinds = c .before .before .before .before in
+    let at-start = after-kinds .before .before .before .before in
+    member-told (at-start .args .shapes .now) (at-start .args .row) (after-kinds .kinds .ensures) (c .before .before .before .has .ensures)
+    (c .before .before .if1 .left) (c .before .name .ensures) (c .has-member .ensures)
 
 pub may-lack-spec : {M : Type 1} → statement M
 may-lack-spec =

@@ -13,34 +13,55 @@ abbrev μ-loop : tie.MeasureT-loop
 μ-loop shapes from to nodes at end pool i₀ i = to - i
 
 loop-holds : tie.Need-loop-holds Inv-loop μ-loop
-loop-holds c = walk-begins (c .before .before .before .args .shapes .now) (c .before .before .before .args .from) (c .before .before .before .args .to) (c .before .before .before .args .nodes .now) (c .before .before .before .args .at) (c .before .before .before .args .end) (c .before .before .before .args .pool .now)
+loop-holds c =
+    let at-start = c .before .before .before in
+    walk-begins (at-start .args .shapes .now) (at-start .args .from) (at-start .args .to) (at-start .args .nodes .now) (at-start .args .at)
+    (at-start .args .end) (at-start .args .pool .now)
 
 may-lack-requires : tie.Need-may-lack-requires Inv-loop μ-loop
-may-lack-requires c κs = members-held (c .before .before .before .before .before .pre .holds)
+may-lack-requires c κs =
+    let at-start = c .before .before .before .before .before in
+    members-held (at-start .pre .holds)
 
 returns : tie.Need-returns Inv-loop μ-loop
 returns c =
-    walk-fails (c .before .before .before .before .before .before .before .args .shapes .now) (c .before .before .before .before .before .before .before .args .from) (c .before .before .before .before .before .before .before .args .to) (c .before .before .before .before .before .before .before .args .nodes .now) (c .before .before .before .before .before .before .before .args .at) (c .before .before .before .before .before .before .before .args .end) (c .before .before .before .before .before .before .before .args .pool .now)
+    let at-start = c .before .before .before .before .before .before .before in
+    walk-fails (at-start .args .shapes .now) (at-start .args .from) (at-start .args .to) (at-start .args .nodes .now) (at-start .args .at) (at-start .args .end)
+    (at-start .args .pool .now)
     (c .before .before .before .loop .inv) (c .before .may-lack .ensures) (c .before .before .loop-test .taken) (c .if1 .taken)
 
 add-i : tie.Need-add-i Inv-loop μ-loop
 add-i c =
-    omega
-    (arith, c .size .ensures, walk-step (c .before .before .before .before .before .before .before .before .args .shapes .now) (c .before .before .before .before .before .before .before .before .args .from) (c .before .before .before .before .before .before .before .before .args .to) (c .before .before .before .before .before .before .before .before .args .nodes .now) (c .before .before .before .before .before .before .before .before .args .at) (c .before .before .before .before .before .before .before .before .args .end) (c .before .before .before .before .before .before .before .before .args .pool .now) (c .before .before .before .before .loop .inv) (c .before .before .before .before .before .before .before .before .pre) (c .before .before .before .loop-test .taken) .1)
+    let at-loop = c .before .before .before .before in
+    let at-start = at-loop .before .before .before .before in
+    omega (
+      arith,
+      c .size .ensures,
+      walk-step (at-start .args .shapes .now) (at-start .args .from) (at-start .args .to) (at-start .args .nodes .now) (at-start .args .at)
+          (at-start .args .end) (at-start .args .pool .now) (at-loop .loop .inv) (at-start .pre) (c .before .before .before .loop-test .taken) .1,
+    )
 
 loop-less : tie.Need-loop-less Inv-loop μ-loop
 loop-less c =
-    let s = walk-step (c .before .before .before .before .before .before .before .before .args .shapes .now) (c .before .before .before .before .before .before .before .before .args .from) (c .before .before .before .before .before .before .before .before .args .to) (c .before .before .before .before .before .before .before .before .args .nodes .now) (c .before .before .before .before .before .before .before .before .args .at) (c .before .before .before .before .before .before .before .before .args .end) (c .before .before .before .before .before .before .before .before .args .pool .now) (c .before .before .before .before .loop .inv) (c .before .before .before .before .before .before .before .before .pre) (c .before .before .before .loop-test .taken) in
-    omega (arith, c .size .ensures, c .before .before .before .loop-test .taken, s .0, s .1)
+    let in-loop = c .before .before .before in
+    let at-start = in-loop .before .before .before .before .before in
+    let s = walk-step (at-start .args .shapes .now) (at-start .args .from) (at-start .args .to) (at-start .args .nodes .now) (at-start .args .at)
+    (at-start .args .end) (at-start .args .pool .now) (in-loop .before .loop .inv) (at-start .pre) (in-loop .loop-test .taken) in
+    omega (arith, c .size .ensures, in-loop .loop-test .taken, s .0, s .1)
 
 loop-again : tie.Need-loop-again Inv-loop μ-loop
 loop-again c =
-    walk-on (c .before .before .before .before .before .before .before .before .args .shapes .now) (c .before .before .before .before .before .before .before .before .args .from) (c .before .before .before .before .before .before .before .before .args .to) (c .before .before .before .before .before .before .before .before .args .nodes .now) (c .before .before .before .before .before .before .before .before .args .at) (c .before .before .before .before .before .before .before .before .args .end) (c .before .before .before .before .before .before .before .before .args .pool .now)
-    (c .before .before .before .before .loop .inv) (c .before .before .may-lack .ensures) (c .before .before .before .loop-test .taken) (c .before .if1 .left) (c .size .ensures)
+    let at-loop = c .before .before .before .before in
+    let at-start = at-loop .before .before .before .before in
+    walk-on (at-start .args .shapes .now) (at-start .args .from) (at-start .args .to) (at-start .args .nodes .now) (at-start .args .at) (at-start .args .end)
+    (at-start .args .pool .now)
+    (at-loop .loop .inv) (c .before .before .may-lack .ensures) (c .before .before .before .loop-test .taken) (c .before .if1 .left) (c .size .ensures)
 
 returns-2 : tie.Need-returns-2 Inv-loop μ-loop
 returns-2 c =
-    walk-ends (c .before .before .before .before .before .args .shapes .now) (c .before .before .before .before .before .args .from) (c .before .before .before .before .before .args .to) (c .before .before .before .before .before .args .nodes .now) (c .before .before .before .before .before .args .at) (c .before .before .before .before .before .args .end) (c .before .before .before .before .before .args .pool .now)
+    let at-start = c .before .before .before .before .before in
+    walk-ends (at-start .args .shapes .now) (at-start .args .from) (at-start .args .to) (at-start .args .nodes .now) (at-start .args .at) (at-start .args .end)
+    (at-start .args .pool .now)
     (c .before .loop .inv) (c .loop-test .left)
 
 pub missing-have-null-spec : {M : Type 1} → statement M

@@ -5,9 +5,7 @@ use Prim.Native.Nat.{ℕ, _+_, _-_, _*_, _<_}
 use native.Mathlib.Omega.{arith}
 use mathlib.Core.Path.{sym, ap, _∙_}
 use borrow.Author.Needs.{needs}
-use denote.Ref.{now}
 use lib.ListN.{length}
-use Rattle.definitions.specs.Value.{size}
 use Rattle.nodes.specs.StandingLaws.{size-some, value-size, value-within}
 use Rattle.shapes.specs.ShapesLaws.{kind-bits-lt, stands-row, stands-size, stands-within}
 use Rattle.infer.specs.Infer.{member-start}
@@ -15,8 +13,10 @@ use Rattle.infer.proofs.Scalars.{kind-told}
 use Rattle.infer.proofs.Into.{scalar-code, scalar-fits, scalar-put}
 use Rattle.infer.proofs.Items.{Items-loop, items-begin, items-inferable, items-size, items-room, items-full, items-loop-on, items-grown, items-end}
 use Rattle.infer.proofs.Lists.{list-full-first, list-inferable, list-room-then, list-full-then, list-raise-fits, list-grown, list-answer}
-use Rattle.infer.proofs.Members.{listed-inferable, listed-answer, new-inside, new-full-first, new-inferable, new-room-then, new-full-then, new-answer, new-grown}
-use Rattle.infer.proofs.Walk.{Members-loop, members-begin, members-inferable, members-size, members-room, members-full, members-loop-on, members-grown, members-end}
+use Rattle.infer.proofs.Members.{listed-inferable, listed-answer, new-inside, new-full-first}
+use Rattle.infer.proofs.Members.{new-inferable, new-room-then, new-full-then, new-answer, new-grown}
+use Rattle.infer.proofs.Walk.{Members-loop, members-begin, members-inferable, members-size}
+use Rattle.infer.proofs.Walk.{members-room, members-full, members-loop-on, members-grown, members-end}
 use Rattle.infer.proofs.Records.{record-inferable, record-full, record-nulls, record-room, record-grown, record-raise-fits, record-answer, record-first}
 use borrow.Fn.Kinds.{In}
 use borrow.Fn.PlainCycle.{Measures, is, falls, and}
@@ -212,13 +212,10 @@ infer-record-claims t = (
 
 -- ---- infer_into
 
-infer-into-row-kind-requires : (t : ℕ) → infer-into-lts.Need-row-kind-requires (infer-into-claims t) (infer-into-at t) infer-into.Post
-infer-into-row-kind-requires t c κs =
-    search needs
-
 infer-into-infer-list-requires : (t : ℕ) → infer-into-lts.Need-infer-list-requires (infer-into-claims t) (infer-into-at t) infer-into.Post
 infer-into-infer-list-requires t c κs =
-    (omega (arith, c .before .before .before .before .before .before .pre .0), (c .before .before .before .before .before .before .pre .1 .0, (c .before .before .before .before .before .before .pre .1 .1, sym (c .before .before .row-kind .ensures) ∙ c .before .if1 .taken)))
+    let at-start = c .before .before .before .before .before .before in
+    (omega (arith, at-start .pre .0), (at-start .pre .1 .0, (at-start .pre .1 .1, sym (c .before .before .row-kind .ensures) ∙ c .before .if1 .taken)))
 
 infer-into-same-length : (t : ℕ) → infer-into-lts.Need-same-length (infer-into-claims t) (infer-into-at t) infer-into.Post
 infer-into-same-length t c =
@@ -230,7 +227,8 @@ infer-into-returns t c =
 
 infer-into-infer-record-requires : (t : ℕ) → infer-into-lts.Need-infer-record-requires (infer-into-claims t) (infer-into-at t) infer-into.Post
 infer-into-infer-record-requires t c κs =
-    (omega (arith, c .before .before .before .before .before .before .before .pre .0), (c .before .before .before .before .before .before .before .pre .1 .0, (c .before .before .before .before .before .before .before .pre .1 .1, sym (c .before .before .before .row-kind .ensures) ∙ c .before .if2 .taken)))
+    let at-start = c .before .before .before .before .before .before .before in
+    (omega (arith, at-start .pre .0), (at-start .pre .1 .0, (at-start .pre .1 .1, sym (c .before .before .before .row-kind .ensures) ∙ c .before .if2 .taken)))
 
 infer-into-same-length-2 : (t : ℕ) → infer-into-lts.Need-same-length-2 (infer-into-claims t) (infer-into-at t) infer-into.Post
 infer-into-same-length-2 t c =
@@ -240,18 +238,17 @@ infer-into-returns-2 : (t : ℕ) → infer-into-lts.Need-returns-2 (infer-into-c
 infer-into-returns-2 t c =
     c .before .before .infer-record .ensures
 
-infer-into-scalar-kinds-requires : (t : ℕ) → infer-into-lts.Need-scalar-kinds-requires (infer-into-claims t) (infer-into-at t) infer-into.Post
-infer-into-scalar-kinds-requires t c κs =
-    search needs
-
 infer-into-raise-requires : (t : ℕ) → infer-into-lts.Need-raise-requires (infer-into-claims t) (infer-into-at t) infer-into.Post
 infer-into-raise-requires t c κs =
-    let w = c .before .before .before .before .before .before .before .before .pre .1 .0 in
+    let after-row-kind = c .before .before .before .before in
+    let at-start = after-row-kind .before .before .before .before in
+    let w = at-start .pre .1 .0 in
     scalar-fits
     (w .meets)
-    (scalar-code (w .value) (kind-told (w .meets .held) (c .before .before .before .before .row-kind .ensures)) (c .before .before .before .if1 .left) (c .before .before .if2 .left))
+    (scalar-code (w .value) (kind-told (w .meets .held) (after-row-kind .row-kind .ensures)) (c .before .before .before .if1 .left)
+    (c .before .before .if2 .left))
     (c .scalar-kinds .ensures)
-    (c .before .before .before .before .before .before .before .before .pre .1 .1)
+    (at-start .pre .1 .1)
 
 infer-into-same-length-3 : (t : ℕ) → infer-into-lts.Need-same-length-3 (infer-into-claims t) (infer-into-at t) infer-into.Post
 infer-into-same-length-3 t c =
@@ -259,13 +256,16 @@ infer-into-same-length-3 t c =
 
 infer-into-returns-3 : (t : ℕ) → infer-into-lts.Need-returns-3 (infer-into-claims t) (infer-into-at t) infer-into.Post
 infer-into-returns-3 t c p m s k v h =
+    let after-raise = c .before .before in
+    let else1 = after-raise .before .before .before .before in
+    let at-start = else1 .before .before .before .before .before in
     scalar-put
     h
-    (scalar-code v (kind-told (h .held) (c .before .before .before .before .before .before .before .row-kind .ensures)) (c .before .before .before .before .before .before .if1 .left) (c .before .before .before .before .before .if2 .left))
-    (c .before .before .before .scalar-kinds .ensures)
-    (c .before .before .before .before .before .before .before .before .before .before .before .pre .1 .1)
-    (c .before .before .raise .ensures)
-    (c .before .before .raise .kept .0)
+    (scalar-code v (kind-told (h .held) (else1 .before .row-kind .ensures)) (else1 .if1 .left) (after-raise .before .before .before .if2 .left))
+    (after-raise .before .scalar-kinds .ensures)
+    (at-start .pre .1 .1)
+    (after-raise .raise .ensures)
+    (after-raise .raise .kept .0)
 
 -- ---- infer_items
 
@@ -275,21 +275,30 @@ infer-items-Inv-loop shapes₀ used row nodes at end pool i₀ grown₀ shapes i
 abbrev infer-items-μ-loop : infer-items-lts.MeasureT-loop
 infer-items-μ-loop shapes₀ used row nodes at end pool i₀ grown₀ shapes i grown = end - i
 
-infer-items-loop-holds : (t : ℕ) → infer-items-lts.Need-loop-holds (infer-items-claims t) (infer-items-at t) infer-items.Post infer-items-Inv-loop infer-items-μ-loop
+infer-items-loop-holds
+    : (t : ℕ) → infer-items-lts.Need-loop-holds (infer-items-claims t) (infer-items-at t) infer-items.Post infer-items-Inv-loop infer-items-μ-loop
 infer-items-loop-holds t c =
     items-begin _ _ _ _ _ _ _ (c .before .before .before .pre .1 .1 .enough)
 
-infer-items-add-infer-into : (t : ℕ) → infer-items-lts.Need-add-infer-into (infer-items-claims t) (infer-items-at t) infer-items.Post infer-items-Inv-loop infer-items-μ-loop
+infer-items-add-infer-into
+    : (t : ℕ) → infer-items-lts.Need-add-infer-into (infer-items-claims t) (infer-items-at t) infer-items.Post infer-items-Inv-loop infer-items-μ-loop
 infer-items-add-infer-into t c =
-    omega (arith, items-room (c .before .before .before .before .before .before .pre .1 .1) (c .before .before .loop .inv) (c .before .loop-test .taken) (c .before .before .before .before .before .before .pre .1 .0 .meets), c .before .before .before .before .before .before .pre .1 .1 .small)
+    let at-start = c .before .before .before .before .before .before in
+    omega (
+      arith,
+      items-room (at-start .pre .1 .1) (c .before .before .loop .inv) (c .before .loop-test .taken) (at-start .pre .1 .0 .meets),
+      at-start .pre .1 .1 .small,
+    )
 
-infer-items-infer-into-requires : (t : ℕ) → infer-items-lts.Need-infer-into-requires (infer-items-claims t) (infer-items-at t) infer-items.Post infer-items-Inv-loop infer-items-μ-loop
+infer-items-infer-into-requires
+    : (t : ℕ) → infer-items-lts.Need-infer-into-requires (infer-items-claims t) (infer-items-at t) infer-items.Post infer-items-Inv-loop infer-items-μ-loop
 infer-items-infer-into-requires t c κs =
-    let room = c .before .before .before .before .before .before .pre .1 .1 in
-    let w = c .before .before .before .before .before .before .pre .1 .0 in
+    let at-start = c .before .before .before .before .before .before in
+    let room = at-start .pre .1 .1 in
+    let w = at-start .pre .1 .0 in
     let l = c .before .before .loop .inv in
     let z = items-size room l (c .before .loop-test .taken) (w .meets) in (
-      omega (arith, c .before .before .before .before .before .before .pre .0, l .ahead, z .0, z .1),
+      omega (arith, at-start .pre .0, l .ahead, z .0, z .1),
       (
         items-inferable room l (c .before .loop-test .taken) w,
         record {
@@ -299,176 +308,229 @@ infer-items-infer-into-requires t c κs =
       ),
     )
 
-infer-items-enum-told : (t : ℕ) → infer-items-lts.Need-enum-told (infer-items-claims t) (infer-items-at t) infer-items.Post infer-items-Inv-loop infer-items-μ-loop
-infer-items-enum-told t c =
-    search needs
-
-infer-items-same-length : (t : ℕ) → infer-items-lts.Need-same-length (infer-items-claims t) (infer-items-at t) infer-items.Post infer-items-Inv-loop infer-items-μ-loop
+infer-items-same-length
+    : (t : ℕ) → infer-items-lts.Need-same-length (infer-items-claims t) (infer-items-at t) infer-items.Post infer-items-Inv-loop infer-items-μ-loop
 infer-items-same-length t c =
-    c .before .before .before .before .infer-into .kept .0 ∙ c .before .before .before .before .before .before .before .loop .inv .same
+    let after-infer-into = c .before .before .before .before in
+    after-infer-into .infer-into .kept .0 ∙ after-infer-into .before .before .before .loop .inv .same
 
 infer-items-returns : (t : ℕ) → infer-items-lts.Need-returns (infer-items-claims t) (infer-items-at t) infer-items.Post infer-items-Inv-loop infer-items-μ-loop
 infer-items-returns t c =
-    items-full (c .before .before .before .before .before .before .before .before .before .before .before .pre .1 .1) (c .before .before .before .before .before .before .before .loop .inv) (c .before .before .before .before .before .before .loop-test .taken) (c .before .before .before .before .infer-into .last .0) (c .before .before .before .before .infer-into .result) (c .before .before .before .before .infer-into .ensures) (c .enum-told .given .1)
+    let after-infer-into = c .before .before .before .before in
+    let at-start = after-infer-into .before .before .before .before .before .before .before in
+    items-full (at-start .pre .1 .1) (after-infer-into .before .before .before .loop .inv) (after-infer-into .before .before .loop-test .taken)
+    (after-infer-into .infer-into .last .0) (after-infer-into .infer-into .result) (after-infer-into .infer-into .ensures) (c .enum-told .given .1)
 
-infer-items-enum-known-words : (t : ℕ) → infer-items-lts.Need-enum-known-words (infer-items-claims t) (infer-items-at t) infer-items.Post infer-items-Inv-loop infer-items-μ-loop
-infer-items-enum-known-words t c =
-    search needs
-
-infer-items-add-grown : (t : ℕ) → infer-items-lts.Need-add-grown (infer-items-claims t) (infer-items-at t) infer-items.Post infer-items-Inv-loop infer-items-μ-loop
+infer-items-add-grown
+    : (t : ℕ) → infer-items-lts.Need-add-grown (infer-items-claims t) (infer-items-at t) infer-items.Post infer-items-Inv-loop infer-items-μ-loop
 infer-items-add-grown t c =
+    let after-infer-into = c .before .before .before .before .before in
+    let at-start = after-infer-into .before .before .before .before .before .before .before in
     omega (
       arith,
-      items-grown (c .before .before .before .before .before .before .before .before .before .before .before .before .pre .1 .1) (c .before .before .before .before .before .before .before .before .loop .inv) (c .before .before .before .before .before .before .before .loop-test .taken) (c .before .before .before .before .before .infer-into .last .0) (c .before .before .before .before .before .infer-into .result) (c .before .before .before .before .before .infer-into .ensures) (c .before .words .given .1) (c .before .before .before .before .before .before .before .before .before .before .before .before .pre .1 .0),
-      c .before .before .before .before .before .before .before .before .before .before .before .before .pre .1 .1 .small,
+      items-grown (at-start .pre .1 .1) (after-infer-into .before .before .before .loop .inv) (after-infer-into .before .before .loop-test .taken)
+          (after-infer-into .infer-into .last .0) (after-infer-into .infer-into .result) (after-infer-into .infer-into .ensures)
+          (c .before .words .given .1) (at-start .pre .1 .0),
+      at-start .pre .1 .1 .small,
     )
-
-infer-items-row-size-requires : (t : ℕ) → infer-items-lts.Need-row-size-requires (infer-items-claims t) (infer-items-at t) infer-items.Post infer-items-Inv-loop infer-items-μ-loop
-infer-items-row-size-requires t c κs =
-    search needs
 
 infer-items-add-i : (t : ℕ) → infer-items-lts.Need-add-i (infer-items-claims t) (infer-items-at t) infer-items.Post infer-items-Inv-loop infer-items-μ-loop
 infer-items-add-i t c =
-    let z = items-size (c .before .before .before .before .before .before .before .before .before .before .before .before .before .pre .1 .1) (c .before .before .before .before .before .before .before .before .before .loop .inv) (c .before .before .before .before .before .before .before .before .loop-test .taken) (c .before .before .before .before .before .before .before .before .before .before .before .before .before .pre .1 .0 .meets) in
-    omega (arith, z .1, c .row-size .ensures, c .before .before .before .before .before .before .before .before .before .before .before .before .before .good .1 .1 .1 .0 .0)
+    let in-loop = c .before .before .before .before .before .before .before .before in
+    let at-start = in-loop .before .before .before .before .before in
+    let z = items-size (at-start .pre .1 .1) (in-loop .before .loop .inv) (in-loop .loop-test .taken) (at-start .pre .1 .0 .meets) in
+    omega (arith, z .1, c .row-size .ensures, at-start .good .1 .1 .1 .0 .0)
 
-infer-items-loop-less : (t : ℕ) → infer-items-lts.Need-loop-less (infer-items-claims t) (infer-items-at t) infer-items.Post infer-items-Inv-loop infer-items-μ-loop
+infer-items-loop-less
+    : (t : ℕ) → infer-items-lts.Need-loop-less (infer-items-claims t) (infer-items-at t) infer-items.Post infer-items-Inv-loop infer-items-μ-loop
 infer-items-loop-less t c =
-    let z = items-size (c .before .before .before .before .before .before .before .before .before .before .before .before .before .pre .1 .1) (c .before .before .before .before .before .before .before .before .before .loop .inv) (c .before .before .before .before .before .before .before .before .loop-test .taken) (c .before .before .before .before .before .before .before .before .before .before .before .before .before .pre .1 .0 .meets) in
-    omega (arith, z .0, z .2, c .row-size .ensures, c .before .before .before .before .before .before .before .before .loop-test .taken)
+    let in-loop = c .before .before .before .before .before .before .before .before in
+    let at-start = in-loop .before .before .before .before .before in
+    let z = items-size (at-start .pre .1 .1) (in-loop .before .loop .inv) (in-loop .loop-test .taken) (at-start .pre .1 .0 .meets) in
+    omega (arith, z .0, z .2, c .row-size .ensures, in-loop .loop-test .taken)
 
-infer-items-loop-again : (t : ℕ) → infer-items-lts.Need-loop-again (infer-items-claims t) (infer-items-at t) infer-items.Post infer-items-Inv-loop infer-items-μ-loop
+infer-items-loop-again
+    : (t : ℕ) → infer-items-lts.Need-loop-again (infer-items-claims t) (infer-items-at t) infer-items.Post infer-items-Inv-loop infer-items-μ-loop
 infer-items-loop-again t c =
-    items-loop-on (c .before .before .before .before .before .before .before .before .before .before .before .before .before .pre .1 .1) (c .before .before .before .before .before .before .before .before .before .loop .inv) (c .before .before .before .before .before .before .before .before .loop-test .taken) (c .before .before .before .before .before .before .infer-into .last .0) (c .before .before .before .before .before .before .infer-into .result) (c .before .before .before .before .before .before .infer-into .ensures) (c .before .before .words .given .1) (c .row-size .ensures) (c .before .before .before .before .before .before .infer-into .kept .0)
+    let after-infer-into = c .before .before .before .before .before .before in
+    let at-start = after-infer-into .before .before .before .before .before .before .before in
+    items-loop-on (at-start .pre .1 .1) (after-infer-into .before .before .before .loop .inv) (after-infer-into .before .before .loop-test .taken)
+    (after-infer-into .infer-into .last .0) (after-infer-into .infer-into .result) (after-infer-into .infer-into .ensures)
+    (c .before .before .words .given .1) (c .row-size .ensures) (after-infer-into .infer-into .kept .0)
 
-infer-items-same-length-2 : (t : ℕ) → infer-items-lts.Need-same-length-2 (infer-items-claims t) (infer-items-at t) infer-items.Post infer-items-Inv-loop infer-items-μ-loop
+infer-items-same-length-2
+    : (t : ℕ) → infer-items-lts.Need-same-length-2 (infer-items-claims t) (infer-items-at t) infer-items.Post infer-items-Inv-loop infer-items-μ-loop
 infer-items-same-length-2 t c =
     c .before .loop .inv .same
 
-infer-items-returns-2 : (t : ℕ) → infer-items-lts.Need-returns-2 (infer-items-claims t) (infer-items-at t) infer-items.Post infer-items-Inv-loop infer-items-μ-loop
+infer-items-returns-2
+    : (t : ℕ) → infer-items-lts.Need-returns-2 (infer-items-claims t) (infer-items-at t) infer-items.Post infer-items-Inv-loop infer-items-μ-loop
 infer-items-returns-2 t c =
     items-end (c .before .loop .inv) (c .loop-test .left)
 
 -- ---- infer_list
 
-infer-list-row-size-requires : (t : ℕ) → infer-list-lts.Need-row-size-requires (infer-list-claims t) (infer-list-at t) infer-list.Post
-infer-list-row-size-requires t c κs =
-    search needs
-
 infer-list-add-end : (t : ℕ) → infer-list-lts.Need-add-end (infer-list-claims t) (infer-list-at t) infer-list.Post
 infer-list-add-end t c =
-    let w = c .before .before .before .before .pre .1 .0 in
-    omega (arith, value-size (w .meets .held), value-within (w .meets .held), c .row-size .ensures, c .before .before .before .before .good .1 .1 .1 .0 .0)
+    let at-start = c .before .before .before .before in
+    let w = at-start .pre .1 .0 in
+    omega (arith, value-size (w .meets .held), value-within (w .meets .held), c .row-size .ensures, at-start .good .1 .1 .1 .0 .0)
 
 infer-list-ready-element-requires : (t : ℕ) → infer-list-lts.Need-ready-element-requires (infer-list-claims t) (infer-list-at t) infer-list.Post
 infer-list-ready-element-requires t c κs =
-    let w = c .before .before .before .before .before .pre .1 .0 in
-    (record { part = w .part; name = w .name; old = w .old; stands = w .meets .stands; within = w .meets .within }, c .before .before .before .before .before .pre .1 .1 .0)
-
-infer-list-enum-told : (t : ℕ) → infer-list-lts.Need-enum-told (infer-list-claims t) (infer-list-at t) infer-list.Post
-infer-list-enum-told t c =
-    search needs
-
-infer-list-enum-known-opened : (t : ℕ) → infer-list-lts.Need-enum-known-opened (infer-list-claims t) (infer-list-at t) infer-list.Post
-infer-list-enum-known-opened t c =
-    search needs
+    let at-start = c .before .before .before .before .before in
+    let w = at-start .pre .1 .0 in
+    (record { part = w .part; name = w .name; old = w .old; stands = w .meets .stands; within = w .meets .within }, at-start .pre .1 .1 .0)
 
 infer-list-add-infer-items : (t : ℕ) → infer-list-lts.Need-add-infer-items (infer-list-claims t) (infer-list-at t) infer-list.Post
 infer-list-add-infer-items t c =
+    let after-opened = c .before .before in
+    let after-ready-element = after-opened .before .before .before .before in
+    let at-start = after-ready-element .before .before .before .before .before .before in
     omega (
       arith,
-      list-room-then (c .before .before .before .before .before .before .before .before .before .before .before .before .pre .1 .1 .0) (c .before .before .before .before .before .before .before .before .before .before .before .before .pre .1 .1 .1) (c .before .before .before .before .before .before .ready-element .last .0) (c .before .before .before .before .before .before .ready-element .result) (c .before .before .before .before .before .before .ready-element .ensures) (c .before .before .opened .given .1) (c .before .before .before .before .before .before .before .before .before .before .before .before .pre .1 .0) .enough,
-      list-room-then (c .before .before .before .before .before .before .before .before .before .before .before .before .pre .1 .1 .0) (c .before .before .before .before .before .before .before .before .before .before .before .before .pre .1 .1 .1) (c .before .before .before .before .before .before .ready-element .last .0) (c .before .before .before .before .before .before .ready-element .result) (c .before .before .before .before .before .before .ready-element .ensures) (c .before .before .opened .given .1) (c .before .before .before .before .before .before .before .before .before .before .before .before .pre .1 .0) .small,
+      list-room-then (at-start .pre .1 .1 .0) (at-start .pre .1 .1 .1) (after-ready-element .ready-element .last .0)
+          (after-ready-element .ready-element .result) (after-ready-element .ready-element .ensures) (after-opened .opened .given .1)
+          (at-start .pre .1 .0) .enough,
+      list-room-then (at-start .pre .1 .1 .0) (at-start .pre .1 .1 .1) (after-ready-element .ready-element .last .0)
+          (after-ready-element .ready-element .result) (after-ready-element .ready-element .ensures) (after-opened .opened .given .1)
+          (at-start .pre .1 .0) .small,
     )
 
 infer-list-add-infer-items-2 : (t : ℕ) → infer-list-lts.Need-add-infer-items-2 (infer-list-claims t) (infer-list-at t) infer-list.Post
 infer-list-add-infer-items-2 t c =
-    let w = c .before .before .before .before .before .before .before .before .before .before .before .before .pre .1 .0 in
-    omega (arith, stands-row (w .meets .stands), c .before .before .before .before .before .before .before .before .before .before .before .before .pre .1 .1 .0 .small)
+    let after-ready-element = c .before .before .before .before .before .before in
+    let at-start = after-ready-element .before .before .before .before .before .before in
+    let w = at-start .pre .1 .0 in
+    omega (arith, stands-row (w .meets .stands), at-start .pre .1 .1 .0 .small)
 
 infer-list-add-infer-items-3 : (t : ℕ) → infer-list-lts.Need-add-infer-items-3 (infer-list-claims t) (infer-list-at t) infer-list.Post
 infer-list-add-infer-items-3 t c =
-    let w = c .before .before .before .before .before .before .before .before .before .before .before .before .pre .1 .0 in
-    omega (arith, value-within (w .meets .held), size-some (w .value), c .before .before .before .before .before .before .before .before .before .before .before .before .good .1 .1 .1 .0 .0)
+    let after-ready-element = c .before .before .before .before .before .before in
+    let at-start = after-ready-element .before .before .before .before .before .before in
+    let w = at-start .pre .1 .0 in
+    omega (arith, value-within (w .meets .held), size-some (w .value), at-start .good .1 .1 .1 .0 .0)
 
 infer-list-infer-items-requires : (t : ℕ) → infer-list-lts.Need-infer-items-requires (infer-list-claims t) (infer-list-at t) infer-list.Post
 infer-list-infer-items-requires t c κs =
-    let w = c .before .before .before .before .before .before .before .before .before .before .before .before .pre .1 .0 in (
-      omega (arith, c .before .before .before .before .before .before .before .before .before .before .before .before .pre .0, value-within (w .meets .held), size-some (w .value)),
+    let after-opened = c .before .before in
+    let after-ready-element = after-opened .before .before .before .before in
+    let at-start = after-ready-element .before .before .before .before .before .before in
+    let w = at-start .pre .1 .0 in (
+      omega (arith, at-start .pre .0, value-within (w .meets .held), size-some (w .value)),
       (
-        list-inferable (c .before .before .before .before .before .before .before .before .before .before .before .before .pre .1 .1 .0) (c .before .before .before .before .before .before .before .before .before .before .before .before .pre .1 .1 .1) (c .before .before .before .before .before .before .ready-element .last .0) (c .before .before .before .before .before .before .ready-element .result) (c .before .before .before .before .before .before .ready-element .ensures) (c .before .before .opened .given .1) (ap (λ (x : ℕ). c .before .before .before .before .before .before .before .before .before .before .before .before .args .at + x) (c .before .before .before .before .before .before .before .before .row-size .ensures)) w,
-        list-room-then (c .before .before .before .before .before .before .before .before .before .before .before .before .pre .1 .1 .0) (c .before .before .before .before .before .before .before .before .before .before .before .before .pre .1 .1 .1) (c .before .before .before .before .before .before .ready-element .last .0) (c .before .before .before .before .before .before .ready-element .result) (c .before .before .before .before .before .before .ready-element .ensures) (c .before .before .opened .given .1) w,
+        list-inferable (at-start .pre .1 .1 .0) (at-start .pre .1 .1 .1) (after-ready-element .ready-element .last .0)
+            (after-ready-element .ready-element .result) (after-ready-element .ready-element .ensures) (after-opened .opened .given .1)
+            (ap (λ (x : ℕ). at-start .args .at + x) (after-ready-element .before .before .row-size .ensures)) w,
+        list-room-then (at-start .pre .1 .1 .0) (at-start .pre .1 .1 .1) (after-ready-element .ready-element .last .0)
+            (after-ready-element .ready-element .result) (after-ready-element .ready-element .ensures) (after-opened .opened .given .1) w,
       ),
     )
 
-infer-list-enum-told-2 : (t : ℕ) → infer-list-lts.Need-enum-told-2 (infer-list-claims t) (infer-list-at t) infer-list.Post
-infer-list-enum-told-2 t c =
-    search needs
-
-infer-list-enum-known-words : (t : ℕ) → infer-list-lts.Need-enum-known-words (infer-list-claims t) (infer-list-at t) infer-list.Post
-infer-list-enum-known-words t c =
-    search needs
-
 infer-list-add-raise : (t : ℕ) → infer-list-lts.Need-add-raise (infer-list-claims t) (infer-list-at t) infer-list.Post
 infer-list-add-raise t c =
+    let after-infer-items = c .before .before .before .before .before .before in
+    let after-ready-element = after-infer-items .before .before .before .before .before .before .before in
+    let at-start = after-ready-element .before .before .before .before .before .before in
     omega (
       arith,
-      list-grown (c .before .before .before .before .before .before .before .before .before .before .before .before .before .before .before .before .before .before .before .pre .1 .1 .0) (c .before .before .before .before .before .before .before .before .before .before .before .before .before .before .before .before .before .before .before .pre .1 .1 .1) (c .before .before .before .before .before .before .before .before .before .before .before .before .before .ready-element .last .0) (c .before .before .before .before .before .before .before .before .before .before .before .before .before .ready-element .result) (c .before .before .before .before .before .before .before .before .before .before .before .before .before .ready-element .ensures) (c .before .before .before .before .before .before .before .before .before .opened .given .1) (ap (λ (x : ℕ). c .before .before .before .before .before .before .before .before .before .before .before .before .before .before .before .before .before .before .before .args .at + x) (c .before .before .before .before .before .before .before .before .before .before .before .before .before .before .before .row-size .ensures)) (c .before .before .before .before .before .before .infer-items .last .0) (c .before .before .before .before .before .before .infer-items .result) (c .before .before .before .before .before .before .infer-items .ensures) (c .before .before .words .given .1) (c .before .before .before .before .before .before .before .before .before .before .before .before .before .before .before .before .before .before .before .pre .1 .0),
-      c .before .before .before .before .before .before .before .before .before .before .before .before .before .before .before .before .before .before .before .pre .1 .1 .0 .small,
+      list-grown (at-start .pre .1 .1 .0) (at-start .pre .1 .1 .1) (after-ready-element .ready-element .last .0) (after-ready-element .ready-element .result)
+          (after-ready-element .ready-element .ensures) (after-infer-items .before .before .before .opened .given .1)
+          (ap (λ (x : ℕ). at-start .args .at + x) (after-ready-element .before .before .row-size .ensures)) (after-infer-items .infer-items .last .0)
+          (after-infer-items .infer-items .result) (after-infer-items .infer-items .ensures) (c .before .before .words .given .1) (at-start .pre .1 .0),
+      at-start .pre .1 .1 .0 .small,
     )
 
 infer-list-raise-requires : (t : ℕ) → infer-list-lts.Need-raise-requires (infer-list-claims t) (infer-list-at t) infer-list.Post
 infer-list-raise-requires t c κs =
-    list-raise-fits (c .before .before .before .before .before .before .before .before .before .before .before .before .before .before .before .before .before .before .before .pre .1 .1 .0) (c .before .before .before .before .before .before .before .before .before .before .before .before .before .before .before .before .before .before .before .pre .1 .1 .1) (c .before .before .before .before .before .before .before .before .before .before .before .before .before .ready-element .last .0) (c .before .before .before .before .before .before .before .before .before .before .before .before .before .ready-element .result) (c .before .before .before .before .before .before .before .before .before .before .before .before .before .ready-element .ensures) (c .before .before .before .before .before .before .before .before .before .opened .given .1) (ap (λ (x : ℕ). c .before .before .before .before .before .before .before .before .before .before .before .before .before .before .before .before .before .before .before .args .at + x) (c .before .before .before .before .before .before .before .before .before .before .before .before .before .before .before .row-size .ensures)) (c .before .before .before .before .before .before .infer-items .last .0) (c .before .before .before .before .before .before .infer-items .result) (c .before .before .before .before .before .before .infer-items .ensures) (c .before .before .words .given .1) (c .before .before .before .before .before .before .before .before .before .before .before .before .before .before .before .before .before .before .before .pre .1 .0)
+    let after-infer-items = c .before .before .before .before .before .before in
+    let after-ready-element = after-infer-items .before .before .before .before .before .before .before in
+    let at-start = after-ready-element .before .before .before .before .before .before in
+    list-raise-fits (at-start .pre .1 .1 .0) (at-start .pre .1 .1 .1) (after-ready-element .ready-element .last .0) (after-ready-element .ready-element .result)
+    (after-ready-element .ready-element .ensures) (after-infer-items .before .before .before .opened .given .1)
+    (ap (λ (x : ℕ). at-start .args .at + x) (after-ready-element .before .before .row-size .ensures)) (after-infer-items .infer-items .last .0)
+    (after-infer-items .infer-items .result) (after-infer-items .infer-items .ensures) (c .before .before .words .given .1) (at-start .pre .1 .0)
 
 infer-list-add-t25 : (t : ℕ) → infer-list-lts.Need-add-t25 (infer-list-claims t) (infer-list-at t) infer-list.Post
 infer-list-add-t25 t c =
+    let after-words = c .before .before .before .before .before in
+    let after-infer-items = after-words .before .before .before .before in
+    let after-ready-element = after-infer-items .before .before .before .before .before .before .before in
+    let at-start = after-ready-element .before .before .before .before .before .before in
     omega (
       arith,
-      list-grown (c .before .before .before .before .before .before .before .before .before .before .before .before .before .before .before .before .before .before .before .before .before .before .pre .1 .1 .0) (c .before .before .before .before .before .before .before .before .before .before .before .before .before .before .before .before .before .before .before .before .before .before .pre .1 .1 .1) (c .before .before .before .before .before .before .before .before .before .before .before .before .before .before .before .before .ready-element .last .0) (c .before .before .before .before .before .before .before .before .before .before .before .before .before .before .before .before .ready-element .result) (c .before .before .before .before .before .before .before .before .before .before .before .before .before .before .before .before .ready-element .ensures) (c .before .before .before .before .before .before .before .before .before .before .before .before .opened .given .1) (ap (λ (x : ℕ). c .before .before .before .before .before .before .before .before .before .before .before .before .before .before .before .before .before .before .before .before .before .before .args .at + x) (c .before .before .before .before .before .before .before .before .before .before .before .before .before .before .before .before .before .before .row-size .ensures)) (c .before .before .before .before .before .before .before .before .before .infer-items .last .0) (c .before .before .before .before .before .before .before .before .before .infer-items .result) (c .before .before .before .before .before .before .before .before .before .infer-items .ensures) (c .before .before .before .before .before .words .given .1) (c .before .before .before .before .before .before .before .before .before .before .before .before .before .before .before .before .before .before .before .before .before .before .pre .1 .0),
-      c .before .before .before .before .before .before .before .before .before .before .before .before .before .before .before .before .before .before .before .before .before .before .pre .1 .1 .0 .small,
+      list-grown (at-start .pre .1 .1 .0) (at-start .pre .1 .1 .1) (after-ready-element .ready-element .last .0) (after-ready-element .ready-element .result)
+          (after-ready-element .ready-element .ensures) (after-infer-items .before .before .before .opened .given .1)
+          (ap (λ (x : ℕ). at-start .args .at + x) (after-ready-element .before .before .row-size .ensures)) (after-infer-items .infer-items .last .0)
+          (after-infer-items .infer-items .result) (after-infer-items .infer-items .ensures) (after-words .words .given .1) (at-start .pre .1 .0),
+      at-start .pre .1 .1 .0 .small,
     )
 
 infer-list-same-length : (t : ℕ) → infer-list-lts.Need-same-length (infer-list-claims t) (infer-list-at t) infer-list.Post
 infer-list-same-length t c =
-    c .before .before .before .before .ready-element .kept .0
+    let after-ready-element = c .before .before .before .before in
+    after-ready-element .ready-element .kept .0
 
 infer-list-returns : (t : ℕ) → infer-list-lts.Need-returns (infer-list-claims t) (infer-list-at t) infer-list.Post
 infer-list-returns t c =
-    list-full-first (c .before .before .before .before .before .before .before .before .before .before .pre .1 .1 .0) (c .before .before .before .before .before .before .before .before .before .before .pre .1 .1 .1) (c .before .before .before .before .ready-element .last .0) (c .before .before .before .before .ready-element .result) (c .before .before .before .before .ready-element .ensures) (c .enum-told .given .1)
+    let after-ready-element = c .before .before .before .before in
+    let at-start = after-ready-element .before .before .before .before .before .before in
+    list-full-first (at-start .pre .1 .1 .0) (at-start .pre .1 .1 .1) (after-ready-element .ready-element .last .0) (after-ready-element .ready-element .result)
+    (after-ready-element .ready-element .ensures) (c .enum-told .given .1)
 
 infer-list-same-length-2 : (t : ℕ) → infer-list-lts.Need-same-length-2 (infer-list-claims t) (infer-list-at t) infer-list.Post
 infer-list-same-length-2 t c =
-    c .before .before .before .before .infer-items .kept .0 ∙ c .before .before .before .before .before .before .before .before .before .before .before .ready-element .kept .0
+    let after-infer-items = c .before .before .before .before in
+    let after-ready-element = after-infer-items .before .before .before .before .before .before .before in
+    after-infer-items .infer-items .kept .0 ∙ after-ready-element .ready-element .kept .0
 
 infer-list-returns-2 : (t : ℕ) → infer-list-lts.Need-returns-2 (infer-list-claims t) (infer-list-at t) infer-list.Post
 infer-list-returns-2 t c =
-    list-full-then (c .before .before .before .before .before .before .before .before .before .before .before .before .before .before .before .before .before .pre .1 .1 .0) (c .before .before .before .before .before .before .before .before .before .before .before .before .before .before .before .before .before .pre .1 .1 .1) (c .before .before .before .before .before .before .before .before .before .before .before .ready-element .last .0) (c .before .before .before .before .before .before .before .before .before .before .before .ready-element .result) (c .before .before .before .before .before .before .before .before .before .before .before .ready-element .ensures) (c .before .before .before .before .before .before .before .opened .given .1) (ap (λ (x : ℕ). c .before .before .before .before .before .before .before .before .before .before .before .before .before .before .before .before .before .args .at + x) (c .before .before .before .before .before .before .before .before .before .before .before .before .before .row-size .ensures)) (c .before .before .before .before .infer-items .last .0) (c .before .before .before .before .infer-items .result) (c .before .before .before .before .infer-items .ensures) (c .enum-told2 .given .1)
+    let after-infer-items = c .before .before .before .before in
+    let after-ready-element = after-infer-items .before .before .before .before .before .before .before in
+    let at-start = after-ready-element .before .before .before .before .before .before in
+    list-full-then (at-start .pre .1 .1 .0) (at-start .pre .1 .1 .1) (after-ready-element .ready-element .last .0) (after-ready-element .ready-element .result)
+    (after-ready-element .ready-element .ensures) (after-infer-items .before .before .before .opened .given .1)
+    (ap (λ (x : ℕ). at-start .args .at + x) (after-ready-element .before .before .row-size .ensures)) (after-infer-items .infer-items .last .0)
+    (after-infer-items .infer-items .result) (after-infer-items .infer-items .ensures) (c .enum-told2 .given .1)
 
 infer-list-same-length-3 : (t : ℕ) → infer-list-lts.Need-same-length-3 (infer-list-claims t) (infer-list-at t) infer-list.Post
 infer-list-same-length-3 t c =
-    c .before .before .raise .kept .0 ∙ c .before .before .before .before .before .before .before .before .before .infer-items .kept .0 ∙ c .before .before .before .before .before .before .before .before .before .before .before .before .before .before .before .before .ready-element .kept .0
+    let after-infer-items = c .before .before .before .before .before .before .before .before .before in
+    let after-ready-element = after-infer-items .before .before .before .before .before .before .before in
+    c .before .before .raise .kept .0 ∙ after-infer-items .infer-items .kept .0 ∙ after-ready-element .ready-element .kept .0
 
 infer-list-returns-3 : (t : ℕ) → infer-list-lts.Need-returns-3 (infer-list-claims t) (infer-list-at t) infer-list.Post
 infer-list-returns-3 t c =
-    list-answer (c .before .before .before .before .before .before .before .before .before .before .before .before .before .before .before .before .before .before .before .before .before .before .pre .1 .1 .0) (c .before .before .before .before .before .before .before .before .before .before .before .before .before .before .before .before .before .before .before .before .before .before .pre .1 .1 .1) (c .before .before .before .before .before .before .before .before .before .before .before .before .before .before .before .before .ready-element .last .0) (c .before .before .before .before .before .before .before .before .before .before .before .before .before .before .before .before .ready-element .result) (c .before .before .before .before .before .before .before .before .before .before .before .before .before .before .before .before .ready-element .ensures) (c .before .before .before .before .before .before .before .before .before .before .before .before .opened .given .1) (ap (λ (x : ℕ). c .before .before .before .before .before .before .before .before .before .before .before .before .before .before .before .before .before .before .before .before .before .before .args .at + x) (c .before .before .before .before .before .before .before .before .before .before .before .before .before .before .before .before .before .before .row-size .ensures)) (c .before .before .before .before .before .before .before .before .before .infer-items .last .0) (c .before .before .before .before .before .before .before .before .before .infer-items .result) (c .before .before .before .before .before .before .before .before .before .infer-items .ensures) (c .before .before .before .before .before .words .given .1) (c .before .before .raise .ensures) (c .before .before .raise .kept .0)
+    let after-raise = c .before .before in
+    let after-infer-items = after-raise .before .before .before .before .before .before .before in
+    let after-ready-element = after-infer-items .before .before .before .before .before .before .before in
+    let at-start = after-ready-element .before .before .before .before .before .before in
+    list-answer (at-start .pre .1 .1 .0) (at-start .pre .1 .1 .1) (after-ready-element .ready-element .last .0) (after-ready-element .ready-element .result)
+    (after-ready-element .ready-element .ensures) (after-infer-items .before .before .before .opened .given .1)
+    (ap (λ (x : ℕ). at-start .args .at + x) (after-ready-element .before .before .row-size .ensures)) (after-infer-items .infer-items .last .0)
+    (after-infer-items .infer-items .result) (after-infer-items .infer-items .ensures) (after-raise .before .before .before .words .given .1)
+    (after-raise .raise .ensures) (after-raise .raise .kept .0)
 
 -- ---- infer_member
 
-infer-member-row-name-requires : (t : ℕ) → infer-member-lts.Need-row-name-requires (infer-member-claims t) (infer-member-at t) infer-member.Post
-infer-member-row-name-requires t c κs =
-    search needs
-
 infer-member-find-place-requires : (t : ℕ) → infer-member-lts.Need-find-place-requires (infer-member-claims t) (infer-member-at t) infer-member.Post
 infer-member-find-place-requires t c κs =
-    let w = c .before .before .before .before .before .pre .1 .0 in
-    (record { part = w .part; fields = w .olds; meets = w .meets .fields }, c .before .before .before .before .before .pre .1 .1)
+    let at-start = c .before .before .before .before .before in
+    let w = at-start .pre .1 .0 in
+    (record { part = w .part; fields = w .olds; meets = w .meets .fields }, at-start .pre .1 .1)
 
 infer-member-infer-into-requires : (t : ℕ) → infer-member-lts.Need-infer-into-requires (infer-member-claims t) (infer-member-at t) infer-member.Post
-infer-member-infer-into-requires t c κs = (
-  omega (arith, c .before .before .before .before .before .before .before .before .pre .0),
-  (listed-inferable (c .before .before .before .before .before .before .before .before .args .had) (c .before .before .before .before .before .before .before .before .pre .1 .1) (c .before .before .before .before .row-name .ensures) (c .before .before .find-place .ensures) (c .before .if1 .taken) (c .before .before .before .before .before .before .before .before .pre .1 .0), c .before .before .before .before .before .before .before .before .pre .1 .1),
-)
+infer-member-infer-into-requires t c κs =
+    let after-row-name = c .before .before .before .before in
+    let at-start = after-row-name .before .before .before .before in (
+      omega (arith, at-start .pre .0),
+      (
+        listed-inferable (at-start .args .had) (at-start .pre .1 .1) (after-row-name .row-name .ensures) (c .before .before .find-place .ensures)
+            (c .before .if1 .taken) (at-start .pre .1 .0),
+        at-start .pre .1 .1,
+      ),
+    )
 
 infer-member-same-length : (t : ℕ) → infer-member-lts.Need-same-length (infer-member-claims t) (infer-member-at t) infer-member.Post
 infer-member-same-length t c =
@@ -476,82 +538,118 @@ infer-member-same-length t c =
 
 infer-member-returns : (t : ℕ) → infer-member-lts.Need-returns (infer-member-claims t) (infer-member-at t) infer-member.Post
 infer-member-returns t c =
-    listed-answer (c .before .before .before .before .before .before .before .before .before .before .before .args .had) (c .before .before .before .before .before .before .before .before .before .before .before .pre .1 .1) (c .before .before .before .before .before .before .before .row-name .ensures) (c .before .before .before .before .before .find-place .ensures) (c .before .before .before .before .if1 .taken) (c .before .before .infer-into .last .0) (c .before .before .infer-into .result) (c .before .before .infer-into .ensures)
-
-infer-member-start-kinds-requires : (t : ℕ) → infer-member-lts.Need-start-kinds-requires (infer-member-claims t) (infer-member-at t) infer-member.Post
-infer-member-start-kinds-requires t c κs =
-    search needs
+    let after-infer-into = c .before .before in
+    let after-row-name = after-infer-into .before .before .before .before .before in
+    let at-start = after-row-name .before .before .before .before in
+    listed-answer (at-start .args .had) (at-start .pre .1 .1) (after-row-name .row-name .ensures)
+    (after-infer-into .before .before .before .find-place .ensures) (after-infer-into .before .before .if1 .taken) (after-infer-into .infer-into .last .0)
+    (after-infer-into .infer-into .result) (after-infer-into .infer-into .ensures)
 
 infer-member-open-row-requires : (t : ℕ) → infer-member-lts.Need-open-row-requires (infer-member-claims t) (infer-member-at t) infer-member.Post
-infer-member-open-row-requires t c κs = (
-  c .before .before .before .before .before .before .before .before .before .pre .1 .1,
-  (
-    new-inside (c .before .before .before .before .before .before .before .before .before .args .had) (c .before .before .before .before .before .before .before .before .before .pre .1 .1) (c .before .before .before .before .before .row-name .ensures) (c .before .before .before .find-place .ensures) (c .before .before .if1 .left) (c .before .before .before .before .before .before .before .before .before .pre .1 .0),
-    omega (arith, c .start-kinds .ensures, kind-bits-lt (member-start (c .before .before .before .before .before .before .before .before .before .args .had))),
-  ),
-)
-
-infer-member-enum-told : (t : ℕ) → infer-member-lts.Need-enum-told (infer-member-claims t) (infer-member-at t) infer-member.Post
-infer-member-enum-told t c =
-    search needs
-
-infer-member-enum-known-opened : (t : ℕ) → infer-member-lts.Need-enum-known-opened (infer-member-claims t) (infer-member-at t) infer-member.Post
-infer-member-enum-known-opened t c =
-    search needs
+infer-member-open-row-requires t c κs =
+    let after-row-name = c .before .before .before .before .before in
+    let at-start = after-row-name .before .before .before .before in (
+      at-start .pre .1 .1,
+      (
+        new-inside (at-start .args .had) (at-start .pre .1 .1) (after-row-name .row-name .ensures) (c .before .before .before .find-place .ensures)
+            (c .before .before .if1 .left) (at-start .pre .1 .0),
+        omega (arith, c .start-kinds .ensures, kind-bits-lt (member-start (at-start .args .had))),
+      ),
+    )
 
 infer-member-add-infer-into : (t : ℕ) → infer-member-lts.Need-add-infer-into (infer-member-claims t) (infer-member-at t) infer-member.Post
 infer-member-add-infer-into t c =
-    let r = new-room-then (c .before .before .before .before .before .before .before .before .before .before .before .before .before .before .before .before .args .had) (c .before .before .before .before .before .before .before .before .before .before .before .before .before .before .before .before .pre .1 .1) (c .before .before .before .before .before .before .before .before .before .before .before .before .row-name .ensures) (c .before .before .before .before .before .before .before .before .before .before .find-place .ensures) (c .before .before .before .before .before .before .before .before .before .if1 .left) (c .before .before .before .before .before .before .open-row .last .0) (c .before .before .before .before .before .before .open-row .result) (c .before .before .before .before .before .before .before .start-kinds .ensures) (c .before .before .before .before .before .before .open-row .ensures) (c .before .before .opened .given .1) (c .before .before .before .before .before .before .before .before .before .before .before .before .before .before .before .before .pre .1 .0) in
+    let after-open-row = c .before .before .before .before .before .before in
+    let after-find-place = after-open-row .before .before .before .before in
+    let at-start = after-find-place .before .before .before .before .before .before in
+    let r = new-room-then (at-start .args .had) (at-start .pre .1 .1) (after-find-place .before .before .row-name .ensures)
+    (after-find-place .find-place .ensures) (after-open-row .before .before .before .if1 .left) (after-open-row .open-row .last .0)
+    (after-open-row .open-row .result) (after-open-row .before .start-kinds .ensures) (after-open-row .open-row .ensures)
+    (c .before .before .opened .given .1) (at-start .pre .1 .0) in
     omega (arith, r .enough, r .small)
 
 infer-member-infer-into-requires-2 : (t : ℕ) → infer-member-lts.Need-infer-into-requires-2 (infer-member-claims t) (infer-member-at t) infer-member.Post
-infer-member-infer-into-requires-2 t c κs = (
-  omega (arith, c .before .before .before .before .before .before .before .before .before .before .before .before .before .before .before .before .pre .0),
-  (
-    new-inferable (c .before .before .before .before .before .before .before .before .before .before .before .before .before .before .before .before .args .had) (c .before .before .before .before .before .before .before .before .before .before .before .before .before .before .before .before .pre .1 .1) (c .before .before .before .before .before .before .before .before .before .before .before .before .row-name .ensures) (c .before .before .before .before .before .before .before .before .before .before .find-place .ensures) (c .before .before .before .before .before .before .before .before .before .if1 .left) (c .before .before .before .before .before .before .open-row .last .0) (c .before .before .before .before .before .before .open-row .result) (c .before .before .before .before .before .before .before .start-kinds .ensures) (c .before .before .before .before .before .before .open-row .ensures) (c .before .before .opened .given .1) (c .before .before .before .before .before .before .before .before .before .before .before .before .before .before .before .before .pre .1 .0),
-    new-room-then (c .before .before .before .before .before .before .before .before .before .before .before .before .before .before .before .before .args .had) (c .before .before .before .before .before .before .before .before .before .before .before .before .before .before .before .before .pre .1 .1) (c .before .before .before .before .before .before .before .before .before .before .before .before .row-name .ensures) (c .before .before .before .before .before .before .before .before .before .before .find-place .ensures) (c .before .before .before .before .before .before .before .before .before .if1 .left) (c .before .before .before .before .before .before .open-row .last .0) (c .before .before .before .before .before .before .open-row .result) (c .before .before .before .before .before .before .before .start-kinds .ensures) (c .before .before .before .before .before .before .open-row .ensures) (c .before .before .opened .given .1) (c .before .before .before .before .before .before .before .before .before .before .before .before .before .before .before .before .pre .1 .0),
-  ),
-)
-
-infer-member-enum-told-2 : (t : ℕ) → infer-member-lts.Need-enum-told-2 (infer-member-claims t) (infer-member-at t) infer-member.Post
-infer-member-enum-told-2 t c =
-    search needs
-
-infer-member-enum-known-words : (t : ℕ) → infer-member-lts.Need-enum-known-words (infer-member-claims t) (infer-member-at t) infer-member.Post
-infer-member-enum-known-words t c =
-    search needs
+infer-member-infer-into-requires-2 t c κs =
+    let after-opened = c .before .before in
+    let after-open-row = after-opened .before .before .before .before in
+    let else1 = after-open-row .before .before .before in
+    let after-row-name = else1 .before .before .before in
+    let at-start = after-row-name .before .before .before .before in (
+      omega (arith, at-start .pre .0),
+      (
+        new-inferable (at-start .args .had) (at-start .pre .1 .1) (after-row-name .row-name .ensures) (else1 .before .find-place .ensures) (else1 .if1 .left)
+            (after-open-row .open-row .last .0) (after-open-row .open-row .result) (after-open-row .before .start-kinds .ensures)
+            (after-open-row .open-row .ensures) (after-opened .opened .given .1) (at-start .pre .1 .0),
+        new-room-then (at-start .args .had) (at-start .pre .1 .1) (after-row-name .row-name .ensures) (else1 .before .find-place .ensures) (else1 .if1 .left)
+            (after-open-row .open-row .last .0) (after-open-row .open-row .result) (after-open-row .before .start-kinds .ensures)
+            (after-open-row .open-row .ensures) (after-opened .opened .given .1) (at-start .pre .1 .0),
+      ),
+    )
 
 infer-member-add-t28 : (t : ℕ) → infer-member-lts.Need-add-t28 (infer-member-claims t) (infer-member-at t) infer-member.Post
 infer-member-add-t28 t c =
+    let after-infer-into2 = c .before .before .before .before .before in
+    let after-open-row = after-infer-into2 .before .before .before .before .before .before .before in
+    let after-find-place = after-open-row .before .before .before .before in
+    let at-start = after-find-place .before .before .before .before .before .before in
     omega (
       arith,
-      new-grown (c .before .before .before .before .before .before .before .before .before .before .before .before .before .before .before .before .before .before .before .before .before .before .args .had) (c .before .before .before .before .before .before .before .before .before .before .before .before .before .before .before .before .before .before .before .before .before .before .pre .1 .1) (c .before .before .before .before .before .before .before .before .before .before .before .before .before .before .before .before .before .before .row-name .ensures) (c .before .before .before .before .before .before .before .before .before .before .before .before .before .before .before .before .find-place .ensures) (c .before .before .before .before .before .before .before .before .before .before .before .before .before .before .before .if1 .left) (c .before .before .before .before .before .before .before .before .before .before .before .before .open-row .last .0) (c .before .before .before .before .before .before .before .before .before .before .before .before .open-row .result) (c .before .before .before .before .before .before .before .before .before .before .before .before .before .start-kinds .ensures) (c .before .before .before .before .before .before .before .before .before .before .before .before .open-row .ensures) (c .before .before .before .before .before .before .before .before .opened .given .1) (c .before .before .before .before .before .infer-into2 .last .0) (c .before .before .before .before .before .infer-into2 .result) (c .before .before .before .before .before .infer-into2 .ensures) (c .before .words .given .1) (c .before .before .before .before .before .before .before .before .before .before .before .before .before .before .before .before .before .before .before .before .before .before .pre .1 .0),
-      c .before .before .before .before .before .before .before .before .before .before .before .before .before .before .before .before .before .before .before .before .before .before .pre .1 .1 .small,
+      new-grown (at-start .args .had) (at-start .pre .1 .1) (after-find-place .before .before .row-name .ensures) (after-find-place .find-place .ensures)
+          (after-open-row .before .before .before .if1 .left) (after-open-row .open-row .last .0) (after-open-row .open-row .result)
+          (after-open-row .before .start-kinds .ensures) (after-open-row .open-row .ensures) (after-infer-into2 .before .before .before .opened .given .1)
+          (after-infer-into2 .infer-into2 .last .0) (after-infer-into2 .infer-into2 .result) (after-infer-into2 .infer-into2 .ensures)
+          (c .before .words .given .1) (at-start .pre .1 .0),
+      at-start .pre .1 .1 .small,
     )
 
 infer-member-same-length-2 : (t : ℕ) → infer-member-lts.Need-same-length-2 (infer-member-claims t) (infer-member-at t) infer-member.Post
 infer-member-same-length-2 t c =
-    c .before .before .before .before .open-row .kept .0
+    let after-open-row = c .before .before .before .before in
+    after-open-row .open-row .kept .0
 
 infer-member-returns-2 : (t : ℕ) → infer-member-lts.Need-returns-2 (infer-member-claims t) (infer-member-at t) infer-member.Post
 infer-member-returns-2 t c =
-    new-full-first (c .before .before .before .before .before .before .before .before .before .before .before .before .before .before .args .had) (c .before .before .before .before .before .before .before .before .before .before .before .before .before .before .pre .1 .1) (c .before .before .before .before .before .before .before .before .before .before .row-name .ensures) (c .before .before .before .before .before .before .before .before .find-place .ensures) (c .before .before .before .before .before .before .before .if1 .left) (c .before .before .before .before .open-row .last .0) (c .before .before .before .before .open-row .result) (c .before .before .before .before .before .start-kinds .ensures) (c .before .before .before .before .open-row .ensures) (c .enum-told .given .1)
+    let after-open-row = c .before .before .before .before in
+    let after-find-place = after-open-row .before .before .before .before in
+    let at-start = after-find-place .before .before .before .before .before .before in
+    new-full-first (at-start .args .had) (at-start .pre .1 .1) (after-find-place .before .before .row-name .ensures) (after-find-place .find-place .ensures)
+    (after-open-row .before .before .before .if1 .left) (after-open-row .open-row .last .0) (after-open-row .open-row .result)
+    (after-open-row .before .start-kinds .ensures) (after-open-row .open-row .ensures) (c .enum-told .given .1)
 
 infer-member-same-length-3 : (t : ℕ) → infer-member-lts.Need-same-length-3 (infer-member-claims t) (infer-member-at t) infer-member.Post
 infer-member-same-length-3 t c =
-    c .before .before .before .before .infer-into2 .kept .0 ∙ c .before .before .before .before .before .before .before .before .before .before .before .open-row .kept .0
+    let after-infer-into2 = c .before .before .before .before in
+    let after-open-row = after-infer-into2 .before .before .before .before .before .before .before in
+    after-infer-into2 .infer-into2 .kept .0 ∙ after-open-row .open-row .kept .0
 
 infer-member-returns-3 : (t : ℕ) → infer-member-lts.Need-returns-3 (infer-member-claims t) (infer-member-at t) infer-member.Post
 infer-member-returns-3 t c =
-    new-full-then (c .before .before .before .before .before .before .before .before .before .before .before .before .before .before .before .before .before .before .before .before .before .args .had) (c .before .before .before .before .before .before .before .before .before .before .before .before .before .before .before .before .before .before .before .before .before .pre .1 .1) (c .before .before .before .before .before .before .before .before .before .before .before .before .before .before .before .before .before .row-name .ensures) (c .before .before .before .before .before .before .before .before .before .before .before .before .before .before .before .find-place .ensures) (c .before .before .before .before .before .before .before .before .before .before .before .before .before .before .if1 .left) (c .before .before .before .before .before .before .before .before .before .before .before .open-row .last .0) (c .before .before .before .before .before .before .before .before .before .before .before .open-row .result) (c .before .before .before .before .before .before .before .before .before .before .before .before .start-kinds .ensures) (c .before .before .before .before .before .before .before .before .before .before .before .open-row .ensures) (c .before .before .before .before .before .before .before .opened .given .1) (c .before .before .before .before .infer-into2 .last .0) (c .before .before .before .before .infer-into2 .result) (c .before .before .before .before .infer-into2 .ensures) (c .enum-told2 .given .1)
+    let after-infer-into2 = c .before .before .before .before in
+    let after-open-row = after-infer-into2 .before .before .before .before .before .before .before in
+    let after-find-place = after-open-row .before .before .before .before in
+    let at-start = after-find-place .before .before .before .before .before .before in
+    new-full-then (at-start .args .had) (at-start .pre .1 .1) (after-find-place .before .before .row-name .ensures) (after-find-place .find-place .ensures)
+    (after-open-row .before .before .before .if1 .left) (after-open-row .open-row .last .0) (after-open-row .open-row .result)
+    (after-open-row .before .start-kinds .ensures) (after-open-row .open-row .ensures) (after-infer-into2 .before .before .before .opened .given .1)
+    (after-infer-into2 .infer-into2 .last .0) (after-infer-into2 .infer-into2 .result) (after-infer-into2 .infer-into2 .ensures) (c .enum-told2 .given .1)
 
 infer-member-same-length-4 : (t : ℕ) → infer-member-lts.Need-same-length-4 (infer-member-claims t) (infer-member-at t) infer-member.Post
 infer-member-same-length-4 t c =
-    c .before .before .before .before .before .infer-into2 .kept .0 ∙ c .before .before .before .before .before .before .before .before .before .before .before .before .open-row .kept .0
+    let after-infer-into2 = c .before .before .before .before .before in
+    let after-open-row = after-infer-into2 .before .before .before .before .before .before .before in
+    after-infer-into2 .infer-into2 .kept .0 ∙ after-open-row .open-row .kept .0
 
 infer-member-returns-4 : (t : ℕ) → infer-member-lts.Need-returns-4 (infer-member-claims t) (infer-member-at t) infer-member.Post
 infer-member-returns-4 t c =
-    new-answer (c .before .before .before .before .before .before .before .before .before .before .before .before .before .before .before .before .before .before .before .before .before .before .args .had) (c .before .before .before .before .before .before .before .before .before .before .before .before .before .before .before .before .before .before .before .before .before .before .pre .1 .1) (c .before .before .before .before .before .before .before .before .before .before .before .before .before .before .before .before .before .before .row-name .ensures) (c .before .before .before .before .before .before .before .before .before .before .before .before .before .before .before .before .find-place .ensures) (c .before .before .before .before .before .before .before .before .before .before .before .before .before .before .before .if1 .left) (c .before .before .before .before .before .before .before .before .before .before .before .before .open-row .last .0) (c .before .before .before .before .before .before .before .before .before .before .before .before .open-row .result) (c .before .before .before .before .before .before .before .before .before .before .before .before .before .start-kinds .ensures) (c .before .before .before .before .before .before .before .before .before .before .before .before .open-row .ensures) (c .before .before .before .before .before .before .before .before .opened .given .1) (c .before .before .before .before .before .infer-into2 .last .0) (c .before .before .before .before .before .infer-into2 .result) (c .before .before .before .before .before .infer-into2 .ensures) (c .before .words .given .1)
+    let after-infer-into2 = c .before .before .before .before .before in
+    let after-open-row = after-infer-into2 .before .before .before .before .before .before .before in
+    let after-find-place = after-open-row .before .before .before .before in
+    let at-start = after-find-place .before .before .before .before .before .before in
+    new-answer (at-start .args .had) (at-start .pre .1 .1) (after-find-place .before .before .row-name .ensures) (after-find-place .find-place .ensures)
+    (after-open-row .before .before .before .if1 .left) (after-open-row .open-row .last .0) (after-open-row .open-row .result)
+    (after-open-row .before .start-kinds .ensures) (after-open-row .open-row .ensures) (after-infer-into2 .before .before .before .opened .given .1)
+    (after-infer-into2 .infer-into2 .last .0) (after-infer-into2 .infer-into2 .result) (after-infer-into2 .infer-into2 .ensures)
+    (c .before .words .given .1)
 
 -- ---- infer_members
 
@@ -562,25 +660,44 @@ infer-members-Inv-loop shapes₀ used first last nodes at end pool had i₀ grow
 abbrev infer-members-μ-loop : infer-members-lts.MeasureT-loop
 infer-members-μ-loop shapes₀ used first last nodes at end pool had i₀ grown₀ shapes i grown = end - i
 
-infer-members-loop-holds : (t : ℕ) → infer-members-lts.Need-loop-holds (infer-members-claims t) (infer-members-at t) infer-members.Post infer-members-Inv-loop infer-members-μ-loop
+infer-members-loop-holds
+    : (t : ℕ) → infer-members-lts.Need-loop-holds (infer-members-claims t) (infer-members-at t) infer-members.Post infer-members-Inv-loop infer-members-μ-loop
 infer-members-loop-holds t c =
     members-begin _ _ _ _ _ _ _ _ _ (c .before .before .before .pre .1 .1 .enough)
 
-infer-members-add-infer-member : (t : ℕ) → infer-members-lts.Need-add-infer-member (infer-members-claims t) (infer-members-at t) infer-members.Post infer-members-Inv-loop infer-members-μ-loop
+infer-members-add-infer-member
+    : (t : ℕ)
+    → infer-members-lts.Need-add-infer-member (infer-members-claims t) (infer-members-at t) infer-members.Post infer-members-Inv-loop infer-members-μ-loop
 infer-members-add-infer-member t c =
-    omega (arith, members-room (c .before .before .before .before .before .before .pre .1 .1) (c .before .before .loop .inv) (c .before .loop-test .taken) (c .before .before .before .before .before .before .pre .1 .0 .meets), c .before .before .before .before .before .before .pre .1 .1 .small)
+    let at-start = c .before .before .before .before .before .before in
+    omega (
+      arith,
+      members-room (at-start .pre .1 .1) (c .before .before .loop .inv) (c .before .loop-test .taken) (at-start .pre .1 .0 .meets),
+      at-start .pre .1 .1 .small,
+    )
 
-infer-members-add-infer-member-2 : (t : ℕ) → infer-members-lts.Need-add-infer-member-2 (infer-members-claims t) (infer-members-at t) infer-members.Post infer-members-Inv-loop infer-members-μ-loop
+infer-members-add-infer-member-2
+    : (t : ℕ)
+    → infer-members-lts.Need-add-infer-member-2 (infer-members-claims t) (infer-members-at t) infer-members.Post infer-members-Inv-loop infer-members-μ-loop
 infer-members-add-infer-member-2 t c =
-    omega (arith, members-room (c .before .before .before .before .before .before .pre .1 .1) (c .before .before .loop .inv) (c .before .loop-test .taken) (c .before .before .before .before .before .before .pre .1 .0 .meets), c .before .before .before .before .before .before .pre .1 .0 .meets .fields .within, c .before .before .before .before .before .before .pre .1 .1 .small)
+    let at-start = c .before .before .before .before .before .before in
+    omega (
+      arith,
+      members-room (at-start .pre .1 .1) (c .before .before .loop .inv) (c .before .loop-test .taken) (at-start .pre .1 .0 .meets),
+      at-start .pre .1 .0 .meets .fields .within,
+      at-start .pre .1 .1 .small,
+    )
 
-infer-members-infer-member-requires : (t : ℕ) → infer-members-lts.Need-infer-member-requires (infer-members-claims t) (infer-members-at t) infer-members.Post infer-members-Inv-loop infer-members-μ-loop
+infer-members-infer-member-requires
+    : (t : ℕ)
+    → infer-members-lts.Need-infer-member-requires (infer-members-claims t) (infer-members-at t) infer-members.Post infer-members-Inv-loop infer-members-μ-loop
 infer-members-infer-member-requires t c κs =
-    let room = c .before .before .before .before .before .before .pre .1 .1 in
-    let w = c .before .before .before .before .before .before .pre .1 .0 in
+    let at-start = c .before .before .before .before .before .before in
+    let room = at-start .pre .1 .1 in
+    let w = at-start .pre .1 .0 in
     let l = c .before .before .loop .inv in
     let z = members-size room l (c .before .loop-test .taken) (w .meets) in (
-      omega (arith, c .before .before .before .before .before .before .pre .0, l .ahead, z .0, z .1),
+      omega (arith, at-start .pre .0, l .ahead, z .0, z .1),
       (
         members-inferable room l (c .before .loop-test .taken) w,
         record {
@@ -590,152 +707,216 @@ infer-members-infer-member-requires t c κs =
       ),
     )
 
-infer-members-enum-told : (t : ℕ) → infer-members-lts.Need-enum-told (infer-members-claims t) (infer-members-at t) infer-members.Post infer-members-Inv-loop infer-members-μ-loop
-infer-members-enum-told t c =
-    search needs
-
-infer-members-same-length : (t : ℕ) → infer-members-lts.Need-same-length (infer-members-claims t) (infer-members-at t) infer-members.Post infer-members-Inv-loop infer-members-μ-loop
+infer-members-same-length
+    : (t : ℕ) → infer-members-lts.Need-same-length (infer-members-claims t) (infer-members-at t) infer-members.Post infer-members-Inv-loop infer-members-μ-loop
 infer-members-same-length t c =
-    c .before .before .before .before .infer-member .kept .0 ∙ c .before .before .before .before .before .before .before .loop .inv .same
+    let after-infer-member = c .before .before .before .before in
+    after-infer-member .infer-member .kept .0 ∙ after-infer-member .before .before .before .loop .inv .same
 
-infer-members-returns : (t : ℕ) → infer-members-lts.Need-returns (infer-members-claims t) (infer-members-at t) infer-members.Post infer-members-Inv-loop infer-members-μ-loop
+infer-members-returns
+    : (t : ℕ) → infer-members-lts.Need-returns (infer-members-claims t) (infer-members-at t) infer-members.Post infer-members-Inv-loop infer-members-μ-loop
 infer-members-returns t c =
-    members-full (c .before .before .before .before .before .before .before .before .before .before .before .pre .1 .1) (c .before .before .before .before .before .before .before .loop .inv) (c .before .before .before .before .before .before .loop-test .taken) (c .before .before .before .before .infer-member .last .0) (c .before .before .before .before .infer-member .result) (c .before .before .before .before .infer-member .ensures) (c .enum-told .given .1)
+    let after-infer-member = c .before .before .before .before in
+    let at-start = after-infer-member .before .before .before .before .before .before .before in
+    members-full (at-start .pre .1 .1) (after-infer-member .before .before .before .loop .inv) (after-infer-member .before .before .loop-test .taken)
+    (after-infer-member .infer-member .last .0) (after-infer-member .infer-member .result) (after-infer-member .infer-member .ensures)
+    (c .enum-told .given .1)
 
-infer-members-enum-known-words : (t : ℕ) → infer-members-lts.Need-enum-known-words (infer-members-claims t) (infer-members-at t) infer-members.Post infer-members-Inv-loop infer-members-μ-loop
-infer-members-enum-known-words t c =
-    search needs
-
-infer-members-add-grown : (t : ℕ) → infer-members-lts.Need-add-grown (infer-members-claims t) (infer-members-at t) infer-members.Post infer-members-Inv-loop infer-members-μ-loop
+infer-members-add-grown
+    : (t : ℕ) → infer-members-lts.Need-add-grown (infer-members-claims t) (infer-members-at t) infer-members.Post infer-members-Inv-loop infer-members-μ-loop
 infer-members-add-grown t c =
+    let after-infer-member = c .before .before .before .before .before in
+    let at-start = after-infer-member .before .before .before .before .before .before .before in
     omega (
       arith,
-      members-grown (c .before .before .before .before .before .before .before .before .before .before .before .before .pre .1 .1) (c .before .before .before .before .before .before .before .before .loop .inv) (c .before .before .before .before .before .before .before .loop-test .taken) (c .before .before .before .before .before .infer-member .last .0) (c .before .before .before .before .before .infer-member .result) (c .before .before .before .before .before .infer-member .ensures) (c .before .words .given .1) (c .before .before .before .before .before .before .before .before .before .before .before .before .pre .1 .0),
-      c .before .before .before .before .before .before .before .before .before .before .before .before .pre .1 .1 .small,
+      members-grown (at-start .pre .1 .1) (after-infer-member .before .before .before .loop .inv) (after-infer-member .before .before .loop-test .taken)
+          (after-infer-member .infer-member .last .0) (after-infer-member .infer-member .result) (after-infer-member .infer-member .ensures)
+          (c .before .words .given .1) (at-start .pre .1 .0),
+      at-start .pre .1 .1 .small,
     )
 
-infer-members-row-size-requires : (t : ℕ) → infer-members-lts.Need-row-size-requires (infer-members-claims t) (infer-members-at t) infer-members.Post infer-members-Inv-loop infer-members-μ-loop
-infer-members-row-size-requires t c κs =
-    search needs
-
-infer-members-add-i : (t : ℕ) → infer-members-lts.Need-add-i (infer-members-claims t) (infer-members-at t) infer-members.Post infer-members-Inv-loop infer-members-μ-loop
+infer-members-add-i
+    : (t : ℕ) → infer-members-lts.Need-add-i (infer-members-claims t) (infer-members-at t) infer-members.Post infer-members-Inv-loop infer-members-μ-loop
 infer-members-add-i t c =
-    let z = members-size (c .before .before .before .before .before .before .before .before .before .before .before .before .before .pre .1 .1) (c .before .before .before .before .before .before .before .before .before .loop .inv) (c .before .before .before .before .before .before .before .before .loop-test .taken) (c .before .before .before .before .before .before .before .before .before .before .before .before .before .pre .1 .0 .meets) in
-    omega (arith, z .1, c .row-size .ensures, c .before .before .before .before .before .before .before .before .before .before .before .before .before .good .1 .1 .1 .1 .0 .0)
+    let in-loop = c .before .before .before .before .before .before .before .before in
+    let at-start = in-loop .before .before .before .before .before in
+    let z = members-size (at-start .pre .1 .1) (in-loop .before .loop .inv) (in-loop .loop-test .taken) (at-start .pre .1 .0 .meets) in
+    omega (arith, z .1, c .row-size .ensures, at-start .good .1 .1 .1 .1 .0 .0)
 
-infer-members-loop-less : (t : ℕ) → infer-members-lts.Need-loop-less (infer-members-claims t) (infer-members-at t) infer-members.Post infer-members-Inv-loop infer-members-μ-loop
+infer-members-loop-less
+    : (t : ℕ) → infer-members-lts.Need-loop-less (infer-members-claims t) (infer-members-at t) infer-members.Post infer-members-Inv-loop infer-members-μ-loop
 infer-members-loop-less t c =
-    let z = members-size (c .before .before .before .before .before .before .before .before .before .before .before .before .before .pre .1 .1) (c .before .before .before .before .before .before .before .before .before .loop .inv) (c .before .before .before .before .before .before .before .before .loop-test .taken) (c .before .before .before .before .before .before .before .before .before .before .before .before .before .pre .1 .0 .meets) in
-    omega (arith, z .0, z .2, c .row-size .ensures, c .before .before .before .before .before .before .before .before .loop-test .taken)
+    let in-loop = c .before .before .before .before .before .before .before .before in
+    let at-start = in-loop .before .before .before .before .before in
+    let z = members-size (at-start .pre .1 .1) (in-loop .before .loop .inv) (in-loop .loop-test .taken) (at-start .pre .1 .0 .meets) in
+    omega (arith, z .0, z .2, c .row-size .ensures, in-loop .loop-test .taken)
 
-infer-members-loop-again : (t : ℕ) → infer-members-lts.Need-loop-again (infer-members-claims t) (infer-members-at t) infer-members.Post infer-members-Inv-loop infer-members-μ-loop
+infer-members-loop-again
+    : (t : ℕ) → infer-members-lts.Need-loop-again (infer-members-claims t) (infer-members-at t) infer-members.Post infer-members-Inv-loop infer-members-μ-loop
 infer-members-loop-again t c =
-    members-loop-on (c .before .before .before .before .before .before .before .before .before .before .before .before .before .pre .1 .1) (c .before .before .before .before .before .before .before .before .before .loop .inv) (c .before .before .before .before .before .before .before .before .loop-test .taken) (c .before .before .before .before .before .before .infer-member .last .0) (c .before .before .before .before .before .before .infer-member .result) (c .before .before .before .before .before .before .infer-member .ensures) (c .before .before .words .given .1) (c .row-size .ensures) (c .before .before .before .before .before .before .infer-member .kept .0)
+    let after-infer-member = c .before .before .before .before .before .before in
+    let at-start = after-infer-member .before .before .before .before .before .before .before in
+    members-loop-on (at-start .pre .1 .1) (after-infer-member .before .before .before .loop .inv) (after-infer-member .before .before .loop-test .taken)
+    (after-infer-member .infer-member .last .0) (after-infer-member .infer-member .result) (after-infer-member .infer-member .ensures)
+    (c .before .before .words .given .1) (c .row-size .ensures) (after-infer-member .infer-member .kept .0)
 
-infer-members-same-length-2 : (t : ℕ) → infer-members-lts.Need-same-length-2 (infer-members-claims t) (infer-members-at t) infer-members.Post infer-members-Inv-loop infer-members-μ-loop
+infer-members-same-length-2
+    : (t : ℕ)
+    → infer-members-lts.Need-same-length-2 (infer-members-claims t) (infer-members-at t) infer-members.Post infer-members-Inv-loop infer-members-μ-loop
 infer-members-same-length-2 t c =
     c .before .loop .inv .same
 
-infer-members-returns-2 : (t : ℕ) → infer-members-lts.Need-returns-2 (infer-members-claims t) (infer-members-at t) infer-members.Post infer-members-Inv-loop infer-members-μ-loop
+infer-members-returns-2
+    : (t : ℕ) → infer-members-lts.Need-returns-2 (infer-members-claims t) (infer-members-at t) infer-members.Post infer-members-Inv-loop infer-members-μ-loop
 infer-members-returns-2 t c =
     members-end (c .before .loop .inv) (c .loop-test .left)
 
 -- ---- infer_record
 
-infer-record-row-size-requires : (t : ℕ) → infer-record-lts.Need-row-size-requires (infer-record-claims t) (infer-record-at t) infer-record.Post
-infer-record-row-size-requires t c κs =
-    search needs
-
 infer-record-add-end : (t : ℕ) → infer-record-lts.Need-add-end (infer-record-claims t) (infer-record-at t) infer-record.Post
 infer-record-add-end t c =
-    let w = c .before .before .before .before .pre .1 .0 in
-    omega (arith, value-size (w .meets .held), value-within (w .meets .held), c .row-size .ensures, c .before .before .before .before .good .1 .1 .1 .0 .0)
-
-infer-record-kinds-requires : (t : ℕ) → infer-record-lts.Need-kinds-requires (infer-record-claims t) (infer-record-at t) infer-record.Post
-infer-record-kinds-requires t c κs =
-    search needs
-
-infer-record-has-requires : (t : ℕ) → infer-record-lts.Need-has-requires (infer-record-claims t) (infer-record-at t) infer-record.Post
-infer-record-has-requires t c κs =
-    search needs
+    let at-start = c .before .before .before .before in
+    let w = at-start .pre .1 .0 in
+    omega (arith, value-size (w .meets .held), value-within (w .meets .held), c .row-size .ensures, at-start .good .1 .1 .1 .0 .0)
 
 infer-record-members-requires : (t : ℕ) → infer-record-lts.Need-members-requires (infer-record-claims t) (infer-record-at t) infer-record.Post
 infer-record-members-requires t c κs =
-    let w = c .before .before .before .before .before .before .before .before .pre .1 .0 in
-    record-first (w .meets) (c .before .before .before .before .before .before .before .before .pre .1 .1 .0)
-
-infer-record-size-requires : (t : ℕ) → infer-record-lts.Need-size-requires (infer-record-claims t) (infer-record-at t) infer-record.Post
-infer-record-size-requires t c κs =
-    search needs
+    let at-start = c .before .before .before .before .before .before .before .before in
+    let w = at-start .pre .1 .0 in
+    record-first (w .meets) (at-start .pre .1 .1 .0)
 
 infer-record-add-last : (t : ℕ) → infer-record-lts.Need-add-last (infer-record-claims t) (infer-record-at t) infer-record.Post
 infer-record-add-last t c =
-    let w = c .before .before .before .before .before .before .before .before .before .before .before .pre .1 .0 in
-    omega (arith, c .size .ensures, stands-size (w .meets .stands), stands-within (w .meets .stands), c .before .before .before .before .before .before .before .before .before .before .before .pre .1 .1 .0 .small)
+    let after-kinds = c .before .before .before .before .before in
+    let at-start = after-kinds .before .before .before .before .before .before in
+    let w = at-start .pre .1 .0 in
+    omega (arith, c .size .ensures, stands-size (w .meets .stands), stands-within (w .meets .stands), at-start .pre .1 .1 .0 .small)
 
 infer-record-add-infer-members : (t : ℕ) → infer-record-lts.Need-add-infer-members (infer-record-claims t) (infer-record-at t) infer-record.Post
 infer-record-add-infer-members t c =
-    let w = c .before .before .before .before .before .before .before .before .before .before .before .before .pre .1 .0 in
-    omega (arith, value-within (w .meets .held), size-some (w .value), c .before .before .before .before .before .before .before .before .before .before .before .before .good .1 .1 .1 .0 .0)
+    let after-kinds = c .before .before .before .before .before .before in
+    let at-start = after-kinds .before .before .before .before .before .before in
+    let w = at-start .pre .1 .0 in
+    omega (arith, value-within (w .meets .held), size-some (w .value), at-start .good .1 .1 .1 .0 .0)
 
 infer-record-infer-members-requires : (t : ℕ) → infer-record-lts.Need-infer-members-requires (infer-record-claims t) (infer-record-at t) infer-record.Post
 infer-record-infer-members-requires t c κs =
-    let w = c .before .before .before .before .before .before .before .before .before .before .before .before .pre .1 .0 in (
-      omega (arith, c .before .before .before .before .before .before .before .before .before .before .before .before .pre .0, value-within (w .meets .held), size-some (w .value)),
+    let after-has = c .before .before .before .before .before in
+    let at-start = after-has .before .before .before .before .before .before .before in
+    let w = at-start .pre .1 .0 in (
+      omega (arith, at-start .pre .0, value-within (w .meets .held), size-some (w .value)),
       (
-        record-inferable (c .before .before .before .before .before .before .before .before .before .before .before .before .pre .1 .1 .0) (c .before .before .before .before .before .before .before .before .before .before .before .before .pre .1 .1 .1) (c .before .before .before .before .before .before .kinds .ensures) (c .before .before .before .before .before .has .ensures) (c .before .before .before .members .ensures) (ap (λ (x : ℕ). c .before .before .before .before .before .before .before .before .before .before .before .before .args .row + x) (c .before .size .ensures)) (ap (λ (x : ℕ). c .before .before .before .before .before .before .before .before .before .before .before .before .args .at + x) (c .before .before .before .before .before .before .before .before .row-size .ensures)) w,
-        c .before .before .before .before .before .before .before .before .before .before .before .before .pre .1 .1 .0,
+        record-inferable (at-start .pre .1 .1 .0) (at-start .pre .1 .1 .1) (after-has .before .kinds .ensures) (after-has .has .ensures)
+            (c .before .before .before .members .ensures) (ap (λ (x : ℕ). at-start .args .row + x) (c .before .size .ensures))
+            (ap (λ (x : ℕ). at-start .args .at + x) (after-has .before .before .before .row-size .ensures)) w,
+        at-start .pre .1 .1 .0,
       ),
     )
 
-infer-record-enum-told : (t : ℕ) → infer-record-lts.Need-enum-told (infer-record-claims t) (infer-record-at t) infer-record.Post
-infer-record-enum-told t c =
-    search needs
-
-infer-record-enum-known-words : (t : ℕ) → infer-record-lts.Need-enum-known-words (infer-record-claims t) (infer-record-at t) infer-record.Post
-infer-record-enum-known-words t c =
-    search needs
-
 infer-record-add-null-others : (t : ℕ) → infer-record-lts.Need-add-null-others (infer-record-claims t) (infer-record-at t) infer-record.Post
 infer-record-add-null-others t c =
-    let g = record-grown (c .before .before .before .before .before .before .before .before .before .before .before .before .before .before .before .before .before .before .before .pre .1 .1 .0) (c .before .before .before .before .before .before .before .before .before .before .before .before .before .before .before .before .before .before .before .pre .1 .1 .1) (c .before .before .before .before .before .before .before .before .before .before .before .before .before .kinds .ensures) (c .before .before .before .before .before .before .before .before .before .before .before .before .has .ensures) (c .before .before .before .before .before .before .before .before .before .before .members .ensures) (ap (λ (x : ℕ). c .before .before .before .before .before .before .before .before .before .before .before .before .before .before .before .before .before .before .before .args .row + x) (c .before .before .before .before .before .before .before .before .size .ensures)) (ap (λ (x : ℕ). c .before .before .before .before .before .before .before .before .before .before .before .before .before .before .before .before .before .before .before .args .at + x) (c .before .before .before .before .before .before .before .before .before .before .before .before .before .before .before .row-size .ensures)) (c .before .before .before .before .before .before .infer-members .last .0) (c .before .before .before .before .before .before .infer-members .result) (c .before .before .before .before .before .before .infer-members .ensures) (c .before .before .words .given .1) (c .before .before .before .before .before .before .before .before .before .before .before .before .before .before .before .before .before .before .before .pre .1 .0) in
-    omega (arith, g .0, c .before .before .before .before .before .before .before .before .before .before .before .before .before .before .before .before .before .before .before .pre .1 .1 .0 .small)
+    let after-infer-members = c .before .before .before .before .before .before in
+    let after-members = after-infer-members .before .before .before .before in
+    let after-row-size = after-members .before .before .before .before .before in
+    let at-start = after-row-size .before .before .before .before in
+    let g = record-grown (at-start .pre .1 .1 .0) (at-start .pre .1 .1 .1) (after-members .before .before .before .kinds .ensures)
+    (after-members .before .before .has .ensures) (after-members .members .ensures)
+    (ap (λ (x : ℕ). at-start .args .row + x) (after-infer-members .before .before .size .ensures))
+    (ap (λ (x : ℕ). at-start .args .at + x) (after-row-size .row-size .ensures)) (after-infer-members .infer-members .last .0)
+    (after-infer-members .infer-members .result) (after-infer-members .infer-members .ensures) (c .before .before .words .given .1) (at-start .pre .1 .0) in
+    omega (arith, g .0, at-start .pre .1 .1 .0 .small)
 
 infer-record-add-null-others-2 : (t : ℕ) → infer-record-lts.Need-add-null-others-2 (infer-record-claims t) (infer-record-at t) infer-record.Post
 infer-record-add-null-others-2 t c =
-    let g = record-grown (c .before .before .before .before .before .before .before .before .before .before .before .before .before .before .before .before .before .before .before .pre .1 .1 .0) (c .before .before .before .before .before .before .before .before .before .before .before .before .before .before .before .before .before .before .before .pre .1 .1 .1) (c .before .before .before .before .before .before .before .before .before .before .before .before .before .kinds .ensures) (c .before .before .before .before .before .before .before .before .before .before .before .before .has .ensures) (c .before .before .before .before .before .before .before .before .before .before .members .ensures) (ap (λ (x : ℕ). c .before .before .before .before .before .before .before .before .before .before .before .before .before .before .before .before .before .before .before .args .row + x) (c .before .before .before .before .before .before .before .before .size .ensures)) (ap (λ (x : ℕ). c .before .before .before .before .before .before .before .before .before .before .before .before .before .before .before .before .before .before .before .args .at + x) (c .before .before .before .before .before .before .before .before .before .before .before .before .before .before .before .row-size .ensures)) (c .before .before .before .before .before .before .infer-members .last .0) (c .before .before .before .before .before .before .infer-members .result) (c .before .before .before .before .before .before .infer-members .ensures) (c .before .before .words .given .1) (c .before .before .before .before .before .before .before .before .before .before .before .before .before .before .before .before .before .before .before .pre .1 .0) in
-    omega (arith, g .0, g .1, c .before .before .before .before .before .before .before .before .before .before .before .before .before .before .before .before .before .before .before .pre .1 .1 .0 .small)
+    let after-infer-members = c .before .before .before .before .before .before in
+    let after-members = after-infer-members .before .before .before .before in
+    let after-row-size = after-members .before .before .before .before .before in
+    let at-start = after-row-size .before .before .before .before in
+    let g = record-grown (at-start .pre .1 .1 .0) (at-start .pre .1 .1 .1) (after-members .before .before .before .kinds .ensures)
+    (after-members .before .before .has .ensures) (after-members .members .ensures)
+    (ap (λ (x : ℕ). at-start .args .row + x) (after-infer-members .before .before .size .ensures))
+    (ap (λ (x : ℕ). at-start .args .at + x) (after-row-size .row-size .ensures)) (after-infer-members .infer-members .last .0)
+    (after-infer-members .infer-members .result) (after-infer-members .infer-members .ensures) (c .before .before .words .given .1) (at-start .pre .1 .0) in
+    omega (arith, g .0, g .1, at-start .pre .1 .1 .0 .small)
 
 infer-record-add-null-others-3 : (t : ℕ) → infer-record-lts.Need-add-null-others-3 (infer-record-claims t) (infer-record-at t) infer-record.Post
 infer-record-add-null-others-3 t c =
-    let w = c .before .before .before .before .before .before .before .before .before .before .before .before .before .before .before .before .before .before .before .pre .1 .0 in
-    omega (arith, value-within (w .meets .held), size-some (w .value), c .before .before .before .before .before .before .before .before .before .before .before .before .before .before .before .before .before .before .before .good .1 .1 .1 .0 .0)
+    let after-size-arg = c .before .before .before .before .before .before .before .before .before in
+    let after-kinds-arg = after-size-arg .before .before .before .before .before in
+    let at-start = after-kinds-arg .before .before .before .before .before in
+    let w = at-start .pre .1 .0 in
+    omega (arith, value-within (w .meets .held), size-some (w .value), at-start .good .1 .1 .1 .0 .0)
 
 infer-record-null-others-requires : (t : ℕ) → infer-record-lts.Need-null-others-requires (infer-record-claims t) (infer-record-at t) infer-record.Post
-infer-record-null-others-requires t c κs = (
-  record-nulls (c .before .before .before .before .before .before .before .before .before .before .before .before .before .before .before .before .before .before .before .pre .1 .1 .0) (c .before .before .before .before .before .before .before .before .before .before .before .before .before .before .before .before .before .before .before .pre .1 .1 .1) (c .before .before .before .before .before .before .before .before .before .before .before .before .before .kinds .ensures) (c .before .before .before .before .before .before .before .before .before .before .before .before .has .ensures) (c .before .before .before .before .before .before .before .before .before .before .members .ensures) (ap (λ (x : ℕ). c .before .before .before .before .before .before .before .before .before .before .before .before .before .before .before .before .before .before .before .args .row + x) (c .before .before .before .before .before .before .before .before .size .ensures)) (ap (λ (x : ℕ). c .before .before .before .before .before .before .before .before .before .before .before .before .before .before .before .before .before .before .before .args .at + x) (c .before .before .before .before .before .before .before .before .before .before .before .before .before .before .before .row-size .ensures)) (c .before .before .before .before .before .before .infer-members .last .0) (c .before .before .before .before .before .before .infer-members .result) (c .before .before .before .before .before .before .infer-members .ensures) (c .before .before .words .given .1) (c .before .before .before .before .before .before .before .before .before .before .before .before .before .before .before .before .before .before .before .pre .1 .0),
-  record-room (c .before .before .before .before .before .before .before .before .before .before .before .before .before .before .before .before .before .before .before .pre .1 .1 .0) (c .before .before .before .before .before .before .before .before .before .before .before .before .before .before .before .before .before .before .before .pre .1 .1 .1) (c .before .before .before .before .before .before .before .before .before .before .before .before .before .kinds .ensures) (c .before .before .before .before .before .before .before .before .before .before .before .before .has .ensures) (c .before .before .before .before .before .before .before .before .before .before .members .ensures) (ap (λ (x : ℕ). c .before .before .before .before .before .before .before .before .before .before .before .before .before .before .before .before .before .before .before .args .row + x) (c .before .before .before .before .before .before .before .before .size .ensures)) (ap (λ (x : ℕ). c .before .before .before .before .before .before .before .before .before .before .before .before .before .before .before .before .before .before .before .args .at + x) (c .before .before .before .before .before .before .before .before .before .before .before .before .before .before .before .row-size .ensures)) (c .before .before .before .before .before .before .infer-members .last .0) (c .before .before .before .before .before .before .infer-members .result) (c .before .before .before .before .before .before .infer-members .ensures) (c .before .before .words .given .1) (c .before .before .before .before .before .before .before .before .before .before .before .before .before .before .before .before .before .before .before .pre .1 .0),
-)
+infer-record-null-others-requires t c κs =
+    let after-words = c .before .before in
+    let after-infer-members = after-words .before .before .before .before in
+    let after-size = after-infer-members .before .before in
+    let after-members = after-size .before .before in
+    let after-has = after-members .before .before in
+    let after-row-size = after-has .before .before .before in
+    let at-start = after-row-size .before .before .before .before in (
+      record-nulls (at-start .pre .1 .1 .0) (at-start .pre .1 .1 .1) (after-has .before .kinds .ensures) (after-has .has .ensures)
+          (after-members .members .ensures) (ap (λ (x : ℕ). at-start .args .row + x) (after-size .size .ensures))
+          (ap (λ (x : ℕ). at-start .args .at + x) (after-row-size .row-size .ensures)) (after-infer-members .infer-members .last .0)
+          (after-infer-members .infer-members .result) (after-infer-members .infer-members .ensures) (after-words .words .given .1) (at-start .pre .1 .0),
+      record-room (at-start .pre .1 .1 .0) (at-start .pre .1 .1 .1) (after-has .before .kinds .ensures) (after-has .has .ensures)
+          (after-members .members .ensures) (ap (λ (x : ℕ). at-start .args .row + x) (after-size .size .ensures))
+          (ap (λ (x : ℕ). at-start .args .at + x) (after-row-size .row-size .ensures)) (after-infer-members .infer-members .last .0)
+          (after-infer-members .infer-members .result) (after-infer-members .infer-members .ensures) (after-words .words .given .1) (at-start .pre .1 .0),
+    )
 
 infer-record-raise-requires : (t : ℕ) → infer-record-lts.Need-raise-requires (infer-record-claims t) (infer-record-at t) infer-record.Post
 infer-record-raise-requires t c κs =
-    record-raise-fits (c .before .before .before .before .before .before .before .before .before .before .before .before .before .before .before .before .before .before .before .before .before .before .before .pre .1 .1 .0) (c .before .before .before .before .before .before .before .before .before .before .before .before .before .before .before .before .before .before .before .before .before .before .before .pre .1 .1 .1) (c .before .before .before .before .before .before .before .before .before .before .before .before .before .before .before .before .before .kinds .ensures) (c .before .before .before .before .before .before .before .before .before .before .before .before .before .before .before .before .has .ensures) (c .before .before .before .before .before .before .before .before .before .before .before .before .before .before .members .ensures) (ap (λ (x : ℕ). c .before .before .before .before .before .before .before .before .before .before .before .before .before .before .before .before .before .before .before .before .before .before .before .args .row + x) (c .before .before .before .before .before .before .before .before .before .before .before .before .size .ensures)) (ap (λ (x : ℕ). c .before .before .before .before .before .before .before .before .before .before .before .before .before .before .before .before .before .before .before .before .before .before .before .args .at + x) (c .before .before .before .before .before .before .before .before .before .before .before .before .before .before .before .before .before .before .before .row-size .ensures)) (c .before .before .before .before .before .before .before .before .before .before .infer-members .last .0) (c .before .before .before .before .before .before .before .before .before .before .infer-members .result) (c .before .before .before .before .before .before .before .before .before .before .infer-members .ensures) (c .before .before .before .before .before .before .words .given .1) (c .before .before .before .null-others .last .0) (c .before .before .before .null-others .ensures) (c .before .before .before .before .before .before .before .before .before .before .before .before .before .before .before .before .before .before .before .before .before .before .before .pre .1 .0)
+    let after-null-others = c .before .before .before in
+    let after-infer-members = after-null-others .before .before .before .before .before .before .before in
+    let after-members = after-infer-members .before .before .before .before in
+    let after-row-size = after-members .before .before .before .before .before in
+    let at-start = after-row-size .before .before .before .before in
+    record-raise-fits (at-start .pre .1 .1 .0) (at-start .pre .1 .1 .1) (after-members .before .before .before .kinds .ensures)
+    (after-members .before .before .has .ensures) (after-members .members .ensures)
+    (ap (λ (x : ℕ). at-start .args .row + x) (after-infer-members .before .before .size .ensures))
+    (ap (λ (x : ℕ). at-start .args .at + x) (after-row-size .row-size .ensures)) (after-infer-members .infer-members .last .0)
+    (after-infer-members .infer-members .result) (after-infer-members .infer-members .ensures) (after-null-others .before .before .before .words .given .1)
+    (after-null-others .null-others .last .0) (after-null-others .null-others .ensures) (at-start .pre .1 .0)
 
 infer-record-same-length : (t : ℕ) → infer-record-lts.Need-same-length (infer-record-claims t) (infer-record-at t) infer-record.Post
 infer-record-same-length t c =
-    c .before .before .before .before .infer-members .kept .0
+    let after-infer-members = c .before .before .before .before in
+    after-infer-members .infer-members .kept .0
 
 infer-record-returns : (t : ℕ) → infer-record-lts.Need-returns (infer-record-claims t) (infer-record-at t) infer-record.Post
 infer-record-returns t c =
-    record-full (c .before .before .before .before .before .before .before .before .before .before .before .before .before .before .before .before .before .pre .1 .1 .0) (c .before .before .before .before .before .before .before .before .before .before .before .before .before .before .before .before .before .pre .1 .1 .1) (c .before .before .before .before .before .before .before .before .before .before .before .kinds .ensures) (c .before .before .before .before .before .before .before .before .before .before .has .ensures) (c .before .before .before .before .before .before .before .before .members .ensures) (ap (λ (x : ℕ). c .before .before .before .before .before .before .before .before .before .before .before .before .before .before .before .before .before .args .row + x) (c .before .before .before .before .before .before .size .ensures)) (ap (λ (x : ℕ). c .before .before .before .before .before .before .before .before .before .before .before .before .before .before .before .before .before .args .at + x) (c .before .before .before .before .before .before .before .before .before .before .before .before .before .row-size .ensures)) (c .before .before .before .before .infer-members .last .0) (c .before .before .before .before .infer-members .result) (c .before .before .before .before .infer-members .ensures) (c .enum-told .given .1)
+    let after-infer-members = c .before .before .before .before in
+    let after-members = after-infer-members .before .before .before .before in
+    let after-row-size = after-members .before .before .before .before .before in
+    let at-start = after-row-size .before .before .before .before in
+    record-full (at-start .pre .1 .1 .0) (at-start .pre .1 .1 .1) (after-members .before .before .before .kinds .ensures)
+    (after-members .before .before .has .ensures) (after-members .members .ensures)
+    (ap (λ (x : ℕ). at-start .args .row + x) (after-infer-members .before .before .size .ensures))
+    (ap (λ (x : ℕ). at-start .args .at + x) (after-row-size .row-size .ensures)) (after-infer-members .infer-members .last .0)
+    (after-infer-members .infer-members .result) (after-infer-members .infer-members .ensures) (c .enum-told .given .1)
 
 infer-record-same-length-2 : (t : ℕ) → infer-record-lts.Need-same-length-2 (infer-record-claims t) (infer-record-at t) infer-record.Post
 infer-record-same-length-2 t c =
-    c .before .before .raise .kept .0 ∙ c .before .before .before .before .before .before .null-others .kept .0 ∙ c .before .before .before .before .before .before .before .before .before .before .before .before .before .infer-members .kept .0
+    let after-null-others = c .before .before .before .before .before .before in
+    let after-infer-members = after-null-others .before .before .before .before .before .before .before in
+    c .before .before .raise .kept .0 ∙ after-null-others .null-others .kept .0 ∙ after-infer-members .infer-members .kept .0
 
 infer-record-returns-2 : (t : ℕ) → infer-record-lts.Need-returns-2 (infer-record-claims t) (infer-record-at t) infer-record.Post
 infer-record-returns-2 t c =
-    record-answer (c .before .before .before .before .before .before .before .before .before .before .before .before .before .before .before .before .before .before .before .before .before .before .before .before .before .before .pre .1 .1 .0) (c .before .before .before .before .before .before .before .before .before .before .before .before .before .before .before .before .before .before .before .before .before .before .before .before .before .before .pre .1 .1 .1) (c .before .before .before .before .before .before .before .before .before .before .before .before .before .before .before .before .before .before .before .before .kinds .ensures) (c .before .before .before .before .before .before .before .before .before .before .before .before .before .before .before .before .before .before .before .has .ensures) (c .before .before .before .before .before .before .before .before .before .before .before .before .before .before .before .before .before .members .ensures) (ap (λ (x : ℕ). c .before .before .before .before .before .before .before .before .before .before .before .before .before .before .before .before .before .before .before .before .before .before .before .before .before .before .args .row + x) (c .before .before .before .before .before .before .before .before .before .before .before .before .before .before .before .size .ensures)) (ap (λ (x : ℕ). c .before .before .before .before .before .before .before .before .before .before .before .before .before .before .before .before .before .before .before .before .before .before .before .before .before .before .args .at + x) (c .before .before .before .before .before .before .before .before .before .before .before .before .before .before .before .before .before .before .before .before .before .before .row-size .ensures)) (c .before .before .before .before .before .before .before .before .before .before .before .before .before .infer-members .last .0) (c .before .before .before .before .before .before .before .before .before .before .before .before .before .infer-members .result) (c .before .before .before .before .before .before .before .before .before .before .before .before .before .infer-members .ensures) (c .before .before .before .before .before .before .before .before .before .words .given .1) (c .before .before .before .before .before .before .null-others .last .0) (c .before .before .before .before .before .before .null-others .ensures) (c .before .before .raise .ensures) (c .before .before .raise .kept .0)
+    let after-raise = c .before .before in
+    let after-null-others = after-raise .before .before .before .before in
+    let after-infer-members = after-null-others .before .before .before .before .before .before .before in
+    let after-members = after-infer-members .before .before .before .before in
+    let after-row-size = after-members .before .before .before .before .before in
+    let at-start = after-row-size .before .before .before .before in
+    record-answer (at-start .pre .1 .1 .0) (at-start .pre .1 .1 .1) (after-members .before .before .before .kinds .ensures)
+    (after-members .before .before .has .ensures) (after-members .members .ensures)
+    (ap (λ (x : ℕ). at-start .args .row + x) (after-infer-members .before .before .size .ensures))
+    (ap (λ (x : ℕ). at-start .args .at + x) (after-row-size .row-size .ensures)) (after-infer-members .infer-members .last .0)
+    (after-infer-members .infer-members .result) (after-infer-members .infer-members .ensures) (after-null-others .before .before .before .words .given .1)
+    (after-null-others .null-others .last .0) (after-null-others .null-others .ensures) (after-raise .raise .ensures) (after-raise .raise .kept .0)
 
 pub +infer-into+infer-items+infer-list+infer-member+infer-members+infer-record-spec :
     {M : Type 1} → statement M
@@ -749,14 +930,14 @@ pub +infer-into+infer-items+infer-list+infer-member+infer-members+infer-record-s
     μ-infer-record
     (λ t. infer-into-lts.spec (infer-into-claims t) (infer-into-at t)
     infer-into.Post
-    (infer-into-row-kind-requires t)
+    (λ c κs. search needs)
     (infer-into-infer-list-requires t)
     (infer-into-same-length t)
     (infer-into-returns t)
     (infer-into-infer-record-requires t)
     (infer-into-same-length-2 t)
     (infer-into-returns-2 t)
-    (infer-into-scalar-kinds-requires t)
+    (λ c κs. search needs)
     (infer-into-raise-requires t)
     (infer-into-same-length-3 t)
     (infer-into-returns-3 t))
@@ -767,12 +948,12 @@ pub +infer-into+infer-items+infer-list+infer-member+infer-members+infer-record-s
     (infer-items-loop-holds t)
     (infer-items-add-infer-into t)
     (infer-items-infer-into-requires t)
-    (infer-items-enum-told t)
+    (λ c. search needs)
     (infer-items-same-length t)
     (infer-items-returns t)
-    (infer-items-enum-known-words t)
+    (λ c. search needs)
     (infer-items-add-grown t)
-    (infer-items-row-size-requires t)
+    (λ c κs. search needs)
     (infer-items-add-i t)
     (infer-items-loop-less t)
     (infer-items-loop-again t)
@@ -780,17 +961,15 @@ pub +infer-into+infer-items+infer-list+infer-member+infer-members+infer-record-s
     (infer-items-returns-2 t))
     (λ t. infer-list-lts.spec (infer-list-claims t) (infer-list-at t)
     infer-list.Post
-    (infer-list-row-size-requires t)
+    (λ c κs. search needs)
     (infer-list-add-end t)
     (infer-list-ready-element-requires t)
-    (infer-list-enum-told t)
-    (infer-list-enum-known-opened t)
+    (λ c. search needs) (λ c. search needs)
     (infer-list-add-infer-items t)
     (infer-list-add-infer-items-2 t)
     (infer-list-add-infer-items-3 t)
     (infer-list-infer-items-requires t)
-    (infer-list-enum-told-2 t)
-    (infer-list-enum-known-words t)
+    (λ c. search needs) (λ c. search needs)
     (infer-list-add-raise t)
     (infer-list-raise-requires t)
     (infer-list-add-t25 t)
@@ -802,19 +981,17 @@ pub +infer-into+infer-items+infer-list+infer-member+infer-members+infer-record-s
     (infer-list-returns-3 t))
     (λ t. infer-member-lts.spec (infer-member-claims t) (infer-member-at t)
     infer-member.Post
-    (infer-member-row-name-requires t)
+    (λ c κs. search needs)
     (infer-member-find-place-requires t)
     (infer-member-infer-into-requires t)
     (infer-member-same-length t)
     (infer-member-returns t)
-    (infer-member-start-kinds-requires t)
+    (λ c κs. search needs)
     (infer-member-open-row-requires t)
-    (infer-member-enum-told t)
-    (infer-member-enum-known-opened t)
+    (λ c. search needs) (λ c. search needs)
     (infer-member-add-infer-into t)
     (infer-member-infer-into-requires-2 t)
-    (infer-member-enum-told-2 t)
-    (infer-member-enum-known-words t)
+    (λ c. search needs) (λ c. search needs)
     (infer-member-add-t28 t)
     (infer-member-same-length-2 t)
     (infer-member-returns-2 t)
@@ -830,12 +1007,12 @@ pub +infer-into+infer-items+infer-list+infer-member+infer-members+infer-record-s
     (infer-members-add-infer-member t)
     (infer-members-add-infer-member-2 t)
     (infer-members-infer-member-requires t)
-    (infer-members-enum-told t)
+    (λ c. search needs)
     (infer-members-same-length t)
     (infer-members-returns t)
-    (infer-members-enum-known-words t)
+    (λ c. search needs)
     (infer-members-add-grown t)
-    (infer-members-row-size-requires t)
+    (λ c κs. search needs)
     (infer-members-add-i t)
     (infer-members-loop-less t)
     (infer-members-loop-again t)
@@ -843,17 +1020,15 @@ pub +infer-into+infer-items+infer-list+infer-member+infer-members+infer-record-s
     (infer-members-returns-2 t))
     λ t. infer-record-lts.spec (infer-record-claims t) (infer-record-at t)
     infer-record.Post
-    (infer-record-row-size-requires t)
+    (λ c κs. search needs)
     (infer-record-add-end t)
-    (infer-record-kinds-requires t)
-    (infer-record-has-requires t)
+    (λ c κs. search needs) (λ c κs. search needs)
     (infer-record-members-requires t)
-    (infer-record-size-requires t)
+    (λ c κs. search needs)
     (infer-record-add-last t)
     (infer-record-add-infer-members t)
     (infer-record-infer-members-requires t)
-    (infer-record-enum-told t)
-    (infer-record-enum-known-words t)
+    (λ c. search needs) (λ c. search needs)
     (infer-record-add-null-others t)
     (infer-record-add-null-others-2 t)
     (infer-record-add-null-others-3 t)

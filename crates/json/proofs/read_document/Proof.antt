@@ -11,34 +11,59 @@ use Rattle.json.proofs.read_document.Statement.{statement}
 use Rattle.json.proofs.read_document.Tie as tie
 
 read-value-requires : tie.Need-read-value-requires
-read-value-requires c κs = start-ready (c .before .before .before .before .before .args .top) (c .before .before .before .before .before .pre)
+read-value-requires c κs =
+    let at-start = c .before .before .before .before .before in
+    start-ready (at-start .args .top) (at-start .pre)
 
 -- the value that was read
 value-read
     : (c : tie.After-known-told)
-    → Reads Gap.value 0 (c .before .before .before .before .before .before .before .before .before .before .before .before .before .args .limits .nesting) (c .before .before .before .before .before .before .before .before .before .before .before .before .before .args .limits .values) (c .before .before .before .before .before .before .before .before .before .before .before .before .before .args .doc .now) (c .before .before .before .before .before .before .before .before .before .before .before .before .before .args .nodes .now) (c .before .before .before .before .before .before .before .before .before .before .before .before .before .args .pool .now) (c .before .before .before .before .before .before .before .read-value .last .1 .0) (c .before .before .before .before .before .before .before .read-value .last .1 .1 .0) 0 (start (c .before .before .before .before .before .before .before .before .before .before .before .before .before .args .top)) (Done (c .before .to .given .0 .0) (c .before .to .given .0 .1 .0))
+    → let after-read-value = c .before .before .before .before .before .before .before in
+    let at-start = after-read-value .before .before .before .before .before .before in
+    Reads Gap.value 0 (at-start .args .limits .nesting) (at-start .args .limits .values) (at-start .args .doc .now) (at-start .args .nodes .now)
+    (at-start .args .pool .now) (after-read-value .read-value .last .1 .0) (after-read-value .read-value .last .1 .1 .0) 0 (start (at-start .args .top))
+    (Done (c .before .to .given .0 .0) (c .before .to .given .0 .1 .0))
 value-read c =
-    subst (λ (r : ValueRead). Reads Gap.value 0 (c .before .before .before .before .before .before .before .before .before .before .before .before .before .args .limits .nesting) (c .before .before .before .before .before .before .before .before .before .before .before .before .before .args .limits .values) (c .before .before .before .before .before .before .before .before .before .before .before .before .before .args .doc .now) (c .before .before .before .before .before .before .before .before .before .before .before .before .before .args .nodes .now) (c .before .before .before .before .before .before .before .before .before .before .before .before .before .args .pool .now) (c .before .before .before .before .before .before .before .read-value .last .1 .0) (c .before .before .before .before .before .before .before .read-value .last .1 .1 .0) 0 (start (c .before .before .before .before .before .before .before .before .before .before .before .before .before .args .top)) r)
-    (c .before .to .given .1) (c .before .before .before .before .before .before .before .read-value .ensures)
+    let after-read-value = c .before .before .before .before .before .before .before in
+    let at-start = after-read-value .before .before .before .before .before .before in
+    subst (λ (r : ValueRead).
+    Reads Gap.value 0 (at-start .args .limits .nesting) (at-start .args .limits .values) (at-start .args .doc .now) (at-start .args .nodes .now)
+    (at-start .args .pool .now) (after-read-value .read-value .last .1 .0) (after-read-value .read-value .last .1 .1 .0) 0 (start (at-start .args .top)) r)
+    (c .before .to .given .1) (after-read-value .read-value .ensures)
 
 skip-white-requires : tie.Need-skip-white-requires
 skip-white-requires c κs = value-read c .answer .moves .within
 
 returns : tie.Need-returns
-returns c = document-goes-on (c .before .before .before .before .before .before .before .before .before .before .before .before .before .before .before .args .limits) (c .before .before .before .before .before .before .before .before .before .before .before .before .before .before .before .args .top) (c .before .before .before .to .given .0 .0) (value-read (c .before .before)) (c .before .skip-white .ensures) (c .if1 .taken)
+returns c =
+    let after-nodes = c .before .before .before .before .before .before .before .before in
+    let at-start = after-nodes .before .before .before .before .before .before .before in
+    document-goes-on (at-start .args .limits) (at-start .args .top) (c .before .before .before .to .given .0 .0) (value-read (c .before .before))
+    (c .before .skip-white .ensures) (c .if1 .taken)
 
 mul-t17 : tie.Need-mul-t17
-mul-t17 c = omega (arith, value-read (c .before .before .before) .answer .moves .limit, c .before .before .before .before .before .before .before .before .before .before .before .before .before .before .before .before .pre .few)
+mul-t17 c =
+    let after-pool = c .before .before .before .before .before .before .before in
+    let at-start = after-pool .before .before .before .before .before .before .before .before .before in
+    omega (arith, value-read (c .before .before .before) .answer .moves .limit, at-start .pre .few)
 
 returns-2 : tie.Need-returns-2
 returns-2 c =
-    document-read (c .before .before .before .before .before .before .before .before .before .before .before .before .before .before .before .before .args .limits) (c .before .before .before .before .before .before .before .before .before .before .before .before .before .before .before .before .args .top) (c .before .before .before .before .to .given .0 .0) (value-read (c .before .before .before)) (c .before .before .skip-white .ensures) (c .before .before .before .before .before .before .before .before .before .before .before .before .before .before .before .before .pre) (c .before .if1 .left)
+    let after-to = c .before .before .before .before in
+    let after-read-value = after-to .before .before .before .before .before .before in
+    let at-start = after-read-value .before .before .before .before .before .before in
+    document-read (at-start .args .limits) (at-start .args .top) (after-to .to .given .0 .0) (value-read (c .before .before .before))
+    (c .before .before .skip-white .ensures) (at-start .pre) (c .before .if1 .left)
 
 returns-3 : tie.Need-returns-3
 returns-3 c =
-    document-refused (c .before .before .before .before .before .before .before .before .before .before .before .before .before .args .limits) (c .before .before .before .before .before .before .before .before .before .before .before .before .before .args .top)
-    (subst (λ (r : ValueRead). Reads Gap.value 0 (c .before .before .before .before .before .before .before .before .before .before .before .before .before .args .limits .nesting) (c .before .before .before .before .before .before .before .before .before .before .before .before .before .args .limits .values) (c .before .before .before .before .before .before .before .before .before .before .before .before .before .args .doc .now) (c .before .before .before .before .before .before .before .before .before .before .before .before .before .args .nodes .now) (c .before .before .before .before .before .before .before .before .before .before .before .before .before .args .pool .now) (c .before .before .before .before .before .before .before .read-value .last .1 .0) (c .before .before .before .before .before .before .before .read-value .last .1 .1 .0) 0 (start (c .before .before .before .before .before .before .before .before .before .before .before .before .before .args .top)) r)
-    (c .before .number .given .1) (c .before .before .before .before .before .before .before .read-value .ensures))
+    let after-read-value = c .before .before .before .before .before .before .before in
+    let at-start = after-read-value .before .before .before .before .before .before in
+    document-refused (at-start .args .limits) (at-start .args .top)
+    (subst (λ (r : ValueRead).
+    Reads Gap.value 0 (at-start .args .limits .nesting) (at-start .args .limits .values) (at-start .args .doc .now) (at-start .args .nodes .now)
+    (at-start .args .pool .now) (after-read-value .read-value .last .1 .0) (after-read-value .read-value .last .1 .1 .0) 0 (start (at-start .args .top)) r)
+    (c .before .number .given .1) (after-read-value .read-value .ensures))
 
 pub read-document-spec : {M : Type 1} → statement M
 read-document-spec =
@@ -47,14 +72,10 @@ read-document-spec =
     read-value-requires
     (λ c. search needs)
     skip-white-requires
-    (λ c. search needs)
-    (λ c. search needs)
+    (λ c. search needs) (λ c. search needs)
     returns
     mul-t17
-    (λ c. search needs)
-    (λ c. search needs)
-    (λ c. search needs)
+    (λ c. search needs) (λ c. search needs) (λ c. search needs)
     returns-2
-    (λ c. search needs)
-    (λ c. search needs)
+    (λ c. search needs) (λ c. search needs)
     returns-3)

@@ -60,9 +60,7 @@ read-on-spec =
     μ-loop
     loop-holds
     shared-slice-read-b
-    (λ c κs. search needs)
-    (λ c. search needs)
-    (λ c κs. search needs)
+    (λ c κs. search needs) (λ c. search needs) (λ c κs. search needs)
     returns
     (λ c. search needs)
     extended-requires

@@ -44,7 +44,8 @@ write-minus-requires c κs =
 
 add-result : tie.Need-add-result
 add-result c =
-    let first = c .before .before .before .before .before .before .before .before .before .before .before in
+    let after-out2 = c .before .before .before .before .before .before in
+    let first = after-out2 .before .before .before .before .before in
     let start = first .before .before .before .before .before in
     omega (
       arith,
@@ -76,8 +77,7 @@ pub write-number-spec : {M : Type 1} → statement M
 write-number-spec =
     tie.close
     (tie.spec
-    (λ c κs. search needs)
-    (λ c κs. search needs)
+    (λ c κs. search needs) (λ c κs. search needs)
     add-start
     add-point
     write-fraction-requires

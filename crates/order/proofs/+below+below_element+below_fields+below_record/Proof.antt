@@ -4,7 +4,8 @@ use native.Mathlib.Omega.{arith}
 use borrow.Author.Needs.{needs}
 use Rattle.shapes.specs.HeldLaws.{held-within, some-listed, members-within}
 use Rattle.order.proofs.Named as named
-use Rattle.order.proofs.Wholes.{some-level, Passed, kinds-fail, kinds-pass, parts-asked, element-fails, record-tells, without-list, list-asks, list-told, without-rec, records-here, nulls-asks, fields-asks, fields-fail, nulls-told}
+use Rattle.order.proofs.Wholes.{some-level, Passed, kinds-fail, kinds-pass, parts-asked, element-fails, record-tells, without-list}
+use Rattle.order.proofs.Wholes.{list-asks, list-told, without-rec, records-here, nulls-asks, fields-asks, fields-fail, nulls-told}
 use borrow.Fn.Kinds.{In}
 use borrow.Fn.PlainCycle.{Measures, is, falls, and}
 use Rattle.order.proofs.below as below
@@ -96,37 +97,50 @@ below-claims t = (
 -- ---- below
 
 -- the first test is passed
-passed : (t : ℕ) (c : below-lts.Else1 (below-claims t) (below-at t) below.Reads.Post) → Passed (c .before .before .before .before .before .before .args .first .now) (c .before .before .before .before .before .before .args .a) (c .before .before .before .before .before .before .args .second .now) (c .before .before .before .before .before .before .args .b) (c .before .before .before .before .before .before .args .pool .now)
-passed t c = kinds-pass (c .before .before .before .before .before .before .args .first .now) (c .before .before .before .before .before .before .args .a) (c .before .before .before .before .before .before .args .second .now) (c .before .before .before .before .before .before .args .b) (c .before .before .before .before .before .before .args .pool .now) (c .before .before .kinds .ensures) (c .before .kinds2 .ensures) (c .if1 .left)
-
-below-kinds-requires : (t : ℕ) → below-lts.Need-kinds-requires (below-claims t) (below-at t) below.Reads.Post
-below-kinds-requires t c κs = search needs
-
-below-kinds-requires-2 : (t : ℕ) → below-lts.Need-kinds-requires-2 (below-claims t) (below-at t) below.Reads.Post
-below-kinds-requires-2 t c κs = search needs
+passed
+    : (t : ℕ) (c : below-lts.Else1 (below-claims t) (below-at t) below.Reads.Post)
+    → let at-start = c .before .before .before .before .before .before in
+    Passed (at-start .args .first .now) (at-start .args .a)
+    (at-start .args .second .now) (at-start .args .b)
+    (at-start .args .pool .now)
+passed t c =
+    let at-start = c .before .before .before .before .before .before in
+    kinds-pass (at-start .args .first .now) (at-start .args .a) (at-start .args .second .now) (at-start .args .b) (at-start .args .pool .now)
+    (c .before .before .kinds .ensures) (c .before .kinds2 .ensures) (c .if1 .left)
 
 below-returns : (t : ℕ) → below-lts.Need-returns (below-claims t) (below-at t) below.Reads.Post
-below-returns t c = kinds-fail (c .before .before .before .before .before .before .args .first .now) (c .before .before .before .before .before .before .args .a) (c .before .before .before .before .before .before .args .second .now) (c .before .before .before .before .before .before .args .b) (c .before .before .before .before .before .before .args .pool .now) (c .before .before .kinds .ensures) (c .before .kinds2 .ensures) (c .if1 .taken)
+below-returns t c =
+    let at-start = c .before .before .before .before .before .before in
+    kinds-fail (at-start .args .first .now) (at-start .args .a) (at-start .args .second .now) (at-start .args .b) (at-start .args .pool .now)
+    (c .before .before .kinds .ensures) (c .before .kinds2 .ensures) (c .if1 .taken)
 
 below-below-element-requires : (t : ℕ) → below-lts.Need-below-element-requires (below-claims t) (below-at t) below.Reads.Post
-below-below-element-requires t c κs = (
-  omega (arith, c .before .before .before .before .before .before .pre .0, c .before .before .before .before .before .before .pre .1 .deep, some-level (c .before .before .before .before .before .before .pre .1 .shape)),
-  parts-asked (c .before .before .before .before .before .before .args .first .now) (c .before .before .before .before .before .before .args .a) (c .before .before .before .before .before .before .args .second .now) (c .before .before .before .before .before .before .args .b) (c .before .before .before .before .before .before .args .pool .now) (passed t c) (c .before .before .before .before .before .before .pre .1),
-)
+below-below-element-requires t c κs =
+    let at-start = c .before .before .before .before .before .before in (
+      omega (arith, at-start .pre .0, at-start .pre .1 .deep, some-level (at-start .pre .1 .shape)),
+      parts-asked (at-start .args .first .now) (at-start .args .a) (at-start .args .second .now) (at-start .args .b) (at-start .args .pool .now)
+          (passed t c) (at-start .pre .1),
+    )
 
 below-returns-2 : (t : ℕ) → below-lts.Need-returns-2 (below-claims t) (below-at t) below.Reads.Post
 below-returns-2 t c =
-    element-fails (c .before .before .before .before .before .before .before .before .args .first .now) (c .before .before .before .before .before .before .before .before .args .a) (c .before .before .before .before .before .before .before .before .args .second .now) (c .before .before .before .before .before .before .before .before .args .b) (c .before .before .before .before .before .before .before .before .args .pool .now) (passed t (c .before .before)) (c .before .below-element .ensures) (c .if2 .taken)
+    let at-start = c .before .before .before .before .before .before .before .before in
+    element-fails (at-start .args .first .now) (at-start .args .a) (at-start .args .second .now) (at-start .args .b) (at-start .args .pool .now)
+    (passed t (c .before .before)) (c .before .below-element .ensures) (c .if2 .taken)
 
 below-below-record-requires : (t : ℕ) → below-lts.Need-below-record-requires (below-claims t) (below-at t) below.Reads.Post
-below-below-record-requires t c κs = (
-  omega (arith, c .before .before .before .before .before .before .before .before .pre .0, c .before .before .before .before .before .before .before .before .pre .1 .deep, some-level (c .before .before .before .before .before .before .before .before .pre .1 .shape)),
-  parts-asked (c .before .before .before .before .before .before .before .before .args .first .now) (c .before .before .before .before .before .before .before .before .args .a) (c .before .before .before .before .before .before .before .before .args .second .now) (c .before .before .before .before .before .before .before .before .args .b) (c .before .before .before .before .before .before .before .before .args .pool .now) (passed t (c .before .before)) (c .before .before .before .before .before .before .before .before .pre .1),
-)
+below-below-record-requires t c κs =
+    let at-start = c .before .before .before .before .before .before .before .before in (
+      omega (arith, at-start .pre .0, at-start .pre .1 .deep, some-level (at-start .pre .1 .shape)),
+      parts-asked (at-start .args .first .now) (at-start .args .a) (at-start .args .second .now) (at-start .args .b) (at-start .args .pool .now)
+          (passed t (c .before .before)) (at-start .pre .1),
+    )
 
 below-returns-3 : (t : ℕ) → below-lts.Need-returns-3 (below-claims t) (below-at t) below.Reads.Post
 below-returns-3 t c =
-    record-tells (c .before .before .before .before .before .before .before .before .before .args .first .now) (c .before .before .before .before .before .before .before .before .before .args .a) (c .before .before .before .before .before .before .before .before .before .args .second .now) (c .before .before .before .before .before .before .before .before .before .args .b) (c .before .before .before .before .before .before .before .before .before .args .pool .now) (passed t (c .before .before .before)) (c .before .before .below-element .ensures) (c .before .if2 .left)
+    let at-start = c .before .before .before .before .before .before .before .before .before in
+    record-tells (at-start .args .first .now) (at-start .args .a) (at-start .args .second .now) (at-start .args .b) (at-start .args .pool .now)
+    (passed t (c .before .before .before)) (c .before .before .below-element .ensures) (c .before .if2 .left)
     (c .below-record .ensures)
 
 -- what the functions called ask and ensure
@@ -142,32 +156,40 @@ below-element-claims t = (
 
 -- ---- below_element
 
-below-element-kinds-requires : (t : ℕ) → below-element-lts.Need-kinds-requires (below-element-claims t) (below-element-at t) below-element.Reads.Post
-below-element-kinds-requires t c κs = search needs
-
-below-element-has-requires : (t : ℕ) → below-element-lts.Need-has-requires (below-element-claims t) (below-element-at t) below-element.Reads.Post
-below-element-has-requires t c κs = search needs
-
 below-element-add-below : (t : ℕ) → below-element-lts.Need-add-below (below-element-claims t) (below-element-at t) below-element.Reads.Post
-below-element-add-below t c = omega (arith, held-within (c .before .before .before .before .before .before .pre .1 .asked .held) .0, held-within (c .before .before .before .before .before .before .pre .1 .asked .held) .1, c .before .before .before .before .before .before .good .0 .0)
+below-element-add-below t c =
+    let at-start = c .before .before .before .before .before .before in
+    omega (arith, held-within (at-start .pre .1 .asked .held) .0, held-within (at-start .pre .1 .asked .held) .1, at-start .good .0 .0)
 
 below-element-add-below-2 : (t : ℕ) → below-element-lts.Need-add-below-2 (below-element-claims t) (below-element-at t) below-element.Reads.Post
-below-element-add-below-2 t c = omega (arith, held-within (c .before .before .before .before .before .before .pre .1 .asked .holds) .0, held-within (c .before .before .before .before .before .before .pre .1 .asked .holds) .1, c .before .before .before .before .before .before .good .1 .0 .0)
+below-element-add-below-2 t c =
+    let at-start = c .before .before .before .before .before .before in
+    omega (arith, held-within (at-start .pre .1 .asked .holds) .0, held-within (at-start .pre .1 .asked .holds) .1, at-start .good .1 .0 .0)
 
 below-element-sub-below : (t : ℕ) → below-element-lts.Need-sub-below (below-element-claims t) (below-element-at t) below-element.Reads.Post
-below-element-sub-below t c = omega (arith, c .before .before .before .before .before .before .pre .1 .asked .deep, some-level (c .before .before .before .before .before .before .pre .1 .asked .shape))
+below-element-sub-below t c =
+    let at-start = c .before .before .before .before .before .before in
+    omega (arith, at-start .pre .1 .asked .deep, some-level (at-start .pre .1 .asked .shape))
 
 below-element-below-requires : (t : ℕ) → below-element-lts.Need-below-requires (below-element-claims t) (below-element-at t) below-element.Reads.Post
-below-element-below-requires t c κs = (
-  omega (arith, c .before .before .before .before .before .before .pre .0, c .before .before .before .before .before .before .pre .1 .asked .deep, some-level (c .before .before .before .before .before .before .pre .1 .asked .shape)),
-  list-asks (c .before .before .before .before .before .before .args .first .now) (c .before .before .before .before .before .before .args .a) (c .before .before .before .before .before .before .args .second .now) (c .before .before .before .before .before .before .args .b) (c .before .before .before .before .before .before .args .pool .now) (c .before .before .kinds .ensures) (c .before .has .ensures) (c .if1 .taken) (c .before .before .before .before .before .before .pre .1),
-)
+below-element-below-requires t c κs =
+    let at-start = c .before .before .before .before .before .before in (
+      omega (arith, at-start .pre .0, at-start .pre .1 .asked .deep, some-level (at-start .pre .1 .asked .shape)),
+      list-asks (at-start .args .first .now) (at-start .args .a) (at-start .args .second .now) (at-start .args .b) (at-start .args .pool .now)
+          (c .before .before .kinds .ensures) (c .before .has .ensures) (c .if1 .taken) (at-start .pre .1),
+    )
 
 below-element-returns : (t : ℕ) → below-element-lts.Need-returns (below-element-claims t) (below-element-at t) below-element.Reads.Post
-below-element-returns t c = list-told (c .before .before .before .before .before .before .before .args .first .now) (c .before .before .before .before .before .before .before .args .a) (c .before .before .before .before .before .before .before .args .second .now) (c .before .before .before .before .before .before .before .args .b) (c .before .before .before .before .before .before .before .args .pool .now) (c .before .before .before .kinds .ensures) (c .before .before .has .ensures) (c .before .if1 .taken) (c .below .ensures)
+below-element-returns t c =
+    let at-start = c .before .before .before .before .before .before .before in
+    list-told (at-start .args .first .now) (at-start .args .a) (at-start .args .second .now) (at-start .args .b) (at-start .args .pool .now)
+    (c .before .before .before .kinds .ensures) (c .before .before .has .ensures) (c .before .if1 .taken) (c .below .ensures)
 
 below-element-returns-2 : (t : ℕ) → below-element-lts.Need-returns-2 (below-element-claims t) (below-element-at t) below-element.Reads.Post
-below-element-returns-2 t c = without-list (c .before .before .before .before .before .before .args .first .now) (c .before .before .before .before .before .before .args .a) (c .before .before .before .before .before .before .args .second .now) (c .before .before .before .before .before .before .args .b) (c .before .before .before .before .before .before .args .pool .now) (c .before .before .kinds .ensures) (c .before .has .ensures) (c .if1 .left)
+below-element-returns-2 t c =
+    let at-start = c .before .before .before .before .before .before in
+    without-list (at-start .args .first .now) (at-start .args .a) (at-start .args .second .now) (at-start .args .b) (at-start .args .pool .now)
+    (c .before .before .kinds .ensures) (c .before .has .ensures) (c .if1 .left)
 
 abbrev below-fields-Inv-loop : below-fields-lts.InvT-loop
 below-fields-Inv-loop first from to second at end pool left i₀ i = named.Walking first from to second at end pool i
@@ -188,53 +210,86 @@ below-fields-claims t = (
 
 -- ---- below_fields
 
-below-fields-loop-holds : (t : ℕ) → below-fields-lts.Need-loop-holds (below-fields-claims t) (below-fields-at t) below-fields.Reads.Post below-fields-Inv-loop below-fields-μ-loop
-below-fields-loop-holds t c = named.walk-begins (c .before .before .before .args .first .now) (c .before .before .before .args .from) (c .before .before .before .args .to) (c .before .before .before .args .second .now) (c .before .before .before .args .at) (c .before .before .before .args .end) (c .before .before .before .args .pool .now)
+below-fields-loop-holds
+    : (t : ℕ) → below-fields-lts.Need-loop-holds (below-fields-claims t) (below-fields-at t) below-fields.Reads.Post below-fields-Inv-loop below-fields-μ-loop
+below-fields-loop-holds t c =
+    let at-start = c .before .before .before in
+    named.walk-begins (at-start .args .first .now) (at-start .args .from) (at-start .args .to) (at-start .args .second .now) (at-start .args .at)
+    (at-start .args .end) (at-start .args .pool .now)
 
-below-fields-namesake-requires : (t : ℕ) → below-fields-lts.Need-namesake-requires (below-fields-claims t) (below-fields-at t) below-fields.Reads.Post below-fields-Inv-loop below-fields-μ-loop
-below-fields-namesake-requires t c κs = some-listed (c .before .before .before .before .before .pre .1 .asked .holds)
+below-fields-namesake-requires
+    : (t : ℕ)
+    → below-fields-lts.Need-namesake-requires (below-fields-claims t) (below-fields-at t) below-fields.Reads.Post below-fields-Inv-loop below-fields-μ-loop
+below-fields-namesake-requires t c κs =
+    let at-start = c .before .before .before .before .before in
+    some-listed (at-start .pre .1 .asked .holds)
 
-below-fields-enum-known-row : (t : ℕ) → below-fields-lts.Need-enum-known-row (below-fields-claims t) (below-fields-at t) below-fields.Reads.Post below-fields-Inv-loop below-fields-μ-loop
-below-fields-enum-known-row t c = search needs
-
-below-fields-enum-told : (t : ℕ) → below-fields-lts.Need-enum-told (below-fields-claims t) (below-fields-at t) below-fields.Reads.Post below-fields-Inv-loop below-fields-μ-loop
-below-fields-enum-told t c = search needs
-
-below-fields-returns : (t : ℕ) → below-fields-lts.Need-returns (below-fields-claims t) (below-fields-at t) below-fields.Reads.Post below-fields-Inv-loop below-fields-μ-loop
+below-fields-returns
+    : (t : ℕ) → below-fields-lts.Need-returns (below-fields-claims t) (below-fields-at t) below-fields.Reads.Post below-fields-Inv-loop below-fields-μ-loop
 below-fields-returns t c =
-    named.walk-misses (c .before .before .before .before .before .before .before .before .args .first .now) (c .before .before .before .before .before .before .before .before .args .from) (c .before .before .before .before .before .before .before .before .args .to) (c .before .before .before .before .before .before .before .before .args .second .now) (c .before .before .before .before .before .before .before .before .args .at) (c .before .before .before .before .before .before .before .before .args .end) (c .before .before .before .before .before .before .before .before .args .pool .now) (c .before .before .before .before .loop .inv) (c .before .before .before .loop-test .taken) (c .before .before .namesake .result) (c .before .before .namesake .ensures) (c .enum-told .given .1)
+    let after-namesake = c .before .before in
+    let at-start = after-namesake .before .before .before .before .before .before in
+    named.walk-misses (at-start .args .first .now) (at-start .args .from) (at-start .args .to) (at-start .args .second .now) (at-start .args .at)
+    (at-start .args .end) (at-start .args .pool .now) (after-namesake .before .before .loop .inv) (after-namesake .before .loop-test .taken)
+    (after-namesake .namesake .result) (after-namesake .namesake .ensures) (c .enum-told .given .1)
 
-below-fields-below-requires : (t : ℕ) → below-fields-lts.Need-below-requires (below-fields-claims t) (below-fields-at t) below-fields.Reads.Post below-fields-Inv-loop below-fields-μ-loop
-below-fields-below-requires t c κs = (
-  omega (arith, c .before .before .before .before .before .before .before .before .before .pre .0),
-  named.walk-asks (c .before .before .before .before .before .before .before .before .before .args .first .now) (c .before .before .before .before .before .before .before .before .before .args .from) (c .before .before .before .before .before .before .before .before .before .args .to) (c .before .before .before .before .before .before .before .before .before .args .second .now) (c .before .before .before .before .before .before .before .before .before .args .at) (c .before .before .before .before .before .before .before .before .before .args .end) (c .before .before .before .before .before .before .before .before .before .args .pool .now) (c .before .before .before .before .before .loop .inv) (c .before .before .before .before .loop-test .taken) (c .before .before .before .namesake .result) (c .before .before .before .namesake .ensures) (c .before .row .given .1) (c .before .before .before .before .before .before .before .before .before .pre .1),
-)
+below-fields-below-requires
+    : (t : ℕ)
+    → below-fields-lts.Need-below-requires (below-fields-claims t) (below-fields-at t) below-fields.Reads.Post below-fields-Inv-loop below-fields-μ-loop
+below-fields-below-requires t c κs =
+    let after-namesake = c .before .before .before in
+    let at-start = after-namesake .before .before .before .before .before .before in (
+      omega (arith, at-start .pre .0),
+      named.walk-asks (at-start .args .first .now) (at-start .args .from) (at-start .args .to) (at-start .args .second .now) (at-start .args .at)
+          (at-start .args .end) (at-start .args .pool .now) (after-namesake .before .before .loop .inv) (after-namesake .before .loop-test .taken)
+          (after-namesake .namesake .result) (after-namesake .namesake .ensures) (c .before .row .given .1) (at-start .pre .1),
+    )
 
-below-fields-returns-2 : (t : ℕ) → below-fields-lts.Need-returns-2 (below-fields-claims t) (below-fields-at t) below-fields.Reads.Post below-fields-Inv-loop below-fields-μ-loop
+below-fields-returns-2
+    : (t : ℕ) → below-fields-lts.Need-returns-2 (below-fields-claims t) (below-fields-at t) below-fields.Reads.Post below-fields-Inv-loop below-fields-μ-loop
 below-fields-returns-2 t c =
-    named.walk-fails (c .before .before .before .before .before .before .before .before .before .before .before .args .first .now) (c .before .before .before .before .before .before .before .before .before .before .before .args .from) (c .before .before .before .before .before .before .before .before .before .before .before .args .to) (c .before .before .before .before .before .before .before .before .before .before .before .args .second .now) (c .before .before .before .before .before .before .before .before .before .before .before .args .at) (c .before .before .before .before .before .before .before .before .before .before .before .args .end) (c .before .before .before .before .before .before .before .before .before .before .before .args .pool .now) (c .before .before .before .before .before .before .before .loop .inv) (c .before .before .before .before .before .before .loop-test .taken) (c .before .before .before .before .before .namesake .result) (c .before .before .before .before .before .namesake .ensures) (c .before .before .before .row .given .1)
+    let after-namesake = c .before .before .before .before .before in
+    let at-start = after-namesake .before .before .before .before .before .before in
+    named.walk-fails (at-start .args .first .now) (at-start .args .from) (at-start .args .to) (at-start .args .second .now) (at-start .args .at)
+    (at-start .args .end) (at-start .args .pool .now) (after-namesake .before .before .loop .inv) (after-namesake .before .loop-test .taken)
+    (after-namesake .namesake .result) (after-namesake .namesake .ensures) (c .before .before .before .row .given .1)
     (c .before .below .ensures) (c .if1 .taken)
 
-below-fields-size-requires : (t : ℕ) → below-fields-lts.Need-size-requires (below-fields-claims t) (below-fields-at t) below-fields.Reads.Post below-fields-Inv-loop below-fields-μ-loop
-below-fields-size-requires t c κs = search needs
-
-below-fields-add-i : (t : ℕ) → below-fields-lts.Need-add-i (below-fields-claims t) (below-fields-at t) below-fields.Reads.Post below-fields-Inv-loop below-fields-μ-loop
+below-fields-add-i
+    : (t : ℕ) → below-fields-lts.Need-add-i (below-fields-claims t) (below-fields-at t) below-fields.Reads.Post below-fields-Inv-loop below-fields-μ-loop
 below-fields-add-i t c =
-    let s = named.walk-step (c .before .before .before .before .before .before .before .before .before .before .before .before .args .first .now) (c .before .before .before .before .before .before .before .before .before .before .before .before .args .from) (c .before .before .before .before .before .before .before .before .before .before .before .before .args .to) (c .before .before .before .before .before .before .before .before .before .before .before .before .args .second .now) (c .before .before .before .before .before .before .before .before .before .before .before .before .args .at) (c .before .before .before .before .before .before .before .before .before .before .before .before .args .end) (c .before .before .before .before .before .before .before .before .before .before .before .before .args .pool .now) (c .before .before .before .before .before .before .before .before .loop .inv) (c .before .before .before .before .before .before .before .loop-test .taken) (c .before .before .before .before .before .before .before .before .before .before .before .before .pre .1) in
+    let in-loop = c .before .before .before .before .before .before .before in
+    let at-start = in-loop .before .before .before .before .before in
+    let s = named.walk-step (at-start .args .first .now) (at-start .args .from) (at-start .args .to) (at-start .args .second .now) (at-start .args .at)
+    (at-start .args .end) (at-start .args .pool .now) (in-loop .before .loop .inv) (in-loop .loop-test .taken) (at-start .pre .1) in
     omega (arith, c .size .ensures, s .1)
 
-below-fields-loop-less : (t : ℕ) → below-fields-lts.Need-loop-less (below-fields-claims t) (below-fields-at t) below-fields.Reads.Post below-fields-Inv-loop below-fields-μ-loop
+below-fields-loop-less
+    : (t : ℕ) → below-fields-lts.Need-loop-less (below-fields-claims t) (below-fields-at t) below-fields.Reads.Post below-fields-Inv-loop below-fields-μ-loop
 below-fields-loop-less t c =
-    let s = named.walk-step (c .before .before .before .before .before .before .before .before .before .before .before .before .args .first .now) (c .before .before .before .before .before .before .before .before .before .before .before .before .args .from) (c .before .before .before .before .before .before .before .before .before .before .before .before .args .to) (c .before .before .before .before .before .before .before .before .before .before .before .before .args .second .now) (c .before .before .before .before .before .before .before .before .before .before .before .before .args .at) (c .before .before .before .before .before .before .before .before .before .before .before .before .args .end) (c .before .before .before .before .before .before .before .before .before .before .before .before .args .pool .now) (c .before .before .before .before .before .before .before .before .loop .inv) (c .before .before .before .before .before .before .before .loop-test .taken) (c .before .before .before .before .before .before .before .before .before .before .before .before .pre .1) in
-    omega (arith, c .size .ensures, c .before .before .before .before .before .before .before .loop-test .taken, s .0, s .1)
+    let in-loop = c .before .before .before .before .before .before .before in
+    let at-start = in-loop .before .before .before .before .before in
+    let s = named.walk-step (at-start .args .first .now) (at-start .args .from) (at-start .args .to) (at-start .args .second .now) (at-start .args .at)
+    (at-start .args .end) (at-start .args .pool .now) (in-loop .before .loop .inv) (in-loop .loop-test .taken) (at-start .pre .1) in
+    omega (arith, c .size .ensures, in-loop .loop-test .taken, s .0, s .1)
 
-below-fields-loop-again : (t : ℕ) → below-fields-lts.Need-loop-again (below-fields-claims t) (below-fields-at t) below-fields.Reads.Post below-fields-Inv-loop below-fields-μ-loop
+below-fields-loop-again
+    : (t : ℕ) → below-fields-lts.Need-loop-again (below-fields-claims t) (below-fields-at t) below-fields.Reads.Post below-fields-Inv-loop below-fields-μ-loop
 below-fields-loop-again t c =
-    named.walk-on (c .before .before .before .before .before .before .before .before .before .before .before .before .args .first .now) (c .before .before .before .before .before .before .before .before .before .before .before .before .args .from) (c .before .before .before .before .before .before .before .before .before .before .before .before .args .to) (c .before .before .before .before .before .before .before .before .before .before .before .before .args .second .now) (c .before .before .before .before .before .before .before .before .before .before .before .before .args .at) (c .before .before .before .before .before .before .before .before .before .before .before .before .args .end) (c .before .before .before .before .before .before .before .before .before .before .before .before .args .pool .now) (c .before .before .before .before .before .before .before .before .loop .inv) (c .before .before .before .before .before .before .before .loop-test .taken) (c .before .before .before .before .before .before .namesake .result) (c .before .before .before .before .before .before .namesake .ensures) (c .before .before .before .before .row .given .1)
+    let after-row = c .before .before .before .before in
+    let after-namesake = after-row .before .before in
+    let at-start = after-namesake .before .before .before .before .before .before in
+    named.walk-on (at-start .args .first .now) (at-start .args .from) (at-start .args .to) (at-start .args .second .now) (at-start .args .at)
+    (at-start .args .end) (at-start .args .pool .now) (after-namesake .before .before .loop .inv) (after-namesake .before .loop-test .taken)
+    (after-namesake .namesake .result) (after-namesake .namesake .ensures) (after-row .row .given .1)
     (c .before .before .below .ensures) (c .before .if1 .left) (c .size .ensures)
 
-below-fields-returns-3 : (t : ℕ) → below-fields-lts.Need-returns-3 (below-fields-claims t) (below-fields-at t) below-fields.Reads.Post below-fields-Inv-loop below-fields-μ-loop
-below-fields-returns-3 t c = named.walk-ends (c .before .before .before .before .before .args .first .now) (c .before .before .before .before .before .args .from) (c .before .before .before .before .before .args .to) (c .before .before .before .before .before .args .second .now) (c .before .before .before .before .before .args .at) (c .before .before .before .before .before .args .end) (c .before .before .before .before .before .args .pool .now) (c .before .loop .inv) (c .loop-test .left)
+below-fields-returns-3
+    : (t : ℕ) → below-fields-lts.Need-returns-3 (below-fields-claims t) (below-fields-at t) below-fields.Reads.Post below-fields-Inv-loop below-fields-μ-loop
+below-fields-returns-3 t c =
+    let at-start = c .before .before .before .before .before in
+    named.walk-ends (at-start .args .first .now) (at-start .args .from) (at-start .args .to) (at-start .args .second .now) (at-start .args .at)
+    (at-start .args .end) (at-start .args .pool .now) (c .before .loop .inv) (c .loop-test .left)
 
 -- what the functions called ask and ensure
 abbrev below-record-claims : ℕ → below-record-lts.Claims
@@ -255,79 +310,105 @@ below-record-claims t = (
 
 -- ---- below_record
 
-below-record-kinds-requires : (t : ℕ) → below-record-lts.Need-kinds-requires (below-record-claims t) (below-record-at t) below-record.Reads.Post
-below-record-kinds-requires t c κs = search needs
-
-below-record-has-requires : (t : ℕ) → below-record-lts.Need-has-requires (below-record-claims t) (below-record-at t) below-record.Reads.Post
-below-record-has-requires t c κs = search needs
-
 below-record-members-requires : (t : ℕ) → below-record-lts.Need-members-requires (below-record-claims t) (below-record-at t) below-record.Reads.Post
-below-record-members-requires t c κs = (
-  omega (arith, held-within (c .before .before .before .before .before .before .pre .1 .asked .held) .0, held-within (c .before .before .before .before .before .before .pre .1 .asked .held) .1),
-  omega (
-    arith,
-    members-within (records-here (c .before .before .before .before .before .before .args .first .now) (c .before .before .before .before .before .before .args .a) (c .before .before .before .before .before .before .args .second .now) (c .before .before .before .before .before .before .args .b) (c .before .before .before .before .before .before .args .pool .now) (c .before .before .kinds .ensures) (c .before .has .ensures) (c .if1 .taken) (c .before .before .before .before .before .before .pre .1) .held),
-    held-within (c .before .before .before .before .before .before .pre .1 .asked .held) .1,
-    c .before .before .before .before .before .before .good .0 .0,
-  ),
-)
-
-below-record-size-requires : (t : ℕ) → below-record-lts.Need-size-requires (below-record-claims t) (below-record-at t) below-record.Reads.Post
-below-record-size-requires t c κs = search needs
+below-record-members-requires t c κs =
+    let at-start = c .before .before .before .before .before .before in (
+      omega (arith, held-within (at-start .pre .1 .asked .held) .0, held-within (at-start .pre .1 .asked .held) .1),
+      omega (
+        arith,
+        members-within (records-here (at-start .args .first .now) (at-start .args .a) (at-start .args .second .now) (at-start .args .b)
+            (at-start .args .pool .now) (c .before .before .kinds .ensures) (c .before .has .ensures) (c .if1 .taken) (at-start .pre .1) .held),
+        held-within (at-start .pre .1 .asked .held) .1,
+        at-start .good .0 .0,
+      ),
+    )
 
 below-record-add-to : (t : ℕ) → below-record-lts.Need-add-to (below-record-claims t) (below-record-at t) below-record.Reads.Post
-below-record-add-to t c = omega (arith, held-within (c .before .before .before .before .before .before .before .before .pre .1 .asked .held) .1, c .size .ensures, c .before .before .before .before .before .before .before .before .good .0 .0)
+below-record-add-to t c =
+    let at-start = c .before .before .before .before .before .before .before .before in
+    omega (arith, held-within (at-start .pre .1 .asked .held) .1, c .size .ensures, at-start .good .0 .0)
 
 below-record-members-requires-2 : (t : ℕ) → below-record-lts.Need-members-requires-2 (below-record-claims t) (below-record-at t) below-record.Reads.Post
-below-record-members-requires-2 t c κs = (
-  omega (arith, held-within (c .before .before .before .before .before .before .before .before .pre .1 .asked .holds) .0, held-within (c .before .before .before .before .before .before .before .before .pre .1 .asked .holds) .1),
-  omega (
-    arith,
-    members-within (records-here (c .before .before .before .before .before .before .before .before .args .first .now) (c .before .before .before .before .before .before .before .before .args .a) (c .before .before .before .before .before .before .before .before .args .second .now) (c .before .before .before .before .before .before .before .before .args .b) (c .before .before .before .before .before .before .before .before .args .pool .now) (c .before .before .before .before .kinds .ensures) (c .before .before .before .has .ensures) (c .before .before .if1 .taken) (c .before .before .before .before .before .before .before .before .pre .1) .holds),
-    held-within (c .before .before .before .before .before .before .before .before .pre .1 .asked .holds) .1,
-    c .before .before .before .before .before .before .before .before .good .1 .0 .0,
-  ),
-)
-
-below-record-size-requires-2 : (t : ℕ) → below-record-lts.Need-size-requires-2 (below-record-claims t) (below-record-at t) below-record.Reads.Post
-below-record-size-requires-2 t c κs = search needs
+below-record-members-requires-2 t c κs =
+    let after-kinds = c .before .before .before .before in
+    let at-start = after-kinds .before .before .before .before in (
+      omega (arith, held-within (at-start .pre .1 .asked .holds) .0, held-within (at-start .pre .1 .asked .holds) .1),
+      omega (
+        arith,
+        members-within (records-here (at-start .args .first .now) (at-start .args .a) (at-start .args .second .now) (at-start .args .b)
+            (at-start .args .pool .now) (after-kinds .kinds .ensures) (c .before .before .before .has .ensures) (c .before .before .if1 .taken)
+            (at-start .pre .1) .holds),
+        held-within (at-start .pre .1 .asked .holds) .1,
+        at-start .good .1 .0 .0,
+      ),
+    )
 
 below-record-add-end : (t : ℕ) → below-record-lts.Need-add-end (below-record-claims t) (below-record-at t) below-record.Reads.Post
-below-record-add-end t c = omega (arith, held-within (c .before .before .before .before .before .before .before .before .before .before .pre .1 .asked .holds) .1, c .size2 .ensures, c .before .before .before .before .before .before .before .before .before .before .good .1 .0 .0)
+below-record-add-end t c =
+    let after-has = c .before .before .before .before .before in
+    let at-start = after-has .before .before .before .before .before in
+    omega (arith, held-within (at-start .pre .1 .asked .holds) .1, c .size2 .ensures, at-start .good .1 .0 .0)
 
 below-record-sub-below-fields : (t : ℕ) → below-record-lts.Need-sub-below-fields (below-record-claims t) (below-record-at t) below-record.Reads.Post
-below-record-sub-below-fields t c = omega (arith, c .before .before .before .before .before .before .before .before .before .before .pre .1 .asked .deep, some-level (c .before .before .before .before .before .before .before .before .before .before .pre .1 .asked .shape))
+below-record-sub-below-fields t c =
+    let after-has = c .before .before .before .before .before in
+    let at-start = after-has .before .before .before .before .before in
+    omega (arith, at-start .pre .1 .asked .deep, some-level (at-start .pre .1 .asked .shape))
 
 below-record-below-fields-requires : (t : ℕ) → below-record-lts.Need-below-fields-requires (below-record-claims t) (below-record-at t) below-record.Reads.Post
-below-record-below-fields-requires t c κs = (
-  omega (arith, c .before .before .before .before .before .before .before .before .before .before .pre .0, c .before .before .before .before .before .before .before .before .before .before .pre .1 .asked .deep, some-level (c .before .before .before .before .before .before .before .before .before .before .pre .1 .asked .shape)),
-  fields-asks (c .before .before .before .before .before .before .before .before .before .before .args .first .now) (c .before .before .before .before .before .before .before .before .before .before .args .a) (c .before .before .before .before .before .before .before .before .before .before .args .second .now) (c .before .before .before .before .before .before .before .before .before .before .args .b) (c .before .before .before .before .before .before .before .before .before .before .args .pool .now) (c .before .before .before .before .before .before .kinds .ensures) (c .before .before .before .before .before .has .ensures) (c .before .before .before .before .if1 .taken) (c .before .before .before .members .ensures) (c .before .before .size .ensures) (c .before .members2 .ensures) (c .size2 .ensures) (c .before .before .before .before .before .before .before .before .before .before .pre .1),
-)
+below-record-below-fields-requires t c κs =
+    let then1 = c .before .before .before .before in
+    let at-start = then1 .before .before .before .before .before .before in (
+      omega (arith, at-start .pre .0, at-start .pre .1 .asked .deep, some-level (at-start .pre .1 .asked .shape)),
+      fields-asks (at-start .args .first .now) (at-start .args .a) (at-start .args .second .now) (at-start .args .b) (at-start .args .pool .now)
+          (then1 .before .before .kinds .ensures) (then1 .before .has .ensures) (then1 .if1 .taken) (c .before .before .before .members .ensures)
+          (c .before .before .size .ensures) (c .before .members2 .ensures) (c .size2 .ensures) (at-start .pre .1),
+    )
 
 below-record-returns : (t : ℕ) → below-record-lts.Need-returns (below-record-claims t) (below-record-at t) below-record.Reads.Post
 below-record-returns t c =
-    fields-fail (c .before .before .before .before .before .before .before .before .before .before .before .before .args .first .now) (c .before .before .before .before .before .before .before .before .before .before .before .before .args .a) (c .before .before .before .before .before .before .before .before .before .before .before .before .args .second .now) (c .before .before .before .before .before .before .before .before .before .before .before .before .args .b) (c .before .before .before .before .before .before .before .before .before .before .before .before .args .pool .now) (c .before .before .before .before .before .before .before .before .kinds .ensures) (c .before .before .before .before .before .before .before .has .ensures) (c .before .before .before .before .before .before .if1 .taken) (c .before .before .before .before .before .members .ensures) (c .before .before .before .before .size .ensures) (c .before .before .before .members2 .ensures) (c .before .before .size2 .ensures)
+    let after-size = c .before .before .before .before in
+    let after-kinds = after-size .before .before .before .before in
+    let at-start = after-kinds .before .before .before .before in
+    fields-fail (at-start .args .first .now) (at-start .args .a) (at-start .args .second .now) (at-start .args .b) (at-start .args .pool .now)
+    (after-kinds .kinds .ensures) (after-size .before .before .before .has .ensures) (after-size .before .before .if1 .taken)
+    (after-size .before .members .ensures) (after-size .size .ensures) (c .before .before .before .members2 .ensures) (c .before .before .size2 .ensures)
     (c .before .below-fields .ensures) (c .if2 .taken)
 
-below-record-lacked-have-null-requires : (t : ℕ) → below-record-lts.Need-lacked-have-null-requires (below-record-claims t) (below-record-at t) below-record.Reads.Post
+below-record-lacked-have-null-requires
+    : (t : ℕ) → below-record-lts.Need-lacked-have-null-requires (below-record-claims t) (below-record-at t) below-record.Reads.Post
 below-record-lacked-have-null-requires t c κs =
-    nulls-asks (c .before .before .before .before .before .before .before .before .before .before .before .before .args .first .now) (c .before .before .before .before .before .before .before .before .before .before .before .before .args .a) (c .before .before .before .before .before .before .before .before .before .before .before .before .args .second .now) (c .before .before .before .before .before .before .before .before .before .before .before .before .args .b) (c .before .before .before .before .before .before .before .before .before .before .before .before .args .pool .now) (c .before .before .before .before .before .before .before .before .kinds .ensures) (c .before .before .before .before .before .before .before .has .ensures) (c .before .before .before .before .before .before .if1 .taken) (c .before .before .before .before .before .members .ensures) (c .before .before .before .before .size .ensures) (c .before .before .before .members2 .ensures) (c .before .before .size2 .ensures) (c .before .before .before .before .before .before .before .before .before .before .before .before .pre .1)
+    let after-size = c .before .before .before .before in
+    let after-kinds = after-size .before .before .before .before in
+    let at-start = after-kinds .before .before .before .before in
+    nulls-asks (at-start .args .first .now) (at-start .args .a) (at-start .args .second .now) (at-start .args .b) (at-start .args .pool .now)
+    (after-kinds .kinds .ensures) (after-size .before .before .before .has .ensures) (after-size .before .before .if1 .taken)
+    (after-size .before .members .ensures) (after-size .size .ensures) (c .before .before .before .members2 .ensures)
+    (c .before .before .size2 .ensures) (at-start .pre .1)
 
 below-record-returns-2 : (t : ℕ) → below-record-lts.Need-returns-2 (below-record-claims t) (below-record-at t) below-record.Reads.Post
 below-record-returns-2 t c =
-    nulls-told (c .before .before .before .before .before .before .before .before .before .before .before .before .before .args .first .now) (c .before .before .before .before .before .before .before .before .before .before .before .before .before .args .a) (c .before .before .before .before .before .before .before .before .before .before .before .before .before .args .second .now) (c .before .before .before .before .before .before .before .before .before .before .before .before .before .args .b) (c .before .before .before .before .before .before .before .before .before .before .before .before .before .args .pool .now) (c .before .before .before .before .before .before .before .before .before .kinds .ensures) (c .before .before .before .before .before .before .before .before .has .ensures) (c .before .before .before .before .before .before .before .if1 .taken) (c .before .before .before .before .before .before .members .ensures) (c .before .before .before .before .before .size .ensures) (c .before .before .before .before .members2 .ensures) (c .before .before .before .size2 .ensures)
+    let after-members2 = c .before .before .before .before in
+    let after-has = after-members2 .before .before .before .before in
+    let at-start = after-has .before .before .before .before .before in
+    nulls-told (at-start .args .first .now) (at-start .args .a) (at-start .args .second .now) (at-start .args .b) (at-start .args .pool .now)
+    (after-has .before .kinds .ensures) (after-has .has .ensures) (after-members2 .before .before .before .if1 .taken)
+    (after-members2 .before .before .members .ensures) (after-members2 .before .size .ensures) (after-members2 .members2 .ensures)
+    (c .before .before .before .size2 .ensures)
     (c .before .before .below-fields .ensures) (c .before .if2 .left) (c .lacked-have-null .ensures)
 
 below-record-returns-3 : (t : ℕ) → below-record-lts.Need-returns-3 (below-record-claims t) (below-record-at t) below-record.Reads.Post
-below-record-returns-3 t c = without-rec (c .before .before .before .before .before .before .args .first .now) (c .before .before .before .before .before .before .args .a) (c .before .before .before .before .before .before .args .second .now) (c .before .before .before .before .before .before .args .b) (c .before .before .before .before .before .before .args .pool .now) (c .before .before .kinds .ensures) (c .before .has .ensures) (c .if1 .left)
+below-record-returns-3 t c =
+    let at-start = c .before .before .before .before .before .before in
+    without-rec (at-start .args .first .now) (at-start .args .a) (at-start .args .second .now) (at-start .args .b) (at-start .args .pool .now)
+    (c .before .before .kinds .ensures) (c .before .has .ensures) (c .if1 .left)
 
 pub +below+below-element+below-fields+below-record-spec : {M : Type 1} → statement M
 +below+below-element+below-fields+below-record-spec =
     close μ-below μ-below-element μ-below-fields μ-below-record (λ t. below-lts.spec (below-claims t)
     (below-at t)
     below.Reads.Post
-    (below-kinds-requires t)
-    (below-kinds-requires-2 t)
+    (λ c κs. search needs) (λ c κs. search needs)
     (below-returns t)
     (below-below-element-requires t)
     (below-returns-2 t)
@@ -336,8 +417,7 @@ pub +below+below-element+below-fields+below-record-spec : {M : Type 1} → state
     (λ t. below-element-lts.spec (below-element-claims t)
     (below-element-at t)
     below-element.Reads.Post
-    (below-element-kinds-requires t)
-    (below-element-has-requires t)
+    (λ c κs. search needs) (λ c κs. search needs)
     (below-element-add-below t)
     (below-element-add-below-2 t)
     (below-element-sub-below t)
@@ -351,12 +431,11 @@ pub +below+below-element+below-fields+below-record-spec : {M : Type 1} → state
     below-fields-μ-loop
     (below-fields-loop-holds t)
     (below-fields-namesake-requires t)
-    (below-fields-enum-known-row t)
-    (below-fields-enum-told t)
+    (λ c. search needs) (λ c. search needs)
     (below-fields-returns t)
     (below-fields-below-requires t)
     (below-fields-returns-2 t)
-    (below-fields-size-requires t)
+    (λ c κs. search needs)
     (below-fields-add-i t)
     (below-fields-loop-less t)
     (below-fields-loop-again t)
@@ -364,13 +443,12 @@ pub +below+below-element+below-fields+below-record-spec : {M : Type 1} → state
     λ t. below-record-lts.spec (below-record-claims t)
     (below-record-at t)
     below-record.Reads.Post
-    (below-record-kinds-requires t)
-    (below-record-has-requires t)
+    (λ c κs. search needs) (λ c κs. search needs)
     (below-record-members-requires t)
-    (below-record-size-requires t)
+    (λ c κs. search needs)
     (below-record-add-to t)
     (below-record-members-requires-2 t)
-    (below-record-size-requires-2 t)
+    (λ c κs. search needs)
     (below-record-add-end t)
     (below-record-sub-below-fields t)
     (below-record-below-fields-requires t)

@@ -10,7 +10,7 @@ use borrow.Fn.PlainCycle.{Measures, is, falls, and}
 use denote.Ref.{now}
 use lib.ListN.{length, length-set}
 use Rattle.definitions.specs.Value.{size}
-use Rattle.plain.proofs.Rows.{size-some, stands-size, stands-within}
+use Rattle.plain.proofs.Rows.{stands-size, stands-within}
 use Rattle.plain.proofs.Singles.{kind-told}
 use Rattle.plain.proofs.Wholes.{Encloses, kind-record, list-encloses, rec-encloses, length-enclosed, writes-enclosed}
 use Rattle.plain.proofs.Parts.{gone}
@@ -23,6 +23,7 @@ use Rattle.plain.proofs.write_parts.Kinds as write-parts-kinds
 use Rattle.plain.proofs.+write_at+write_parts.Lts-write_parts as write-parts-lts
 use Rattle.nodes.proofs.row_size.Reads as row-size-reads
 use Rattle.nodes.proofs.row_kind.Reads as row-kind-reads
+use Rattle.nodes.specs.StandingLaws.{size-some}
 use Rattle.plain.proofs.write_label.Reads as write-label-reads
 use Rattle.plain.proofs.write_single.Reads as write-single-reads
 use Rattle.plain.proofs.+write_at+write_parts.{statement}
@@ -93,43 +94,44 @@ rec-at t c =
 -- behind the parts there is room for the bracket
 list-end
     : (t : ℕ) (c : write-at-lts.After-slice-known3 (at-claims t) (write-at-at t) write-at.Post)
-    → c .before .before .write-parts .result < length (c .before .before .write-parts .last .0)
+    → let after-write-parts = c .before .before in
+    after-write-parts .write-parts .result < length (after-write-parts .write-parts .last .0)
 list-end t c =
-    let s = c .before .before .before .before .before .before .before .before .before .before .before in
-    let w = list-at t (c .before .before .before .before) in
+    let after-write-parts = c .before .before in
+    let s = after-write-parts .before .before .before .before .before .before .before .before .before in
+    let w = list-at t (after-write-parts .before .before) in
     omega (
       arith,
       s .pre .1 .room,
       length-enclosed w,
-      c .before .before .write-parts .ensures (w .parts) (w .holds) .end,
-      c .before .before .write-parts .kept .0,
+      after-write-parts .write-parts .ensures (w .parts) (w .holds) .end,
+      after-write-parts .write-parts .kept .0,
       length-set (now (s .args .out)) (s .args .at) 91,
     )
 
 rec-end
     : (t : ℕ) (c : write-at-lts.After-slice-known4 (at-claims t) (write-at-at t) write-at.Post)
-    → c .before .before .write-parts2 .result < length (c .before .before .write-parts2 .last .0)
+    → let after-write-parts2 = c .before .before in
+    after-write-parts2 .write-parts2 .result < length (after-write-parts2 .write-parts2 .last .0)
 rec-end t c =
-    let s = c .before .before .before .before .before .before .before .before .before .before .before in
-    let w = rec-at t (c .before .before .before .before) in
+    let after-write-parts2 = c .before .before in
+    let s = after-write-parts2 .before .before .before .before .before .before .before .before .before in
+    let w = rec-at t (after-write-parts2 .before .before) in
     omega (
       arith,
       s .pre .1 .room,
       length-enclosed w,
-      c .before .before .write-parts2 .ensures (w .parts) (w .holds) .end,
-      c .before .before .write-parts2 .kept .0,
+      after-write-parts2 .write-parts2 .ensures (w .parts) (w .holds) .end,
+      after-write-parts2 .write-parts2 .kept .0,
       length-set (now (s .args .out)) (s .args .at) 123,
     )
 
-write-at-row-kind-requires : (t : ℕ) → write-at-lts.Need-row-kind-requires (at-claims t) (write-at-at t) write-at.Post
-write-at-row-kind-requires t c κs =
-    search needs
-
 write-at-write-single-requires : (t : ℕ) → write-at-lts.Need-write-single-requires (at-claims t) (write-at-at t) write-at.Post
-write-at-write-single-requires t c κs = (
-  c .before .before .before .before .before .before .pre .1,
-  omega (arith, c .before .if1 .taken, c .before .before .row-kind .ensures),
-)
+write-at-write-single-requires t c κs =
+    let at-start = c .before .before .before .before .before .before in (
+      at-start .pre .1,
+      omega (arith, c .before .if1 .taken, c .before .before .row-kind .ensures),
+    )
 
 write-at-same-length : (t : ℕ) → write-at-lts.Need-same-length (at-claims t) (write-at-at t) write-at.Post
 write-at-same-length t c =
@@ -139,10 +141,6 @@ write-at-returns : (t : ℕ) → write-at-lts.Need-returns (at-claims t) (write-
 write-at-returns t c =
     c .before .before .write-single .ensures
 
-write-at-row-size-requires : (t : ℕ) → write-at-lts.Need-row-size-requires (at-claims t) (write-at-at t) write-at.Post
-write-at-row-size-requires t c κs =
-    search needs
-
 write-at-add-end : (t : ℕ) → write-at-lts.Need-add-end (at-claims t) (write-at-at t) write-at.Post
 write-at-add-end t c =
     let s = c .before .before .before .before .before .before in
@@ -151,7 +149,8 @@ write-at-add-end t c =
 
 write-at-slice-write-out : (t : ℕ) → write-at-lts.Need-slice-write-out (at-claims t) (write-at-at t) write-at.Post
 write-at-slice-write-out t c =
-    omega (arith, c .before .before .before .before .before .before .before .pre .1 .room, length-enclosed (list-at t c))
+    let at-start = c .before .before .before .before .before .before .before in
+    omega (arith, at-start .pre .1 .room, length-enclosed (list-at t c))
 
 write-at-add-write-parts : (t : ℕ) → write-at-lts.Need-add-write-parts (at-claims t) (write-at-at t) write-at.Post
 write-at-add-write-parts t c =
@@ -181,23 +180,27 @@ write-at-slice-write-out-2 t c =
 
 write-at-add-result : (t : ℕ) → write-at-lts.Need-add-result (at-claims t) (write-at-at t) write-at.Post
 write-at-add-result t c =
-    let s = c .before .before .before .before .before .before .before .before .before .before .before in
+    let after-row-size = c .before .before .before .before .before in
+    let s = after-row-size .before .before .before .before .before .before in
     omega (arith, list-end t c, c .before .before .write-parts .kept .0, length-set (now (s .args .out)) (s .args .at) 91, s .good .0 .0)
 
 write-at-same-length-2 : (t : ℕ) → write-at-lts.Need-same-length-2 (at-claims t) (write-at-at t) write-at.Post
 write-at-same-length-2 t c =
-    let s = c .before .before .before .before .before .before .before .before .before .before .before in
+    let after-row-size = c .before .before .before .before .before in
+    let s = after-row-size .before .before .before .before .before .before in
     simp length-set (c .before .before .write-parts .kept .0 ∙ length-set (now (s .args .out)) (s .args .at) 91)
 
 write-at-returns-2 : (t : ℕ) → write-at-lts.Need-returns-2 (at-claims t) (write-at-at t) write-at.Post
 write-at-returns-2 t c v h =
     let s = c .before .before .before .before in
-    let w = list-encloses v h (c .before .before .before .before .before .row-size .ensures ∙ stands-size (h .stands)) (kind-told h (c .before .before .before .before .before .before .before .row-kind .ensures) (s .if2 .taken)) in
+    let w = list-encloses v h (s .before .row-size .ensures ∙ stands-size (h .stands))
+    (kind-told h (s .before .before .before .row-kind .ensures) (s .if2 .taken)) in
     writes-enclosed w (write-at-slice-write-out t (s)) (c .before .before .write-parts .ensures (w .parts) (w .holds)) (list-end t c)
 
 write-at-slice-write-out-3 : (t : ℕ) → write-at-lts.Need-slice-write-out-3 (at-claims t) (write-at-at t) write-at.Post
 write-at-slice-write-out-3 t c =
-    omega (arith, c .before .before .before .before .before .before .before .pre .1 .room, length-enclosed (rec-at t c))
+    let at-start = c .before .before .before .before .before .before .before in
+    omega (arith, at-start .pre .1 .room, length-enclosed (rec-at t c))
 
 write-at-add-write-parts-3 : (t : ℕ) → write-at-lts.Need-add-write-parts-3 (at-claims t) (write-at-at t) write-at.Post
 write-at-add-write-parts-3 t c =
@@ -227,19 +230,21 @@ write-at-slice-write-out-4 t c =
 
 write-at-add-result-2 : (t : ℕ) → write-at-lts.Need-add-result-2 (at-claims t) (write-at-at t) write-at.Post
 write-at-add-result-2 t c =
-    let s = c .before .before .before .before .before .before .before .before .before .before .before in
+    let after-row-size = c .before .before .before .before .before in
+    let s = after-row-size .before .before .before .before .before .before in
     omega (arith, rec-end t c, c .before .before .write-parts2 .kept .0, length-set (now (s .args .out)) (s .args .at) 123, s .good .0 .0)
 
 write-at-same-length-3 : (t : ℕ) → write-at-lts.Need-same-length-3 (at-claims t) (write-at-at t) write-at.Post
 write-at-same-length-3 t c =
-    let s = c .before .before .before .before .before .before .before .before .before .before .before in
+    let after-row-size = c .before .before .before .before .before in
+    let s = after-row-size .before .before .before .before .before .before in
     simp length-set (c .before .before .write-parts2 .kept .0 ∙ length-set (now (s .args .out)) (s .args .at) 123)
 
 write-at-returns-3 : (t : ℕ) → write-at-lts.Need-returns-3 (at-claims t) (write-at-at t) write-at.Post
 write-at-returns-3 t c v h =
     let s = c .before .before .before .before in
-    let k = kind-record h (c .before .before .before .before .before .before .before .row-kind .ensures) (c .before .before .before .before .before .before .if1 .left) (s .if2 .left) in
-    let w = rec-encloses v h (c .before .before .before .before .before .row-size .ensures ∙ stands-size (h .stands)) k in
+    let k = kind-record h (s .before .before .before .row-kind .ensures) (s .before .before .if1 .left) (s .if2 .left) in
+    let w = rec-encloses v h (s .before .row-size .ensures ∙ stands-size (h .stands)) k in
     writes-enclosed w (write-at-slice-write-out-3 t (s)) (c .before .before .write-parts2 .ensures (w .parts) (w .holds)) (rec-end t c)
 
 -- ---- write_parts
@@ -253,48 +258,62 @@ write-parts-μ-loop out₀ at nodes row end pool named i₀ j₀ out i j = end -
 -- the words of the part that the caller has
 step
     : (t : ℕ) (c : write-parts-lts.After-row-size (parts-claims t) (write-parts-at t) write-parts.Post write-parts-Inv-loop write-parts-μ-loop)
-    → c .row-size .result ≡ 3 * size (turn (c .before .before .before .before .before .before .before .before .before .before .before .before .before .before .pre .1) (c .before .before .before .before .before .before .before .before .before .before .loop .inv) (c .before .before .before .before .before .before .before .before .before .loop-test .taken) .value)
+    → let in-loop = c .before .before .before .before .before .before .before .before .before in
+    let at-start = in-loop .before .before .before .before .before in
+    c .row-size .result
+    ≡ 3
+    * size (turn (at-start .pre .1)
+    (in-loop .before .loop .inv)
+    (in-loop .loop-test .taken) .value)
 step t c =
-    let h = turn (c .before .before .before .before .before .before .before .before .before .before .before .before .before .before .pre .1) (c .before .before .before .before .before .before .before .before .before .before .loop .inv) (c .before .before .before .before .before .before .before .before .before .loop-test .taken) .holds in c .row-size .ensures ∙ stands-size (h .stands)
+    let in-loop = c .before .before .before .before .before .before .before .before .before in
+    let at-start = in-loop .before .before .before .before .before in
+    let h = turn (at-start .pre .1) (in-loop .before .loop .inv) (in-loop .loop-test .taken) .holds in c .row-size .ensures ∙ stands-size (h .stands)
 
 write-parts-loop-holds : (t : ℕ) → write-parts-lts.Need-loop-holds (parts-claims t) (write-parts-at t) write-parts.Post write-parts-Inv-loop write-parts-μ-loop
 write-parts-loop-holds t c =
     loop-begins _ _ _ _ _ _ _
 
-write-parts-write-label-requires : (t : ℕ) → write-parts-lts.Need-write-label-requires (parts-claims t) (write-parts-at t) write-parts.Post write-parts-Inv-loop write-parts-μ-loop
+write-parts-write-label-requires
+    : (t : ℕ) → write-parts-lts.Need-write-label-requires (parts-claims t) (write-parts-at t) write-parts.Post write-parts-Inv-loop write-parts-μ-loop
 write-parts-write-label-requires t c κs =
-    label-writable (c .before .before .before .before .before .before .pre .1) (c .before .before .loop .inv) (c .before .loop-test .taken)
+    let at-start = c .before .before .before .before .before .before in
+    label-writable (at-start .pre .1) (c .before .before .loop .inv) (c .before .loop-test .taken)
 
-write-parts-write-at-requires : (t : ℕ) → write-parts-lts.Need-write-at-requires (parts-claims t) (write-parts-at t) write-parts.Post write-parts-Inv-loop write-parts-μ-loop
+write-parts-write-at-requires
+    : (t : ℕ) → write-parts-lts.Need-write-at-requires (parts-claims t) (write-parts-at t) write-parts.Post write-parts-Inv-loop write-parts-μ-loop
 write-parts-write-at-requires t c κs =
-    let s = c .before .before .before .before .before .before .before .before .before .before in
-    let i = c .before .before .before .before .before .before .loop .inv in
-    let m = c .before .before .before .before .before .loop-test .taken in (
+    let after-write-label = c .before .before .before in
+    let s = after-write-label .before .before .before .before .before .before .before in
+    let i = after-write-label .before .before .before .loop .inv in
+    let m = after-write-label .before .before .loop-test .taken in (
       omega (arith, s .pre .0, i .ahead, turn-within (s .pre .1) i m, turn-some (s .pre .1) i m),
-      value-writable (s .pre .1) i m (c .before .before .before .write-label .kept .0) (c .before .before .before .write-label .ensures),
+      value-writable (s .pre .1) i m (after-write-label .write-label .kept .0) (after-write-label .write-label .ensures),
     )
-
-write-parts-row-size-requires : (t : ℕ) → write-parts-lts.Need-row-size-requires (parts-claims t) (write-parts-at t) write-parts.Post write-parts-Inv-loop write-parts-μ-loop
-write-parts-row-size-requires t c κs =
-    search needs
 
 write-parts-add-i : (t : ℕ) → write-parts-lts.Need-add-i (parts-claims t) (write-parts-at t) write-parts.Post write-parts-Inv-loop write-parts-μ-loop
 write-parts-add-i t c =
-    let s = c .before .before .before .before .before .before .before .before .before .before .before .before .before .before in
-    omega (arith, step t c, turn-within (s .pre .1) (c .before .before .before .before .before .before .before .before .before .before .loop .inv) (c .before .before .before .before .before .before .before .before .before .loop-test .taken), s .good .1 .1 .0 .0)
+    let in-loop = c .before .before .before .before .before .before .before .before .before in
+    let s = in-loop .before .before .before .before .before in
+    omega (arith, step t c, turn-within (s .pre .1) (in-loop .before .loop .inv) (in-loop .loop-test .taken), s .good .1 .1 .0 .0)
 
 write-parts-loop-less : (t : ℕ) → write-parts-lts.Need-loop-less (parts-claims t) (write-parts-at t) write-parts.Post write-parts-Inv-loop write-parts-μ-loop
 write-parts-loop-less t c =
     let s = c .before .before .before .before .before .before .before .before .before in
-    omega (arith, step t c, turn-some (c .before .before .before .before .before .before .before .before .before .before .before .before .before .before .pre .1) (c .before .before .before .before .before .before .before .before .before .before .loop .inv) (s .loop-test .taken), s .loop-test .taken)
+    let at-start = s .before .before .before .before .before in
+    omega (arith, step t c, turn-some (at-start .pre .1) (s .before .loop .inv) (s .loop-test .taken), s .loop-test .taken)
 
 write-parts-loop-again : (t : ℕ) → write-parts-lts.Need-loop-again (parts-claims t) (write-parts-at t) write-parts.Post write-parts-Inv-loop write-parts-μ-loop
 write-parts-loop-again t c =
-    let s = c .before .before .before .before .before .before .before in
-    loop-on (c .before .before .before .before .before .before .before .before .before .before .before .before .before .before .pre .1) (c .before .before .before .before .before .before .before .before .before .before .loop .inv) (c .before .before .before .before .before .before .before .before .before .loop-test .taken) (s .write-label .kept .0) (c .before .before .before .write-at .kept .0)
-    (s .write-label .ensures) (c .before .before .before .write-at .ensures) (c .row-size .ensures)
+    let after-write-at = c .before .before .before in
+    let s = after-write-at .before .before .before .before in
+    let at-start = s .before .before .before .before .before .before .before in
+    loop-on (at-start .pre .1) (s .before .before .before .loop .inv) (s .before .before .loop-test .taken) (s .write-label .kept .0)
+    (after-write-at .write-at .kept .0)
+    (s .write-label .ensures) (after-write-at .write-at .ensures) (c .row-size .ensures)
 
-write-parts-same-length : (t : ℕ) → write-parts-lts.Need-same-length (parts-claims t) (write-parts-at t) write-parts.Post write-parts-Inv-loop write-parts-μ-loop
+write-parts-same-length
+    : (t : ℕ) → write-parts-lts.Need-same-length (parts-claims t) (write-parts-at t) write-parts.Post write-parts-Inv-loop write-parts-μ-loop
 write-parts-same-length t c =
     c .before .loop .inv .same
 
@@ -306,11 +325,11 @@ pub +write-at+write-parts-spec : {M : Type 1} → statement M
 +write-at+write-parts-spec =
     close μ-write-at μ-write-parts
     (λ t. write-at-lts.spec (at-claims t) (write-at-at t) write-at.Post
-    (write-at-row-kind-requires t)
+    (λ c κs. search needs)
     (write-at-write-single-requires t)
     (write-at-same-length t)
     (write-at-returns t)
-    (write-at-row-size-requires t)
+    (λ c κs. search needs)
     (write-at-add-end t)
     (write-at-slice-write-out t)
     (write-at-add-write-parts t)
@@ -332,7 +351,7 @@ pub +write-at+write-parts-spec : {M : Type 1} → statement M
     (write-parts-loop-holds t)
     (write-parts-write-label-requires t)
     (write-parts-write-at-requires t)
-    (write-parts-row-size-requires t)
+    (λ c κs. search needs)
     (write-parts-add-i t)
     (write-parts-loop-less t)
     (write-parts-loop-again t)

@@ -12,12 +12,6 @@ slice-write-out : tie.Need-slice-write-out
 unfolding comma bytes
 slice-write-out c = omega (arith, rw (c .if1 .taken) at (c .before .pre))
 
-add-result : tie.Need-add-result
-add-result c = search needs
-
-same-length : tie.Need-same-length
-same-length c = search needs
-
 returns : tie.Need-returns
 unfolding comma bytes
 returns c = writes-as (ap comma (sym (c .if1 .taken))) (writes-byte _ _ 44 (slice-write-out c))
@@ -27,4 +21,4 @@ unfolding comma
 returns-2 c = writes-as (ap comma (sym (c .if1 .left))) (writes-none _ _)
 
 pub write-comma-spec : {M : Type 1} → statement M
-write-comma-spec = tie.close (tie.spec slice-write-out add-result same-length returns returns-2)
+write-comma-spec = tie.close (tie.spec slice-write-out (λ c. search needs) (λ c. search needs) returns returns-2)

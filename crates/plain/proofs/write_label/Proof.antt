@@ -13,58 +13,67 @@ use Rattle.plain.proofs.write_label.Statement.{statement}
 use Rattle.plain.proofs.write_label.Tie as tie
 
 write-comma-requires : tie.Need-write-comma-requires
-write-comma-requires c κs = omega (arith, c .before .before .before .before .pre .room, length-append (comma (c .before .before .before .before .args .later)) (label (c .before .before .before .before .pre .name)))
-
-row-name-requires : tie.Need-row-name-requires
-row-name-requires c κs = search needs
+write-comma-requires c κs =
+    let at-start = c .before .before .before .before in
+    omega (arith, at-start .pre .room, length-append (comma (at-start .args .later)) (label (at-start .pre .name)))
 
 write-reference-requires : tie.Need-write-reference-requires
 write-reference-requires c κs =
-    let s = c .before .before .before .before .before .before .before .before .before .before in
+    let after-write-comma = c .before .before .before .before .before in
+    let s = after-write-comma .before .before .before .before .before in
     let d = label-named (s .pre .holds) (c .before .before .if1 .taken) (c .row-name .ensures) in
     record {
       text = d .text;
       holds = d .holds;
-      room = omega (arith, s .pre .room, length-label (s .args .later) d, c .before .before .before .before .before .write-comma .ensures .end, c .before .before .before .before .before .write-comma .kept .0);
+      room =
+          omega (arith, s .pre .room, length-label (s .args .later) d, after-write-comma .write-comma .ensures .end, after-write-comma .write-comma .kept .0);
     }
 
 -- behind the name there is room for the colon
-within : (c : tie.After-slice-known3) → c .before .before .write-reference .result < length (c .before .before .write-reference .last .0)
+within : (c : tie.After-slice-known3) → let after-write-reference = c .before .before in
+    after-write-reference .write-reference .result < length (after-write-reference .write-reference .last .0)
 within c =
-    let s = c .before .before .before .before .before .before .before .before .before .before .before .before .before in
-    let d = label-named (s .pre .holds) (c .before .before .before .before .before .if1 .taken) (c .before .before .before .row-name .ensures) in
+    let after-write-reference = c .before .before in
+    let after-write-comma = after-write-reference .before .before .before .before .before .before in
+    let s = after-write-comma .before .before .before .before .before in
+    let d = label-named (s .pre .holds) (after-write-reference .before .before .before .if1 .taken) (after-write-reference .before .row-name .ensures) in
     omega (
       arith,
       s .pre .room,
       length-label (s .args .later) d,
-      c .before .before .before .before .before .before .before .before .write-comma .ensures .end,
-      c .before .before .before .before .before .before .before .before .write-comma .kept .0,
-      c .before .before .write-reference .ensures (d .text) (d .holds) .end,
-      c .before .before .write-reference .kept .0,
+      after-write-comma .write-comma .ensures .end,
+      after-write-comma .write-comma .kept .0,
+      after-write-reference .write-reference .ensures (d .text) (d .holds) .end,
+      after-write-reference .write-reference .kept .0,
     )
 
 slice-write-out : tie.Need-slice-write-out
 slice-write-out c = within c
 
 add-result : tie.Need-add-result
-add-result c = omega (arith, within c, c .before .before .write-reference .kept .0, c .before .before .before .before .before .before .before .before .write-comma .kept .0, c .before .before .before .before .before .before .before .before .before .before .before .before .before .good .0 .0)
+add-result c =
+    let after-write-comma = c .before .before .before .before .before .before .before .before in
+    let at-start = after-write-comma .before .before .before .before .before in
+    omega (arith, within c, c .before .before .write-reference .kept .0, after-write-comma .write-comma .kept .0, at-start .good .0 .0)
 
 same-length : tie.Need-same-length
-same-length c = simp length-set (c .before .before .write-reference .kept .0 ∙ c .before .before .before .before .before .before .before .before .write-comma .kept .0)
+same-length c =
+    let after-write-comma = c .before .before .before .before .before .before .before .before in
+    simp length-set (c .before .before .write-reference .kept .0 ∙ after-write-comma .write-comma .kept .0)
 
 returns : tie.Need-returns
 returns c n h =
-    let d = label-named h (c .before .before .before .before .before .if1 .taken) (c .before .before .before .row-name .ensures) in
-    writes-label (c .before .before .before .before .before .before .before .before .before .before .before .before .before .args .later) d (omega (arith, c .before .before .before .before .before .before .before .before .before .before .before .before .before .pre .room)) (c .before .before .before .before .before .before .before .before .write-comma .ensures)
+    let then1 = c .before .before .before .before .before in
+    let at-start = then1 .before .before .before .before .before .before .before .before in
+    let d = label-named h (then1 .if1 .taken) (c .before .before .before .row-name .ensures) in
+    writes-label (at-start .args .later) d (omega (arith, at-start .pre .room)) (then1 .before .before .before .write-comma .ensures)
     (c .before .before .write-reference .ensures (d .text) (d .holds)) (within c)
-
-same-length-2 : tie.Need-same-length-2
-same-length-2 c = search needs
 
 returns-2 : tie.Need-returns-2
 returns-2 c n h =
+    let at-start = c .before .before .before .before .before .before .before .before in
     writes-as
-    (sym (append-nil (comma (c .before .before .before .before .before .before .before .before .args .later))) ∙ ap (λ (s : Bytes). comma (c .before .before .before .before .before .before .before .before .args .later) ++ s) (label-none h (c .if1 .left)))
+    (sym (append-nil (comma (at-start .args .later))) ∙ ap (λ (s : Bytes). comma (at-start .args .later) ++ s) (label-none h (c .if1 .left)))
     (c .before .before .before .write-comma .ensures)
 
 pub write-label-spec : {M : Type 1} → statement M
@@ -72,11 +81,11 @@ write-label-spec =
     tie.close
     (tie.spec
     write-comma-requires
-    row-name-requires
+    (λ c κs. search needs)
     write-reference-requires
     slice-write-out
     add-result
     same-length
     returns
-    same-length-2
+    (λ c. search needs)
     returns-2)

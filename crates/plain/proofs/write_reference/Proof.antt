@@ -10,27 +10,21 @@ use Rattle.plain.specs.TableLaws.{found}
 use Rattle.plain.proofs.write_reference.Statement.{statement}
 use Rattle.plain.proofs.write_reference.Tie as tie
 
-text-word-requires : tie.Need-text-word-requires
-text-word-requires c κs = search needs
-
-text-bytes-requires : tie.Need-text-bytes-requires
-text-bytes-requires c κs = search needs
-
 write-text-requires : tie.Need-write-text-requires
 write-text-requires c κs =
     let w = c .before .before .before .before .before .pre in
     let f = found (w .holds .pooled) (w .holds .refers) in
     rw (c .before .text-word .ensures, c .text-bytes .ensures) (f .within, rw (f .text) (w .room))
 
-same-length : tie.Need-same-length
-same-length c = search needs
-
 returns : tie.Need-returns
 returns c t h =
+    let after-text-word = c .before .before .before .before in
+    let at-start = after-text-word .before .before .before .before in
     writes-as
-    (ap₂ (λ (w n : ℕ). plain-text (text-in (now (c .before .before .before .before .before .before .before .before .args .pool)) w n)) (c .before .before .before .before .text-word .ensures) (c .before .before .before .text-bytes .ensures)
+    (ap₂ (λ (w n : ℕ). plain-text (text-in (now (at-start .args .pool)) w n)) (after-text-word .text-word .ensures)
+    (c .before .before .before .text-bytes .ensures)
     ∙ ap plain-text (found (h .pooled) (h .refers) .text))
     (c .before .before .write-text .ensures)
 
 pub write-reference-spec : {M : Type 1} → statement M
-write-reference-spec = tie.close (tie.spec text-word-requires text-bytes-requires write-text-requires same-length returns)
+write-reference-spec = tie.close (tie.spec (λ c κs. search needs) (λ c κs. search needs) write-text-requires (λ c. search needs) returns)

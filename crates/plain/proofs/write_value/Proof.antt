@@ -5,14 +5,8 @@ use borrow.Author.Needs.{needs}
 use Rattle.plain.proofs.write_value.Statement.{statement}
 use Rattle.plain.proofs.write_value.Tie as tie
 
-write-at-requires : tie.Need-write-at-requires
-write-at-requires c κs = search needs
-
-same-length : tie.Need-same-length
-same-length c = search needs
-
 returns : tie.Need-returns
 returns c v h = let w = c .before .before .write-at .ensures v h in record { bytes = w .bytes; size = w .end ∙ zero-add _ }
 
 pub write-value-spec : {M : Type 1} → statement M
-write-value-spec = tie.close (tie.spec write-at-requires same-length returns)
+write-value-spec = tie.close (tie.spec (λ c κs. search needs) (λ c. search needs) returns)

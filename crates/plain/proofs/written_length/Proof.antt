@@ -5,11 +5,8 @@ use Rattle.plain.proofs.Rows.{stands-length}
 use Rattle.plain.proofs.written_length.Statement.{statement}
 use Rattle.plain.proofs.written_length.Tie as tie
 
-row-written-requires : tie.Need-row-written-requires
-row-written-requires c κs = search needs
-
 returns : tie.Need-returns
 returns c p v s b = c .row-written .ensures ∙ stands-length s b
 
 pub written-length-spec : {M : Type 1} → statement M
-written-length-spec = tie.close (tie.spec row-written-requires returns)
+written-length-spec = tie.close (tie.spec (λ c κs. search needs) returns)

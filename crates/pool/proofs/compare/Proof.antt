@@ -21,15 +21,6 @@ Inv-loop pool w n v m s t end i₀ i =
 abbrev μ-loop : tie.MeasureT-loop
 μ-loop pool w n v m s t end i₀ i = end - 8 * i
 
-held-requires : tie.Need-held-requires Inv-loop μ-loop
-held-requires c κs = search needs
-
-held-requires-2 : tie.Need-held-requires-2 Inv-loop μ-loop
-held-requires-2 c κs = search needs
-
-least-requires : tie.Need-least-requires Inv-loop μ-loop
-least-requires c κs = search needs
-
 loop-holds : tie.Need-loop-holds Inv-loop μ-loop
 loop-holds c =
     let a = c .before .before .before .before .args in
@@ -37,21 +28,20 @@ loop-holds c =
 
 mul-loop : tie.Need-mul-loop Inv-loop μ-loop
 mul-loop c =
+    let at-start = c .before .before .before .before .before in
     let l = c .loop in
-    let a = c .before .before .before .before .before .args in
-    omega (arith, l .inv .0, length-text-in-min (a .pool .now) (a .w) (a .n), c .before .before .before .before .before .good)
+    let a = at-start .args in
+    omega (arith, l .inv .0, length-text-in-min (a .pool .now) (a .w) (a .n), at-start .good)
 
 mul-least : tie.Need-mul-least Inv-loop μ-loop
 mul-least c =
+    let at-start = c .before .before .before .before .before .before in
     let l = c .before .loop in
-    let a = c .before .before .before .before .before .before .args in
-    omega (arith, l .inv .0, length-text-in-min (a .pool .now) (a .w) (a .n), c .before .before .before .before .before .before .good)
+    let a = at-start .args in
+    omega (arith, l .inv .0, length-text-in-min (a .pool .now) (a .w) (a .n), at-start .good)
 
 sub-least : tie.Need-sub-least Inv-loop μ-loop
 sub-least c = omega arith
-
-least-requires-2 : tie.Need-least-requires-2 Inv-loop μ-loop
-least-requires-2 c κs = search needs
 
 mul-down : tie.Need-mul-down Inv-loop μ-loop
 mul-down c = omega (arith, c .least2 .ensures)
@@ -104,23 +94,30 @@ shr-y c = omega (arith, c .before .before .least2 .ensures)
 returns : tie.Need-returns Inv-loop μ-loop
 unfolding ordering-of
 returns c =
-    let l = c .before .before .before .before .before .loop in
-    let a = c .before .before .before .before .before .before .before .before .before .before .args in
+    let after-least2 = c .before .before .before in
+    let l = after-least2 .before .before .loop in
+    let a = after-least2 .before .before .before .before .before .before .before .args in
     sym
     (l .inv .1
-    ∙ words-less (a .pool .now) (a .w) (a .n) (a .v) (a .m) (l .i) (c .before .before .before .before .before .before .least .result) (c .before .before .before .least2 .result) (c .before .before .before .least2 .ensures)
-    (omega arith) (omega arith) (omega arith) (omega (arith, c .before .shared-slice-known3 .given (a .w + l .i))) (omega (arith, c .before .shared-slice-known3 .given (a .v + l .i)))
+    ∙ words-less (a .pool .now) (a .w) (a .n) (a .v) (a .m) (l .i) (after-least2 .before .before .before .least .result) (after-least2 .least2 .result)
+    (after-least2 .least2 .ensures)
+    (omega arith) (omega arith) (omega arith) (omega (arith, c .before .shared-slice-known3 .given (a .w + l .i)))
+    (omega (arith, c .before .shared-slice-known3 .given (a .v + l .i)))
     (c .if1 .taken))
 
 returns-2 : tie.Need-returns-2 Inv-loop μ-loop
 unfolding ordering-of
 returns-2 c =
-    let l = c .before .before .before .before .before .before .loop in
-    let a = c .before .before .before .before .before .before .before .before .before .before .before .args in
+    let after-shared-slice-known3 = c .before .before in
+    let after-least2 = after-shared-slice-known3 .before .before in
+    let l = after-least2 .before .before .loop in
+    let a = after-least2 .before .before .before .before .before .before .before .args in
     sym
     (l .inv .1
-    ∙ words-greater (a .pool .now) (a .w) (a .n) (a .v) (a .m) (l .i) (c .before .before .before .before .before .before .before .least .result) (c .before .before .before .before .least2 .result) (c .before .before .before .before .least2 .ensures)
-    (omega arith) (omega arith) (omega arith) (omega (arith, c .before .before .shared-slice-known3 .given (a .w + l .i))) (omega (arith, c .before .before .shared-slice-known3 .given (a .v + l .i)))
+    ∙ words-greater (a .pool .now) (a .w) (a .n) (a .v) (a .m) (l .i) (after-least2 .before .before .before .least .result) (after-least2 .least2 .result)
+    (after-least2 .least2 .ensures)
+    (omega arith) (omega arith) (omega arith) (omega (arith, after-shared-slice-known3 .shared-slice-known3 .given (a .w + l .i)))
+    (omega (arith, after-shared-slice-known3 .shared-slice-known3 .given (a .v + l .i)))
     (c .if2 .taken))
 
 add-i : tie.Need-add-i Inv-loop μ-loop
@@ -131,11 +128,13 @@ loop-less c = omega arith
 
 loop-again : tie.Need-loop-again Inv-loop μ-loop
 loop-again c =
-    let l = c .before .before .before .before .before .before .loop in
-    let a = c .before .before .before .before .before .before .before .before .before .before .before .args in (
+    let after-least2 = c .before .before .before .before in
+    let l = after-least2 .before .before .loop in
+    let a = after-least2 .before .before .before .before .before .before .before .args in (
       omega arith,
       l .inv .1
-          ∙ words-next (a .pool .now) (a .w) (a .n) (a .v) (a .m) (l .i) (c .before .before .before .before .before .before .before .least .result) (c .before .before .before .before .least2 .result) (c .before .before .before .before .least2 .ensures)
+          ∙ words-next (a .pool .now) (a .w) (a .n) (a .v) (a .m) (l .i) (after-least2 .before .before .before .least .result) (after-least2 .least2 .result)
+          (after-least2 .least2 .ensures)
           (omega arith) (omega arith) (omega arith)
           (omega arith),
     )
@@ -145,21 +144,29 @@ unfolding ordering-of
 returns-3 c =
     let l = c .before .before .loop in
     let a = c .before .before .before .before .before .before .before .args in
-    sym (l .inv .1 ∙ shorter-less (text-in (a .pool .now) (a .w) (a .n)) (text-in (a .pool .now) (a .v) (a .m)) (min (8 * l .i) (c .before .before .before .least .result)) (omega arith) (omega arith))
+    sym (l .inv .1
+    ∙ shorter-less (text-in (a .pool .now) (a .w) (a .n)) (text-in (a .pool .now) (a .v) (a .m)) (min (8 * l .i) (c .before .before .before .least .result))
+    (omega arith) (omega arith))
 
 returns-4 : tie.Need-returns-4 Inv-loop μ-loop
 unfolding ordering-of
 returns-4 c =
+    let after-least = c .before .before .before .before in
     let l = c .before .before .before .loop in
-    let a = c .before .before .before .before .before .before .before .before .args in
-    sym (l .inv .1 ∙ longer-greater (text-in (a .pool .now) (a .w) (a .n)) (text-in (a .pool .now) (a .v) (a .m)) (min (8 * l .i) (c .before .before .before .before .least .result)) (omega arith) (omega arith))
+    let a = after-least .before .before .before .before .args in
+    sym (l .inv .1
+    ∙ longer-greater (text-in (a .pool .now) (a .w) (a .n)) (text-in (a .pool .now) (a .v) (a .m)) (min (8 * l .i) (after-least .least .result))
+    (omega arith) (omega arith))
 
 returns-5 : tie.Need-returns-5 Inv-loop μ-loop
 unfolding ordering-of
 returns-5 c =
+    let after-least = c .before .before .before .before in
     let l = c .before .before .before .loop in
-    let a = c .before .before .before .before .before .before .before .before .args in
-    sym (l .inv .1 ∙ both-equal (text-in (a .pool .now) (a .w) (a .n)) (text-in (a .pool .now) (a .v) (a .m)) (min (8 * l .i) (c .before .before .before .before .least .result)) (omega arith) (omega arith))
+    let a = after-least .before .before .before .before .args in
+    sym (l .inv .1
+    ∙ both-equal (text-in (a .pool .now) (a .w) (a .n)) (text-in (a .pool .now) (a .v) (a .m)) (min (8 * l .i) (after-least .least .result))
+    (omega arith) (omega arith))
 
 pub compare-spec : {M : Type 1} → statement M
 compare-spec =
@@ -167,14 +174,12 @@ compare-spec =
     (tie.spec
     Inv-loop
     μ-loop
-    held-requires
-    held-requires-2
-    least-requires
+    (λ c κs. search needs) (λ c κs. search needs) (λ c κs. search needs)
     loop-holds
     mul-loop
     mul-least
     sub-least
-    least-requires-2
+    (λ c κs. search needs)
     mul-down
     sub-down
     add-x

@@ -5,15 +5,6 @@ use Rattle.pool.specs.PoolLaws.{length-text-in-min}
 use Rattle.pool.proofs.held.Statement.{statement}
 use Rattle.pool.proofs.held.Tie as tie
 
-sub-least : tie.Need-sub-least
-sub-least c = search needs
-
-mul-least : tie.Need-mul-least
-mul-least c = search needs
-
-least-requires : tie.Need-least-requires
-least-requires c κs = search needs
-
 returns : tie.Need-returns
 returns c =
     let a = c .before .before .before .args in
@@ -25,4 +16,4 @@ returns-2 c =
     omega (arith, length-text-in-min (a .pool .now) (a .w) (a .n))
 
 pub held-spec : {M : Type 1} → statement M
-held-spec = tie.close (tie.spec sub-least mul-least least-requires returns returns-2)
+held-spec = tie.close (tie.spec (λ c. search needs) (λ c. search needs) (λ c κs. search needs) returns returns-2)

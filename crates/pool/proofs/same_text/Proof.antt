@@ -14,16 +14,18 @@ returns c = same-false (λ e. omega (arith, c .if1 .taken, c .before .before .he
 
 same-words-requires : tie.Need-same-words-requires
 same-words-requires c κs =
-    let a = c .before .before .before .before .args in (
-      length-held (a .pool .now) (a .w) (a .n) (c .before .before .held .result) (c .before .before .held .ensures),
-      length-held (a .pool .now) (a .v) (a .m) (c .before .before .held .result) (c .if1 .left ∙ c .before .held2 .ensures),
+    let after-held = c .before .before in
+    let a = after-held .before .before .args in (
+      length-held (a .pool .now) (a .w) (a .n) (after-held .held .result) (after-held .held .ensures),
+      length-held (a .pool .now) (a .v) (a .m) (after-held .held .result) (c .if1 .left ∙ c .before .held2 .ensures),
     )
 
 returns-2 : tie.Need-returns-2
 returns-2 c =
-    let a = c .before .before .before .before .before .args in
-    same-held (a .pool .now) (a .w) (a .n) (a .v) (a .m) (c .before .before .before .held .result)
-    (c .before .before .before .held .ensures) (c .before .if1 .left ∙ c .before .before .held2 .ensures) (c .same-words .ensures)
+    let after-held = c .before .before .before in
+    let a = after-held .before .before .args in
+    same-held (a .pool .now) (a .w) (a .n) (a .v) (a .m) (after-held .held .result)
+    (after-held .held .ensures) (c .before .if1 .left ∙ c .before .before .held2 .ensures) (c .same-words .ensures)
 
 pub same-text-spec : {M : Type 1} → statement M
 same-text-spec = tie.close (tie.spec (λ c κs. search needs) (λ c κs. search needs) returns same-words-requires returns-2)

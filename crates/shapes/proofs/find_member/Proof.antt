@@ -17,28 +17,35 @@ loop-holds c = searching
 
 returns : tie.Need-returns Inv-loop μ-loop
 returns c =
+    let after-name = c .before .before .before .before in
     found-here
-    (c .before .before .before .before .before .before .loop .inv)
-    (c .before .before .before .before .before .loop-test .taken)
-    (asked (c .before .before .before .before .name .ensures) (c .before .before .before .text-word .ensures) (c .before .before .text-bytes .ensures) (c .before .same-text .ensures))
+    (after-name .before .before .loop .inv)
+    (after-name .before .loop-test .taken)
+    (asked (after-name .name .ensures) (c .before .before .before .text-word .ensures) (c .before .before .text-bytes .ensures) (c .before .same-text .ensures))
     (c .if1 .taken)
 
 add-row : tie.Need-add-row Inv-loop μ-loop
 add-row c =
-    let s = step-sizes (c .before .before .before .before .before .before .before .before .before .before .pre) (c .before .before .before .before .before .before .before .loop .inv) (c .before .before .before .before .before .before .loop-test .taken) in
+    let in-loop = c .before .before .before .before .before .before in
+    let at-start = in-loop .before .before .before .before in
+    let s = step-sizes (at-start .pre) (in-loop .before .loop .inv) (in-loop .loop-test .taken) in
     omega (arith, s .1, c .size .ensures)
 
 loop-less : tie.Need-loop-less Inv-loop μ-loop
 loop-less c =
-    let s = step-sizes (c .before .before .before .before .before .before .before .before .before .before .pre) (c .before .before .before .before .before .before .before .loop .inv) (c .before .before .before .before .before .before .loop-test .taken) in
+    let in-loop = c .before .before .before .before .before .before in
+    let at-start = in-loop .before .before .before .before in
+    let s = step-sizes (at-start .pre) (in-loop .before .loop .inv) (in-loop .loop-test .taken) in
     omega (arith, s .0, s .1, c .size .ensures)
 
 loop-again : tie.Need-loop-again Inv-loop μ-loop
 loop-again c =
+    let after-text-word = c .before .before .before .before in
     searched-on
-    (c .before .before .before .before .before .before .before .loop .inv)
-    (c .before .before .before .before .before .before .loop-test .taken)
-    (asked (c .before .before .before .before .before .name .ensures) (c .before .before .before .before .text-word .ensures) (c .before .before .before .text-bytes .ensures) (c .before .before .same-text .ensures))
+    (after-text-word .before .before .before .loop .inv)
+    (after-text-word .before .before .loop-test .taken)
+    (asked (after-text-word .before .name .ensures) (after-text-word .text-word .ensures) (c .before .before .before .text-bytes .ensures)
+    (c .before .before .same-text .ensures))
     (c .before .if1 .left)
     (c .size .ensures)
 
@@ -52,10 +59,7 @@ find-member-spec =
     Inv-loop
     μ-loop
     loop-holds
-    (λ c κs. search needs)
-    (λ c κs. search needs)
-    (λ c κs. search needs)
-    (λ c κs. search needs)
+    (λ c κs. search needs) (λ c κs. search needs) (λ c κs. search needs) (λ c κs. search needs)
     returns
     (λ c κs. search needs)
     add-row

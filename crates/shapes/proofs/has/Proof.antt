@@ -4,7 +4,6 @@ use Rattle.shapes.specs.Shapes.{has-bit}
 use Rattle.shapes.proofs.has.Statement.{statement}
 use Rattle.shapes.proofs.has.Tie as tie
 
--- src/lib.rt:58:1
 returns : tie.Need-returns
 unfolding has-bit
 returns c = refl

@@ -6,14 +6,9 @@ use borrow.Author.Needs.{needs}
 use Rattle.shapes.proofs.size.Statement.{statement}
 use Rattle.shapes.proofs.size.Tie as tie
 
--- src/lib.rt:43:6
-word-requires : tie.Need-word-requires
-word-requires c κs = search needs
-
--- src/lib.rt:40:1
 returns : tie.Need-returns
 unfolding size-at
 returns c = ap (λ (n : ℕ). n / 128) (c .word .ensures)
 
 pub size-spec : {M : Type 1} → statement M
-size-spec = tie.close (tie.spec word-requires returns)
+size-spec = tie.close (tie.spec (λ c κs. search needs) returns)

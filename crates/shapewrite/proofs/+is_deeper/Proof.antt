@@ -4,7 +4,8 @@ use native.Mathlib.Omega.{arith}
 use borrow.Author.Needs.{needs}
 use borrow.Fn.Kinds.{In}
 use borrow.Fn.PlainCycle.{Measures, is, falls, and}
-use Rattle.shapewrite.proofs.Depth.{Descent, descends, inner-standing, inner-some, inner-within, too-deep, descends-on, deep-enough, deeper-than-none, standing-within, standing-some}
+use Rattle.shapewrite.proofs.Depth.{Descent, descends, inner-standing, inner-some, inner-within, too-deep}
+use Rattle.shapewrite.proofs.Depth.{descends-on, deep-enough, deeper-than-none, standing-within, standing-some}
 use Rattle.shapewrite.proofs.is_deeper.Reads as is-deeper
 use Rattle.shapewrite.proofs.is_deeper.Kinds as is-deeper-kinds
 use Rattle.shapewrite.proofs.+is_deeper.Lts-is_deeper as is-deeper-lts
@@ -35,17 +36,15 @@ is-deeper-returns : (t : ℕ) → is-deeper-lts.Need-returns (claims t) (is-deep
 is-deeper-returns t c =
     deeper-than-none _ _ (omega (arith, c .if1 .taken))
 
-is-deeper-size-requires : (t : ℕ) → is-deeper-lts.Need-size-requires (claims t) (is-deeper-at t) is-deeper.Post is-deeper-Inv-loop is-deeper-μ-loop
-is-deeper-size-requires t c κs =
-    search needs
-
 is-deeper-add-end : (t : ℕ) → is-deeper-lts.Need-add-end (claims t) (is-deeper-at t) is-deeper.Post is-deeper-Inv-loop is-deeper-μ-loop
 is-deeper-add-end t c =
-    omega (arith, c .size .ensures, standing-within (c .before .before .before .pre .1), c .before .before .before .good .0 .0)
+    let at-start = c .before .before .before in
+    omega (arith, c .size .ensures, standing-within (at-start .pre .1), at-start .good .0 .0)
 
 is-deeper-add-i : (t : ℕ) → is-deeper-lts.Need-add-i (claims t) (is-deeper-at t) is-deeper.Post is-deeper-Inv-loop is-deeper-μ-loop
 is-deeper-add-i t c =
-    omega (arith, standing-some (c .before .before .before .pre .1), standing-within (c .before .before .before .pre .1), c .before .before .before .good .0 .0)
+    let at-start = c .before .before .before in
+    omega (arith, standing-some (at-start .pre .1), standing-within (at-start .pre .1), at-start .good .0 .0)
 
 is-deeper-loop-holds : (t : ℕ) → is-deeper-lts.Need-loop-holds (claims t) (is-deeper-at t) is-deeper.Post is-deeper-Inv-loop is-deeper-μ-loop
 is-deeper-loop-holds t c =
@@ -57,27 +56,30 @@ is-deeper-sub-is-deeper t c =
 
 is-deeper-is-deeper-requires : (t : ℕ) → is-deeper-lts.Need-is-deeper-requires (claims t) (is-deeper-at t) is-deeper.Post is-deeper-Inv-loop is-deeper-μ-loop
 is-deeper-is-deeper-requires t c κs =
-    (omega (arith, c .before .before .before .before .before .pre .0, c .before .before .before .if1 .left), inner-standing (c .before .loop .inv) (c .loop-test .taken) (c .before .before .before .before .before .pre .1))
+    let at-start = c .before .before .before .before .before in
+    (omega (arith, at-start .pre .0, c .before .before .before .if1 .left), inner-standing (c .before .loop .inv) (c .loop-test .taken) (at-start .pre .1))
 
 is-deeper-returns-2 : (t : ℕ) → is-deeper-lts.Need-returns-2 (claims t) (is-deeper-at t) is-deeper.Post is-deeper-Inv-loop is-deeper-μ-loop
 is-deeper-returns-2 t c =
     too-deep (c .before .before .before .loop .inv) (c .before .before .loop-test .taken) (c .before .is-deeper .ensures) (c .if2 .taken)
 
-is-deeper-size-requires-2 : (t : ℕ) → is-deeper-lts.Need-size-requires-2 (claims t) (is-deeper-at t) is-deeper.Post is-deeper-Inv-loop is-deeper-μ-loop
-is-deeper-size-requires-2 t c κs =
-    search needs
-
 is-deeper-add-i-2 : (t : ℕ) → is-deeper-lts.Need-add-i-2 (claims t) (is-deeper-at t) is-deeper.Post is-deeper-Inv-loop is-deeper-μ-loop
 is-deeper-add-i-2 t c =
-    omega (arith, c .size2 .ensures, inner-within (c .before .before .before .before .loop .inv) (c .before .before .before .loop-test .taken) (c .before .before .before .before .before .before .before .before .pre .1), c .before .before .before .before .before .before .before .before .good .0 .0)
+    let at-loop = c .before .before .before .before in
+    let at-start = at-loop .before .before .before .before in
+    omega (arith, c .size2 .ensures, inner-within (at-loop .loop .inv) (c .before .before .before .loop-test .taken) (at-start .pre .1), at-start .good .0 .0)
 
 is-deeper-loop-less : (t : ℕ) → is-deeper-lts.Need-loop-less (claims t) (is-deeper-at t) is-deeper.Post is-deeper-Inv-loop is-deeper-μ-loop
 is-deeper-loop-less t c =
-    omega (arith, c .size2 .ensures, inner-some (c .before .before .before .before .loop .inv) (c .before .before .before .loop-test .taken) (c .before .before .before .before .before .before .before .before .pre .1), c .before .before .before .loop-test .taken)
+    let in-loop = c .before .before .before in
+    let at-start = in-loop .before .before .before .before .before in
+    omega (arith, c .size2 .ensures, inner-some (in-loop .before .loop .inv) (in-loop .loop-test .taken) (at-start .pre .1), in-loop .loop-test .taken)
 
 is-deeper-loop-again : (t : ℕ) → is-deeper-lts.Need-loop-again (claims t) (is-deeper-at t) is-deeper.Post is-deeper-Inv-loop is-deeper-μ-loop
 is-deeper-loop-again t c =
-    descends-on (c .before .before .before .before .loop .inv) (c .before .before .before .loop-test .taken) (c .before .before .is-deeper .ensures) (c .before .if2 .left) (c .size2 .ensures)
+    let at-loop = c .before .before .before .before in
+    descends-on (at-loop .loop .inv) (c .before .before .before .loop-test .taken) (c .before .before .is-deeper .ensures)
+    (c .before .if2 .left) (c .size2 .ensures)
 
 is-deeper-returns-3 : (t : ℕ) → is-deeper-lts.Need-returns-3 (claims t) (is-deeper-at t) is-deeper.Post is-deeper-Inv-loop is-deeper-μ-loop
 is-deeper-returns-3 t c =
@@ -88,14 +90,14 @@ pub +is-deeper-spec : {M : Type 1} → statement M
     close μ-is-deeper
     (λ t. is-deeper-lts.spec (claims t) (is-deeper-at t) is-deeper.Post is-deeper-Inv-loop is-deeper-μ-loop
     (is-deeper-returns t)
-    (is-deeper-size-requires t)
+    (λ c κs. search needs)
     (is-deeper-add-end t)
     (is-deeper-add-i t)
     (is-deeper-loop-holds t)
     (is-deeper-sub-is-deeper t)
     (is-deeper-is-deeper-requires t)
     (is-deeper-returns-2 t)
-    (is-deeper-size-requires-2 t)
+    (λ c κs. search needs)
     (is-deeper-add-i-2 t)
     (is-deeper-loop-less t)
     (is-deeper-loop-again t)

@@ -8,55 +8,45 @@ use Rattle.shapewrite.proofs.Delivery.{delivers-over, delivers-short, d
 use Rattle.shapewrite.proofs.deliver.Statement.{statement}
 use Rattle.shapewrite.proofs.deliver.Tie as tie
 
-measure-requires : tie.Need-measure-requires
-measure-requires c κs = search needs
-
-enum-known-length : tie.Need-enum-known-length
-enum-known-length c = search needs
-
-enum-told : tie.Need-enum-told
-enum-told c = search needs
-
-answer-requires : tie.Need-answer-requires
-answer-requires c κs = search needs
-
 returns : tie.Need-returns
-returns c = delivers-over (now (c .before .before .before .before .before .before .before .args .shapes)) (now (c .before .before .before .before .before .before .before .args .pool)) (c .before .before .before .before .before .before .before .args .limits) (now (c .before .before .before .before .before .before .before .args .output)) (c .before .before .before .measure .ensures) (c .before .enum-told .given .1) (c .answer .ensures)
-
-answer-requires-2 : tie.Need-answer-requires-2
-answer-requires-2 c κs = search needs
+returns c =
+    let at-start = c .before .before .before .before .before .before .before in
+    delivers-over (now (at-start .args .shapes)) (now (at-start .args .pool)) (at-start .args .limits) (now (at-start .args .output))
+    (c .before .before .before .measure .ensures) (c .before .enum-told .given .1) (c .answer .ensures)
 
 returns-2 : tie.Need-returns-2
 returns-2 c =
-    delivers-short (now (c .before .before .before .before .before .before .before .before .before .args .shapes)) (now (c .before .before .before .before .before .before .before .before .before .args .pool)) (c .before .before .before .before .before .before .before .before .before .args .limits) (now (c .before .before .before .before .before .before .before .before .before .args .output)) (c .before .before .before .before .before .measure .ensures) (c .before .before .before .length .given .1) (omega (arith, c .before .if1 .taken)) (c .answer2 .ensures)
+    let after-measure = c .before .before .before .before .before in
+    let at-start = after-measure .before .before .before .before in
+    delivers-short (now (at-start .args .shapes)) (now (at-start .args .pool)) (at-start .args .limits) (now (at-start .args .output))
+    (after-measure .measure .ensures) (c .before .before .before .length .given .1) (omega (arith, c .before .if1 .taken)) (c .answer2 .ensures)
 
 write-form-requires : tie.Need-write-form-requires
-write-form-requires c κs = printable (c .before .before .before .before .before .before .before .before .before .pre)
-
-slice-aggregate-print : tie.Need-slice-aggregate-print
-slice-aggregate-print c = search needs
+write-form-requires c κs =
+    let at-start = c .before .before .before .before .before .before .before .before .before in
+    printable (at-start .pre)
 
 print-requires : tie.Need-print-requires
 print-requires c κs =
-    omega (arith, text-bound (c .before .before .before .before .before .before .before .before .before .before .before .before .before .before .pre), c .before .before .before .before .write-form .ensures (c .before .before .before .before .before .before .before .before .before .before .before .before .before .before .pre .shape) (c .before .before .before .before .before .before .before .before .before .before .before .before .before .before .pre .holds) .end)
-
-answer-requires-3 : tie.Need-answer-requires-3
-answer-requires-3 c κs = search needs
-
-same-length : tie.Need-same-length
-same-length c = search needs
+    let after-write-form = c .before .before .before .before in
+    let after-length = after-write-form .before .before .before .before in
+    let at-start = after-length .before .before .before .before .before .before in
+    omega (arith, text-bound (at-start .pre), after-write-form .write-form .ensures (at-start .pre .shape) (at-start .pre .holds) .end)
 
 returns-3 : tie.Need-returns-3
 returns-3 c =
+    let after-write-form = c .before .before .before .before .before .before .before .before in
+    let after-length = after-write-form .before .before .before .before in
+    let at-start = after-length .before .before .before .before .before .before in
     delivers-written
-    (now (c .before .before .before .before .before .before .before .before .before .before .before .before .before .before .before .before .before .before .args .shapes))
-    (now (c .before .before .before .before .before .before .before .before .before .before .before .before .before .before .before .before .before .before .args .pool))
-    (c .before .before .before .before .before .before .before .before .before .before .before .before .before .before .before .before .before .before .args .limits)
-    (now (c .before .before .before .before .before .before .before .before .before .before .before .before .before .before .before .before .before .before .args .output))
-    (c .before .before .before .before .before .before .before .before .before .before .before .before .before .before .measure .ensures)
-    (c .before .before .before .before .before .before .before .before .before .before .before .before .length .given .1)
-    (omega (arith, c .before .before .before .before .before .before .before .before .before .before .if1 .left))
-    (c .before .before .before .before .before .before .before .before .write-form .ensures)
+    (now (at-start .args .shapes))
+    (now (at-start .args .pool))
+    (at-start .args .limits)
+    (now (at-start .args .output))
+    (after-length .before .before .measure .ensures)
+    (after-length .length .given .1)
+    (omega (arith, after-write-form .before .before .if1 .left))
+    (after-write-form .write-form .ensures)
     (prints-byte 0x0A (c .before .before .before .print .ensures) (omega arith) (omega arith))
     (c .answer3 .ensures)
 
@@ -64,16 +54,12 @@ pub deliver-spec : {M : Type 1} → statement M
 deliver-spec =
     tie.close
     (tie.spec
-    measure-requires
-    enum-known-length
-    enum-told
-    answer-requires
+    (λ c κs. search needs) (λ c. search needs) (λ c. search needs) (λ c κs. search needs)
     returns
-    answer-requires-2
+    (λ c κs. search needs)
     returns-2
     write-form-requires
-    slice-aggregate-print
+    (λ c. search needs)
     print-requires
-    answer-requires-3
-    same-length
+    (λ c κs. search needs) (λ c. search needs)
     returns-3)

@@ -5,14 +5,8 @@ use borrow.Author.Needs.{needs}
 use Rattle.shapewrite.proofs.form_length.Statement.{statement}
 use Rattle.shapewrite.proofs.form_length.Tie as tie
 
-slice-aggregate-write-form : tie.Need-slice-aggregate-write-form
-slice-aggregate-write-form c = search needs
-
-write-form-requires : tie.Need-write-form-requires
-write-form-requires c κs = search needs
-
 returns : tie.Need-returns
 returns c s h = c .before .write-form .ensures s h .end ∙ zero-add _
 
 pub form-length-spec : {M : Type 1} → statement M
-form-length-spec = tie.close (tie.spec slice-aggregate-write-form write-form-requires returns)
+form-length-spec = tie.close (tie.spec (λ c. search needs) (λ c κs. search needs) returns)

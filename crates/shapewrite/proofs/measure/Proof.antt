@@ -6,40 +6,51 @@ use Rattle.shapewrite.proofs.Delivery.{over-forms, over-levels, over-by
 use Rattle.shapewrite.proofs.measure.Statement.{statement}
 use Rattle.shapewrite.proofs.measure.Tie as tie
 
-size-requires : tie.Need-size-requires
-size-requires c κs = search needs
-
 returns : tie.Need-returns
-returns c = over-forms (c .before .before .before .before .before .args .limits) (c .before .before .size .ensures) (omega (arith, c .if1 .taken))
+returns c =
+    let at-start = c .before .before .before .before .before in
+    over-forms (at-start .args .limits) (c .before .before .size .ensures) (omega (arith, c .if1 .taken))
 
 is-deeper-requires : tie.Need-is-deeper-requires
 is-deeper-requires c κs =
+    let at-start = c .before .before .before .before .before in
     record {
-      used = c .before .before .before .before .before .pre .holds .used;
-      name = c .before .before .before .before .before .pre .holds .name;
-      shape = c .before .before .before .before .before .pre .shape;
-      stands = c .before .before .before .before .before .pre .holds .stands;
+      used = at-start .pre .holds .used;
+      name = at-start .pre .holds .name;
+      shape = at-start .pre .shape;
+      stands = at-start .pre .holds .stands;
     }
 
 returns-2 : tie.Need-returns-2
-returns-2 c = over-levels (c .before .before .before .before .before .before .before .args .limits) (c .before .is-deeper .ensures) (c .if2 .taken)
+returns-2 c =
+    let at-start = c .before .before .before .before .before .before .before in
+    over-levels (at-start .args .limits) (c .before .is-deeper .ensures) (c .if2 .taken)
 
 form-length-requires : tie.Need-form-length-requires
-form-length-requires c κs = printable (c .before .before .before .before .before .before .before .pre)
+form-length-requires c κs =
+    let at-start = c .before .before .before .before .before .before .before in
+    printable (at-start .pre)
 
 add-length : tie.Need-add-length
-add-length c = omega (arith, c .form-length .ensures (c .before .before .before .before .before .before .before .before .pre .shape) (c .before .before .before .before .before .before .before .before .pre .holds), text-bound (c .before .before .before .before .before .before .before .before .pre))
+add-length c =
+    let at-start = c .before .before .before .before .before .before .before .before in
+    omega (arith, c .form-length .ensures (at-start .pre .shape) (at-start .pre .holds), text-bound (at-start .pre))
 
 returns-3 : tie.Need-returns-3
-returns-3 c = over-bytes (c .before .before .before .before .before .before .before .before .before .before .args .limits) (c .before .before .form-length .ensures) (omega (arith, c .if3 .taken))
+returns-3 c =
+    let after-is-deeper = c .before .before .before .before in
+    let at-start = after-is-deeper .before .before .before .before .before .before in
+    over-bytes (at-start .args .limits) (c .before .before .form-length .ensures) (omega (arith, c .if3 .taken))
 
 returns-4 : tie.Need-returns-4
 returns-4 c =
+    let after-is-deeper = c .before .before .before .before in
+    let at-start = after-is-deeper .before .before .before .before .before .before in
     fits
-    (c .before .before .before .before .before .before .before .before .before .before .args .limits)
-    (c .before .before .before .before .before .before .before .size .ensures)
-    (omega (arith, c .before .before .before .before .before .if1 .left))
-    (c .before .before .before .before .is-deeper .ensures)
+    (at-start .args .limits)
+    (after-is-deeper .before .before .before .size .ensures)
+    (omega (arith, after-is-deeper .before .if1 .left))
+    (after-is-deeper .is-deeper .ensures)
     (c .before .before .before .if2 .left)
     (c .before .before .form-length .ensures)
     (omega (arith, c .if3 .left))
@@ -48,7 +59,7 @@ pub measure-spec : {M : Type 1} → statement M
 measure-spec =
     tie.close
     (tie.spec
-    size-requires
+    (λ c κs. search needs)
     returns
     is-deeper-requires
     returns-2

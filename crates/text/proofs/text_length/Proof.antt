@@ -24,43 +24,43 @@ loop-holds c = (omega arith, sym (ap (λ t. 2 + length t) escaped-none))
 
 mul-loop : tie.Need-mul-loop Inv-loop μ-loop
 mul-loop c =
-    let l = c .loop in
     let start = c .before .before in
+    let l = c .loop in
     let a = start .args in
     omega (arith, l .inv .0, text-place (a .pool .now) (a .w) (a .n) (start .pre .0), start .good)
 
 add-word-length : tie.Need-add-word-length Inv-loop μ-loop
 add-word-length c =
-    let l = c .before .loop in
     let start = c .before .before .before in
+    let l = c .before .loop in
     let a = start .args in
     omega (arith, text-place (a .pool .now) (a .w) (a .n) (start .pre .0), start .good)
 
 mul-word-length : tie.Need-mul-word-length Inv-loop μ-loop
 mul-word-length c =
-    let l = c .before .loop in
     let start = c .before .before .before in
+    let l = c .before .loop in
     let a = start .args in
     omega (arith, text-place (a .pool .now) (a .w) (a .n) (start .pre .0), start .good)
 
 shared-slice-read-word-length : tie.Need-shared-slice-read-word-length Inv-loop μ-loop
 shared-slice-read-word-length c =
-    let l = c .before .before .loop in
     let start = c .before .before .before .before in
+    let l = c .before .before .loop in
     let a = start .args in
     omega (arith, text-place (a .pool .now) (a .w) (a .n) (start .pre .0))
 
 mul-eight-of : tie.Need-mul-eight-of Inv-loop μ-loop
 mul-eight-of c =
-    let l = c .before .before .loop in
     let start = c .before .before .before .before in
+    let l = c .before .before .loop in
     let a = start .args in
     omega (arith, l .inv .0, text-place (a .pool .now) (a .w) (a .n) (start .pre .0), start .good)
 
 word-length-requires : tie.Need-word-length-requires Inv-loop μ-loop
 word-length-requires c κs =
-    let l = c .before .before .before .loop in
     let start = c .before .before .before .before .before in
+    let l = c .before .before .before .loop in
     let a = start .args in (
       omega (arith, c .eight-of .ensures),
       omega (
@@ -74,8 +74,8 @@ word-length-requires c κs =
 
 add-written : tie.Need-add-written Inv-loop μ-loop
 add-written c =
-    let l = c .before .before .before .before .loop in
     let start = c .before .before .before .before .before .before in
+    let l = c .before .before .before .before .loop in
     let a = start .args in
     omega (
       arith,
@@ -89,8 +89,8 @@ add-written c =
 
 loop-again : tie.Need-loop-again Inv-loop μ-loop
 loop-again c =
-    let l = c .before .before .before .before .loop in
     let start = c .before .before .before .before .before .before in
+    let l = c .before .before .before .before .loop in
     let a = start .args in (
       omega arith,
       omega (
@@ -104,10 +104,15 @@ loop-again c =
 
 returns : tie.Need-returns Inv-loop μ-loop
 returns c =
-    let l = c .before .loop in
     let start = c .before .before .before in
+    let l = c .before .loop in
     let a = start .args in
-    omega (arith, l .inv .1, length-plain (text-in (a .pool .now) (a .w) (a .n)), ap length (text-all (a .pool .now) (a .w) (a .n) (start .pre .0) (8 * l .i) (c .loop-test .left)))
+    omega (
+      arith,
+      l .inv .1,
+      length-plain (text-in (a .pool .now) (a .w) (a .n)),
+      ap length (text-all (a .pool .now) (a .w) (a .n) (start .pre .0) (8 * l .i) (c .loop-test .left)),
+    )
 
 pub text-length-spec : {M : Type 1} → statement M
 text-length-spec =

@@ -25,13 +25,10 @@ loop-holds c = (omega arith, sym (ap length escaped-none), not-shifted (c .args 
 cast-cost : tie.Need-cast-cost Inv-loop μ-loop
 cast-cost c = omega (arith, c .before .loop .inv .3)
 
-cost-requires : tie.Need-cost-requires Inv-loop μ-loop
-cost-requires c κs = search needs
-
 add-written : tie.Need-add-written Inv-loop μ-loop
 add-written c =
-    let l = c .before .before .loop in
     let start = c .before .before .before in
+    let l = c .before .before .loop in
     omega (
       arith,
       c .cost .ensures,
@@ -43,8 +40,8 @@ add-written c =
 
 loop-again : tie.Need-loop-again Inv-loop μ-loop
 loop-again c =
-    let l = c .before .before .loop in
-    let start = c .before .before .before in (
+    let start = c .before .before .before in
+    let l = c .before .before .loop in (
       omega arith,
       omega (arith, c .cost .ensures, l .inv .1, word-count (start .args .word) (l .i) _ (omega arith) (shifted-byte (l .inv .2) (omega arith) (l .inv .3))),
       shifted-on (l .inv .2),
@@ -66,7 +63,7 @@ word-length-spec =
     μ-loop
     loop-holds
     cast-cost
-    cost-requires
+    (λ c κs. search needs)
     add-written
     (λ c. omega arith)
     (λ c. omega arith)

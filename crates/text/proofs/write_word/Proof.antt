@@ -1,15 +1,14 @@
 -- `text::write_word` meets its contract. The loop's invariant: the first i bytes are written, and x is what is left. Assumes nothing.
-use Prim.Native.Nat.{ℕ, _≤_, _<_, _+_, _-_, _/_, _^_}
+use Prim.Native.Nat.{ℕ, _≤_, _<_, _-_, _^_}
 use mathlib.Core.List.{[]}
-use mathlib.Core.Path.{_≡_, refl, sym, ap, _∙_}
-use lib.ListN.{length, take, length-append}
+use mathlib.Core.Path.{_≡_, refl, sym, ap}
+use lib.ListN.{take}
 use native.Mathlib.Omega.{arith}
-use borrow.Author.Needs.{needs}
-use Rattle.definitions.specs.Plain.{escaped, escaped-all}
+use Rattle.definitions.specs.Plain.{escaped-all}
 use Rattle.pool.specs.Pool.{unpacked}
 use Rattle.text.specs.Writes.{Writes}
 use Rattle.text.proofs.Escaped.{escaped-none}
-use Rattle.text.proofs.Writing.{writes-none, writes-then, writes-same, writes-length}
+use Rattle.text.proofs.Writing.{writes-none, writes-same}
 use Rattle.text.proofs.Words.{Shifted, not-shifted, shifted-byte, shifted-on, word-length, word-room, word-written}
 use Rattle.text.proofs.write_word.Statement.{statement}
 use Rattle.text.proofs.write_word.Tie as tie
@@ -31,18 +30,19 @@ cast-write-byte c = omega (arith, c .before .before .loop .inv .3)
 
 write-byte-requires : tie.Need-write-byte-requires Inv-loop μ-loop
 write-byte-requires c κs =
-    let l = c .before .before .loop in
     let start = c .before .before .before .before in
+    let l = c .before .before .loop in
     let t = c .before .loop-test .taken in
     word-room (start .args .word) (start .args .n) (l .i) (l .inv .1) (start .pre .1) (start .pre .0) _ t (shifted-byte (l .inv .2) (omega arith) (l .inv .3))
 
 loop-again : tie.Need-loop-again Inv-loop μ-loop
 loop-again c =
-    let l = c .before .before .before .before .before .loop in
     let start = c .before .before .before .before .before .before .before in
+    let l = c .before .before .before .before .before .loop in
     let t = c .before .before .before .before .loop-test .taken in (
       omega arith,
-      word-written (start .args .word) (start .args .n) (l .i) (l .inv .1) (start .pre .1) (start .pre .0) _ t (shifted-byte (l .inv .2) (omega arith) (l .inv .3))
+      word-written (start .args .word) (start .args .n) (l .i) (l .inv .1) (start .pre .1) (start .pre .0) _ t
+          (shifted-byte (l .inv .2) (omega arith) (l .inv .3))
           (c .before .before .write-byte .ensures),
       shifted-on (l .inv .2),
       omega arith,
@@ -50,8 +50,8 @@ loop-again c =
 
 same-length : tie.Need-same-length Inv-loop μ-loop
 same-length c =
-    let l = c .before .loop in
     let start = c .before .before .before in
+    let l = c .before .loop in
     word-length (start .args .word) (start .args .n) (l .i) (l .inv .1) (start .pre .1) (start .pre .0) (l .inv .0)
 
 returns : tie.Need-returns Inv-loop μ-loop

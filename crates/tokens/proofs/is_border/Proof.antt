@@ -14,7 +14,8 @@ returns-3 : tie.Need-returns-3
 returns-3 c w = w .no-quote (c .if3 .taken)
 
 returns-4 : tie.Need-returns-4
-returns-4 c = border-space (c .is-space .result) (c .before .before .before .if1 .left) (c .before .before .if2 .left) (c .before .if3 .left) (c .is-space .ensures)
+returns-4 c =
+    border-space (c .is-space .result) (c .before .before .before .if1 .left) (c .before .before .if2 .left) (c .before .if3 .left) (c .is-space .ensures)
 
 pub is-border-spec : {M : Type 1} → statement M
 is-border-spec = tie.close (tie.spec returns returns-2 returns-3 (λ c κs. search needs) returns-4)

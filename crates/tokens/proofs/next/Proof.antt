@@ -15,47 +15,68 @@ returns c = record { answer = found-end (c .before .skip-space .ensures) (omega 
 
 returns-2 : tie.Need-returns-2
 returns-2 c =
-    record { answer = found-opening (c .before .before .before .skip-space .ensures) (omega (arith, c .before .before .if1 .left)) (c .if2 .taken); kept = refl; front = refl }
+    record {
+      answer = found-opening (c .before .before .before .skip-space .ensures) (omega (arith, c .before .before .if1 .left)) (c .if2 .taken);
+      kept = refl;
+      front = refl;
+    }
 
 returns-3 : tie.Need-returns-3
 returns-3 c =
-    record { answer = found-closing (c .before .before .before .before .skip-space .ensures) (omega (arith, c .before .before .before .if1 .left)) (c .if3 .taken); kept = refl; front = refl }
+    let after-skip-space = c .before .before .before .before in
+    record {
+      answer = found-closing (after-skip-space .skip-space .ensures) (omega (arith, c .before .before .before .if1 .left)) (c .if3 .taken);
+      kept = refl;
+      front = refl;
+    }
 
 read-text-requires : tie.Need-read-text-requires
 read-text-requires c κs =
-    text-room (c .before .before .before .before .before .before .skip-space .ensures) (omega (arith, c .before .before .before .before .before .if1 .left)) (c .before .before .before .before .before .before .before .before .before .args .w) (length (c .before .before .before .before .before .before .before .before .before .args .pool .now)) (c .before .before .before .before .before .before .before .before .before .pre .1)
+    let else1 = c .before .before .before .before .before in
+    let at-start = else1 .before .before .before .before in
+    text-room (else1 .before .skip-space .ensures) (omega (arith, else1 .if1 .left)) (at-start .args .w) (length (at-start .args .pool .now)) (at-start .pre .1)
 
 returns-4 : tie.Need-returns-4
 returns-4 c =
+    let after-read-text = c .before .before .before .before .before in
+    let else1 = after-read-text .before .before .before .before .before .before in
+    let at-start = else1 .before .before .before .before in
     record {
       answer =
-          found-text (c .before .before .before .before .before .before .before .before .before .before .before .before .skip-space .ensures) (omega (arith, c .before .before .before .before .before .before .before .before .before .before .before .if1 .left)) (c .before .before .before .before .before .before .before .if4 .taken)
+          found-text (else1 .before .skip-space .ensures) (omega (arith, else1 .if1 .left)) (after-read-text .before .before .if4 .taken)
           (subst
-          (λ (r : TextRead). Text-answer (c .before .before .before .before .before .before .before .before .before .before .before .before .before .before .before .args .text .now) (c .before .before .before .before .before .before .before .before .before .before .before .before .skip-space .result + 1) (c .before .before .before .before .before .read-text .last .1 .1 .0) (c .before .before .before .before .before .before .before .before .before .before .before .before .before .before .before .args .w) r)
+          (λ (r : TextRead).
+          Text-answer (at-start .args .text .now) (else1 .before .skip-space .result + 1) (after-read-text .read-text .last .1 .1 .0) (at-start .args .w) r)
           (c .before .end .given .1)
-          (c .before .before .before .before .before .read-text .ensures .answer));
-      kept = c .before .before .before .before .before .read-text .ensures .kept;
-      front = c .before .before .before .before .before .read-text .ensures .front;
+          (after-read-text .read-text .ensures .answer));
+      kept = after-read-text .read-text .ensures .kept;
+      front = after-read-text .read-text .ensures .front;
     }
 
 returns-5 : tie.Need-returns-5
 returns-5 c =
+    let after-read-text = c .before .before .before .before in
+    let else1 = after-read-text .before .before .before .before .before .before in
+    let at-start = else1 .before .before .before .before in
     record {
       answer =
-          found-broken (c .before .before .before .before .before .before .before .before .before .before .before .skip-space .ensures) (omega (arith, c .before .before .before .before .before .before .before .before .before .before .if1 .left)) (c .before .before .before .before .before .before .if4 .taken)
+          found-broken (else1 .before .skip-space .ensures) (omega (arith, else1 .if1 .left)) (after-read-text .before .before .if4 .taken)
           (subst
-          (λ (r : TextRead). Text-answer (c .before .before .before .before .before .before .before .before .before .before .before .before .before .before .args .text .now) (c .before .before .before .before .before .before .before .before .before .before .before .skip-space .result + 1) (c .before .before .before .before .read-text .last .1 .1 .0) (c .before .before .before .before .before .before .before .before .before .before .before .before .before .before .args .w) r)
+          (λ (r : TextRead).
+          Text-answer (at-start .args .text .now) (else1 .before .skip-space .result + 1) (after-read-text .read-text .last .1 .1 .0) (at-start .args .w) r)
           (c .enum-told .given .1)
-          (c .before .before .before .before .read-text .ensures .answer));
-      kept = c .before .before .before .before .read-text .ensures .kept;
-      front = c .before .before .before .before .read-text .ensures .front;
+          (after-read-text .read-text .ensures .answer));
+      kept = after-read-text .read-text .ensures .kept;
+      front = after-read-text .read-text .ensures .front;
     }
 
 returns-6 : tie.Need-returns-6
 returns-6 c =
+    let else1 = c .before .before .before .before .before in
     record {
       answer =
-          found-word (c .before .before .before .before .before .before .skip-space .ensures) (omega (arith, c .before .before .before .before .before .if1 .left)) (c .before .before .before .if2 .left) (c .before .before .if3 .left) (c .before .if4 .left)
+          found-word (else1 .before .skip-space .ensures) (omega (arith, else1 .if1 .left)) (c .before .before .before .if2 .left)
+          (c .before .before .if3 .left) (c .before .if4 .left)
           (c .word-end .ensures);
       kept = refl;
       front = refl;
@@ -72,9 +93,7 @@ next-spec =
     returns-3
     (λ c. search needs)
     read-text-requires
-    (λ c. search needs)
-    (λ c. search needs)
-    (λ c. search needs)
+    (λ c. search needs) (λ c. search needs) (λ c. search needs)
     returns-4
     (λ c. search needs)
     returns-5

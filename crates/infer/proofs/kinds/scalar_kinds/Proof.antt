@@ -6,21 +6,14 @@ use borrow.Author.Needs.{needs}
 use Rattle.infer.proofs.kinds.scalar_kinds.Statement.{statement}
 use Rattle.infer.proofs.kinds.scalar_kinds.Tie as tie
 
-row-kind-requires : tie.Need-row-kind-requires
-row-kind-requires c κs = search needs
-
 returns : tie.Need-returns
 returns c p k v h b l = bits-null v (kind-told h (c .before .row-kind .ensures) ∙ c .if1 .taken)
 
-row-is-int-requires : tie.Need-row-is-int-requires
-row-is-int-requires c κs = search needs
-
-number-kinds-requires : tie.Need-number-kinds-requires
-number-kinds-requires c κs = search needs
-
 returns-2 : tie.Need-returns-2
 returns-2 c p k v h b l =
-    bits-number v h b (kind-told h (c .before .before .before .before .row-kind .ensures) ∙ c .before .before .if2 .taken) (c .before .row-is-int .ensures) (c .number-kinds .ensures)
+    let after-row-kind = c .before .before .before .before in
+    bits-number v h b (kind-told h (after-row-kind .row-kind .ensures) ∙ c .before .before .if2 .taken) (c .before .row-is-int .ensures)
+    (c .number-kinds .ensures)
 
 returns-3 : tie.Need-returns-3
 returns-3 c p k v h b l = bits-text v (kind-told h (c .before .before .before .row-kind .ensures) ∙ c .if3 .taken)
@@ -34,10 +27,9 @@ pub scalar-kinds-spec : {M : Type 1} → statement M
 scalar-kinds-spec =
     tie.close
     (tie.spec
-    row-kind-requires
+    (λ c κs. search needs)
     returns
-    row-is-int-requires
-    number-kinds-requires
+    (λ c κs. search needs) (λ c κs. search needs)
     returns-2
     returns-3
     returns-4)

@@ -16,35 +16,46 @@ loop-holds : tie.Need-loop-holds Inv-loop μ-loop
 loop-holds c = loop-begins _ _ _ _ _ _ _ _ (c .before .before .before .pre .1 .enough)
 
 null-member-requires : tie.Need-null-member-requires Inv-loop μ-loop
-null-member-requires c κs = (
-  loop-listed (c .before .before .loop .inv) (c .before .loop-test .taken) (c .before .before .before .before .before .before .pre .0),
-  record {
-    enough = omega (arith, c .before .before .before .before .before .before .pre .1 .enough, c .before .before .loop .inv .same);
-    small = omega (arith, c .before .before .before .before .before .before .pre .1 .small, c .before .before .loop .inv .same);
-  },
-)
-
-size-requires : tie.Need-size-requires Inv-loop μ-loop
-size-requires c κs = search needs
+null-member-requires c κs =
+    let at-loop = c .before .before in
+    let at-start = at-loop .before .before .before .before in (
+      loop-listed (at-loop .loop .inv) (c .before .loop-test .taken) (at-start .pre .0),
+      record {
+        enough = omega (arith, at-start .pre .1 .enough, at-loop .loop .inv .same);
+        small = omega (arith, at-start .pre .1 .small, at-loop .loop .inv .same);
+      },
+    )
 
 add-row : tie.Need-add-row Inv-loop μ-loop
 add-row c =
-    let w = loop-step (c .before .before .before .before .before .before .before .loop .inv) (c .before .before .before .before .before .before .loop-test .taken) (c .before .before .before .before .null-member .ensures) (c .size .ensures) (c .before .before .before .before .before .before .before .before .before .before .before .pre .0) in
-    omega (arith, w .0, c .before .before .before .before .before .before .before .before .before .before .before .pre .0 .meets .fields .within, c .before .before .before .before .before .before .before .before .before .before .before .pre .1 .enough, c .before .before .before .before .before .before .before .before .before .before .before .pre .1 .small)
+    let after-null-member = c .before .before .before .before in
+    let at-start = after-null-member .before .before .before .before .before .before .before in
+    let w = loop-step (after-null-member .before .before .before .loop .inv) (after-null-member .before .before .loop-test .taken)
+    (after-null-member .null-member .ensures) (c .size .ensures) (at-start .pre .0) in
+    omega (arith, w .0, at-start .pre .0 .meets .fields .within, at-start .pre .1 .enough, at-start .pre .1 .small)
 
 loop-less : tie.Need-loop-less Inv-loop μ-loop
 loop-less c =
-    let w = loop-step (c .before .before .before .before .before .before .before .loop .inv) (c .before .before .before .before .before .before .loop-test .taken) (c .before .before .before .before .null-member .ensures) (c .size .ensures) (c .before .before .before .before .before .before .before .before .before .before .before .pre .0) in
-    omega (arith, w .0, w .1, c .before .before .before .before .before .before .loop-test .taken)
+    let after-null-member = c .before .before .before .before in
+    let in-loop = after-null-member .before .before in
+    let at-start = in-loop .before .before .before .before .before in
+    let w = loop-step (in-loop .before .loop .inv) (in-loop .loop-test .taken) (after-null-member .null-member .ensures)
+    (c .size .ensures) (at-start .pre .0) in
+    omega (arith, w .0, w .1, in-loop .loop-test .taken)
 
 loop-again : tie.Need-loop-again Inv-loop μ-loop
-loop-again c = loop-on (c .before .before .before .before .before .before .before .loop .inv) (c .before .before .before .before .before .before .loop-test .taken) (c .before .before .before .before .null-member .ensures) (c .size .ensures) (c .before .before .before .before .null-member .kept .0)
+loop-again c =
+    let after-null-member = c .before .before .before .before in
+    loop-on (after-null-member .before .before .before .loop .inv) (after-null-member .before .before .loop-test .taken)
+    (after-null-member .null-member .ensures) (c .size .ensures) (after-null-member .null-member .kept .0)
 
 same-length : tie.Need-same-length Inv-loop μ-loop
 same-length c = c .before .loop .inv .same
 
 returns : tie.Need-returns Inv-loop μ-loop
-returns c = loop-ends (c .before .loop .inv) (c .loop-test .left) (c .before .before .before .before .before .pre .1 .enough)
+returns c =
+    let at-start = c .before .before .before .before .before in
+    loop-ends (c .before .loop .inv) (c .loop-test .left) (at-start .pre .1 .enough)
 
 pub null-lacked-spec : {M : Type 1} → statement M
 null-lacked-spec =
@@ -54,7 +65,7 @@ null-lacked-spec =
     μ-loop
     loop-holds
     null-member-requires
-    size-requires
+    (λ c κs. search needs)
     add-row
     loop-less
     loop-again

@@ -15,43 +15,39 @@ abbrev μ-loop : tie.MeasureT-loop
 loop-holds : tie.Need-loop-holds Inv-loop μ-loop
 loop-holds c = walk-begins _ _ _ _ _ _
 
-name-requires : tie.Need-name-requires Inv-loop μ-loop
-name-requires c κs = search needs
-
-compare-names-requires : tie.Need-compare-names-requires Inv-loop μ-loop
-compare-names-requires c κs = search needs
-
-enum-told : tie.Need-enum-told Inv-loop μ-loop
-enum-told c = search needs
-
 returns : tie.Need-returns Inv-loop μ-loop
-returns c = answer-less (c .before .before .before .name .result) _ (c .before .before .before .before .before .loop .inv) (c .before .before .before .before .loop-test .taken) (c .before .before .before .name .ensures) (c .before .before .compare-names .ensures) (c .enum-told .given .1)
-
-enum-told-2 : tie.Need-enum-told-2 Inv-loop μ-loop
-enum-told-2 c = search needs
+returns c =
+    let after-name = c .before .before .before in
+    answer-less (after-name .name .result) _ (after-name .before .before .loop .inv) (after-name .before .loop-test .taken) (after-name .name .ensures)
+    (c .before .before .compare-names .ensures) (c .enum-told .given .1)
 
 returns-2 : tie.Need-returns-2 Inv-loop μ-loop
-returns-2 c = answer-equal (c .before .before .before .name .result) _ (c .before .before .before .before .before .loop .inv) (c .before .before .before .before .loop-test .taken) (c .before .before .before .name .ensures) (c .before .before .compare-names .ensures) (c .enum-told2 .given .1)
-
-enum-told-3 : tie.Need-enum-told-3 Inv-loop μ-loop
-enum-told-3 c = search needs
-
-size-requires : tie.Need-size-requires Inv-loop μ-loop
-size-requires c κs = search needs
+returns-2 c =
+    let after-name = c .before .before .before in
+    answer-equal (after-name .name .result) _ (after-name .before .before .loop .inv) (after-name .before .loop-test .taken) (after-name .name .ensures)
+    (c .before .before .compare-names .ensures) (c .enum-told2 .given .1)
 
 add-row : tie.Need-add-row Inv-loop μ-loop
 add-row c =
-    let w = left-within (c .before .before .before .before .before .before .loop .inv .left (c .before .before .before .before .before .before .before .before .before .pre .0 .part) (c .before .before .before .before .before .before .before .before .before .pre .0 .fields) (c .before .before .before .before .before .before .before .before .before .pre .0 .meets)) (c .before .before .before .before .before .loop-test .taken) in
-    omega (arith, w .0, c .size .ensures, c .before .before .before .before .before .before .before .before .before .pre .0 .meets .within, c .before .before .before .before .before .before .before .before .before .pre .1 .enough, c .before .before .before .before .before .before .before .before .before .pre .1 .small)
+    let in-loop = c .before .before .before .before .before in
+    let at-start = in-loop .before .before .before .before in
+    let w = left-within (in-loop .before .loop .inv .left (at-start .pre .0 .part) (at-start .pre .0 .fields) (at-start .pre .0 .meets))
+    (in-loop .loop-test .taken) in
+    omega (arith, w .0, c .size .ensures, at-start .pre .0 .meets .within, at-start .pre .1 .enough, at-start .pre .1 .small)
 
 loop-less : tie.Need-loop-less Inv-loop μ-loop
 loop-less c =
-    let w = left-within (c .before .before .before .before .before .before .loop .inv .left (c .before .before .before .before .before .before .before .before .before .pre .0 .part) (c .before .before .before .before .before .before .before .before .before .pre .0 .fields) (c .before .before .before .before .before .before .before .before .before .pre .0 .meets)) (c .before .before .before .before .before .loop-test .taken) in
-    omega (arith, w .0, w .1, c .size .ensures, c .before .before .before .before .before .loop-test .taken)
+    let in-loop = c .before .before .before .before .before in
+    let at-start = in-loop .before .before .before .before in
+    let w = left-within (in-loop .before .loop .inv .left (at-start .pre .0 .part) (at-start .pre .0 .fields) (at-start .pre .0 .meets))
+    (in-loop .loop-test .taken) in
+    omega (arith, w .0, w .1, c .size .ensures, in-loop .loop-test .taken)
 
 loop-again : tie.Need-loop-again Inv-loop μ-loop
 loop-again c =
-    walk-on (c .before .before .before .before .name .result) _ (c .before .before .before .before .before .before .loop .inv) (c .before .before .before .before .before .loop-test .taken) (c .before .before .before .before .name .ensures) (c .before .before .before .compare-names .ensures) (c .before .enum-told3 .given .1) (c .size .ensures)
+    let after-name = c .before .before .before .before in
+    walk-on (after-name .name .result) _ (after-name .before .before .loop .inv) (after-name .before .loop-test .taken) (after-name .name .ensures)
+    (c .before .before .before .compare-names .ensures) (c .before .enum-told3 .given .1) (c .size .ensures)
 
 returns-3 : tie.Need-returns-3 Inv-loop μ-loop
 returns-3 c p fs n m r = past-last (c .before .loop .inv .going p fs n m r) (c .loop-test .left)
@@ -63,14 +59,11 @@ find-place-spec =
     Inv-loop
     μ-loop
     loop-holds
-    name-requires
-    compare-names-requires
-    enum-told
+    (λ c κs. search needs) (λ c κs. search needs) (λ c. search needs)
     returns
-    enum-told-2
+    (λ c. search needs)
     returns-2
-    enum-told-3
-    size-requires
+    (λ c. search needs) (λ c κs. search needs)
     add-row
     loop-less
     loop-again

@@ -10,30 +10,26 @@ use borrow.Author.Needs.{needs}
 use Rattle.infer.proofs.rows.raise.Statement.{statement}
 use Rattle.infer.proofs.rows.raise.Tie as tie
 
-kinds-requires : tie.Need-kinds-requires
-kinds-requires c κs = search needs
-
-size-requires : tie.Need-size-requires
-size-requires c κs = search needs
-
-add-size : tie.Need-add-size
-add-size c = search needs
-
 put-head-requires : tie.Need-put-head-requires
-put-head-requires c κs = (
-  c .before .before .before .before .before .before .pre .0,
-  omega (arith, head-as (c .before .before .before .before .before .before .args .kinds) (c .before .before .before .before .before .before .args .words) (c .before .before .before .kinds .ensures) (c .before .size .ensures), c .before .before .before .before .before .before .pre .1),
-)
-
-same-length : tie.Need-same-length
-same-length c = search needs
+put-head-requires c κs =
+    let at-start = c .before .before .before .before .before .before in (
+      at-start .pre .0,
+      omega (
+        arith,
+        head-as (at-start .args .kinds) (at-start .args .words) (c .before .before .before .kinds .ensures) (c .before .size .ensures),
+        at-start .pre .1,
+      ),
+    )
 
 returns : tie.Need-returns
 returns c =
+    let after-size = c .before .before .before .before in
+    let at-start = after-size .before .before .before .before .before in
     c .before .before .put-head .ensures
-    ∙ ap (λ (x : ℕ). take (c .before .before .before .before .before .before .before .before .before .args .row) (now (c .before .before .before .before .before .before .before .before .before .args .shapes)) ++ x ∷ drop (c .before .before .before .before .before .before .before .before .before .args .row + 1) (now (c .before .before .before .before .before .before .before .before .before .args .shapes))) (head-as _ _ (c .before .before .before .before .before .before .kinds .ensures) (c .before .before .before .before .size .ensures))
+    ∙ ap (λ (x : ℕ). take (at-start .args .row) (now (at-start .args .shapes)) ++ x ∷ drop (at-start .args .row + 1) (now (at-start .args .shapes)))
+    (head-as _ _ (after-size .before .before .kinds .ensures) (after-size .size .ensures))
 
 pub raise-spec : {M : Type 1} → statement M
 raise-spec =
     tie.close
-    (tie.spec kinds-requires size-requires add-size put-head-requires same-length returns)
+    (tie.spec (λ c κs. search needs) (λ c κs. search needs) (λ c. search needs) put-head-requires (λ c. search needs) returns)

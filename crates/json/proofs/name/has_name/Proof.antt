@@ -16,21 +16,33 @@ abbrev μ-loop : tie.MeasureT-loop
 μ-loop nodes pool from to w n row₀ row = to - row
 
 loop-holds : tie.Need-loop-holds Inv-loop μ-loop
-loop-holds c = walking (c .before .before .args .nodes .now) (c .before .before .args .pool .now) (c .before .before .args .from) (c .before .before .args .to) (c .before .before .args .w) (c .before .before .args .n) (c .before .before .pre .ordered)
+loop-holds c =
+    let at-start = c .before .before in
+    walking (at-start .args .nodes .now) (at-start .args .pool .now) (at-start .args .from) (at-start .args .to) (at-start .args .w) (at-start .args .n)
+    (at-start .pre .ordered)
 
 returns : tie.Need-returns Inv-loop μ-loop
 returns c =
-    found-here (c .before .before .before .before .before .before .before .before .before .args .nodes .now) (c .before .before .before .before .before .before .before .before .before .args .pool .now) (c .before .before .before .before .before .before .before .before .before .args .from) (c .before .before .before .before .before .before .before .before .before .args .to) (c .before .before .before .before .before .before .before .before .before .args .w) (c .before .before .before .before .before .before .before .before .before .args .n) (c .before .before .before .before .before .before .loop .row) (c .before .before .before .before .before .before .before .before .before .pre .within) (c .before .before .before .before .before .before .loop .inv) (c .before .before .before .before .before .loop-test .taken) (c .before .before .before .before .row-name .ensures)
+    let after-row-name = c .before .before .before .before in
+    let at-loop = after-row-name .before .before in
+    let at-start = at-loop .before .before .before in
+    found-here (at-start .args .nodes .now) (at-start .args .pool .now) (at-start .args .from) (at-start .args .to) (at-start .args .w) (at-start .args .n)
+    (at-loop .loop .row) (at-start .pre .within) (at-loop .loop .inv) (after-row-name .before .loop-test .taken) (after-row-name .row-name .ensures)
     (c .before .same-text .ensures
-    ∙ ap₂ (λ (v m : ℕ). same (text-in (c .before .before .before .before .before .before .before .before .before .args .pool .now) (c .before .before .before .before .before .before .before .before .before .args .w) (c .before .before .before .before .before .before .before .before .before .args .n)) (text-in (c .before .before .before .before .before .before .before .before .before .args .pool .now) v m)) (c .before .before .before .text-word .ensures) (c .before .before .text-bytes .ensures))
+    ∙ ap₂ (λ (v m : ℕ). same (text-in (at-start .args .pool .now) (at-start .args .w) (at-start .args .n)) (text-in (at-start .args .pool .now) v m))
+    (c .before .before .before .text-word .ensures) (c .before .before .text-bytes .ensures))
     (c .if1 .taken)
 
 -- the next row lies behind this one
 forward
     : (c : tie.After-row-size Inv-loop μ-loop)
-    → (3 ≤ c .row-size .result) × (c .before .before .before .before .before .before .before .loop .row + c .row-size .result ≤ c .before .before .before .before .before .before .before .before .before .before .args .to)
+    → let at-loop = c .before .before .before .before .before .before .before in
+    (3 ≤ c .row-size .result) × (at-loop .loop .row + c .row-size .result ≤ at-loop .before .before .before .args .to)
 forward c =
-    let s = step-sizes (c .before .before .before .before .before .before .before .before .before .before .args .nodes .now) (c .before .before .before .before .before .before .before .before .before .before .args .pool .now) (c .before .before .before .before .before .before .before .before .before .before .args .from) (c .before .before .before .before .before .before .before .before .before .before .args .to) (c .before .before .before .before .before .before .before .before .before .before .args .w) (c .before .before .before .before .before .before .before .before .before .before .args .n) (c .before .before .before .before .before .before .before .loop .row) (c .before .before .before .before .before .before .before .before .before .before .pre .within) (c .before .before .before .before .before .before .before .before .before .before .pre) (c .before .before .before .before .before .before .before .loop .inv) (c .before .before .before .before .before .before .loop-test .taken) in
+    let in-loop = c .before .before .before .before .before .before in
+    let at-start = in-loop .before .before .before .before in
+    let s = step-sizes (at-start .args .nodes .now) (at-start .args .pool .now) (at-start .args .from) (at-start .args .to) (at-start .args .w)
+    (at-start .args .n) (in-loop .before .loop .row) (at-start .pre .within) (at-start .pre) (in-loop .before .loop .inv) (in-loop .loop-test .taken) in
     (omega (arith, s .0, c .row-size .ensures), omega (arith, s .1, c .row-size .ensures))
 
 add-row : tie.Need-add-row Inv-loop μ-loop
@@ -41,15 +53,26 @@ loop-less c = omega (arith, forward c .0, forward c .1)
 
 loop-again : tie.Need-loop-again Inv-loop μ-loop
 loop-again c =
-    subst (λ (k : ℕ). Walking (c .before .before .before .before .before .before .before .before .before .before .args .nodes .now) (c .before .before .before .before .before .before .before .before .before .before .args .pool .now) (c .before .before .before .before .before .before .before .before .before .before .args .from) (c .before .before .before .before .before .before .before .before .before .before .args .to) (c .before .before .before .before .before .before .before .before .before .before .args .w) (c .before .before .before .before .before .before .before .before .before .before .args .n) (c .before .before .before .before .before .before .before .loop .row + k))
+    let after-text-word = c .before .before .before .before in
+    let at-loop = after-text-word .before .before .before in
+    let at-start = at-loop .before .before .before in
+    subst (λ (k : ℕ).
+    Walking (at-start .args .nodes .now) (at-start .args .pool .now) (at-start .args .from) (at-start .args .to) (at-start .args .w) (at-start .args .n)
+    (at-loop .loop .row + k))
     (sym (c .row-size .ensures))
-    (walked-on (c .before .before .before .before .before .before .before .before .before .before .args .nodes .now) (c .before .before .before .before .before .before .before .before .before .before .args .pool .now) (c .before .before .before .before .before .before .before .before .before .before .args .from) (c .before .before .before .before .before .before .before .before .before .before .args .to) (c .before .before .before .before .before .before .before .before .before .before .args .w) (c .before .before .before .before .before .before .before .before .before .before .args .n) (c .before .before .before .before .before .before .before .loop .row) (c .before .before .before .before .before .before .before .before .before .before .pre .within) (c .before .before .before .before .before .before .before .loop .inv) (c .before .before .before .before .before .before .loop-test .taken) (c .before .before .before .before .before .before .before .before .before .before .pre) (c .before .before .before .before .before .row-name .ensures)
+    (walked-on (at-start .args .nodes .now) (at-start .args .pool .now) (at-start .args .from) (at-start .args .to) (at-start .args .w) (at-start .args .n)
+    (at-loop .loop .row) (at-start .pre .within) (at-loop .loop .inv) (after-text-word .before .before .loop-test .taken) (at-start .pre)
+    (after-text-word .before .row-name .ensures)
     (c .before .before .same-text .ensures
-    ∙ ap₂ (λ (v m : ℕ). same (text-in (c .before .before .before .before .before .before .before .before .before .before .args .pool .now) (c .before .before .before .before .before .before .before .before .before .before .args .w) (c .before .before .before .before .before .before .before .before .before .before .args .n)) (text-in (c .before .before .before .before .before .before .before .before .before .before .args .pool .now) v m)) (c .before .before .before .before .text-word .ensures) (c .before .before .before .text-bytes .ensures))
+    ∙ ap₂ (λ (v m : ℕ). same (text-in (at-start .args .pool .now) (at-start .args .w) (at-start .args .n)) (text-in (at-start .args .pool .now) v m))
+    (after-text-word .text-word .ensures) (c .before .before .before .text-bytes .ensures))
     (c .before .if1 .left))
 
 returns-2 : tie.Need-returns-2 Inv-loop μ-loop
-returns-2 c = not-found (c .before .before .before .before .args .nodes .now) (c .before .before .before .before .args .pool .now) (c .before .before .before .before .args .from) (c .before .before .before .before .args .to) (c .before .before .before .before .args .w) (c .before .before .before .before .args .n) (c .before .loop .row) (c .before .before .before .before .pre .within) (c .before .loop .inv) (c .loop-test .left)
+returns-2 c =
+    let at-start = c .before .before .before .before in
+    not-found (at-start .args .nodes .now) (at-start .args .pool .now) (at-start .args .from) (at-start .args .to) (at-start .args .w) (at-start .args .n)
+    (c .before .loop .row) (at-start .pre .within) (c .before .loop .inv) (c .loop-test .left)
 
 pub has-name-spec : {M : Type 1} → statement M
 has-name-spec =
@@ -58,10 +81,7 @@ has-name-spec =
     Inv-loop
     μ-loop
     loop-holds
-    (λ c κs. search needs)
-    (λ c κs. search needs)
-    (λ c κs. search needs)
-    (λ c κs. search needs)
+    (λ c κs. search needs) (λ c κs. search needs) (λ c κs. search needs) (λ c κs. search needs)
     returns
     (λ c κs. search needs)
     add-row

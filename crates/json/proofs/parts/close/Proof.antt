@@ -8,10 +8,14 @@ use Rattle.json.proofs.parts.close.Tie as tie
 
 returns : tie.Need-returns
 returns c =
+    let after-head-word = c .before .before .before .before .before in
+    let at-start = after-head-word .before .before in
     record {
       row =
           c .before .before .put-row .ensures
-          ∙ ap (λ (h : ℕ). with-row (c .before .before .before .before .before .before .before .args .nodes .now) (c .before .before .before .before .before .before .before .args .begun) h (3 * (c .before .before .before .before .before .before .before .args .to .begun - c .before .before .before .before .before .before .before .args .begun)) (c .before .before .before .before .before .before .before .args .name)) (c .before .before .before .before .before .head-word .ensures);
+          ∙ ap (λ (h : ℕ).
+          with-row (at-start .args .nodes .now) (at-start .args .begun) h (3 * (at-start .args .to .begun - at-start .args .begun)) (at-start .args .name))
+          (after-head-word .head-word .ensures);
       answer = refl;
     }
 
@@ -19,10 +23,5 @@ pub close-spec : {M : Type 1} → statement M
 close-spec =
     tie.close
     (tie.spec
-    (λ c κs. search needs)
-    (λ c. search needs)
-    (λ c. search needs)
-    (λ c. search needs)
-    (λ c κs. search needs)
-    (λ c. search needs)
+    (λ c κs. search needs) (λ c. search needs) (λ c. search needs) (λ c. search needs) (λ c κs. search needs) (λ c. search needs)
     returns)

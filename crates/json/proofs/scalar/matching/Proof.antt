@@ -21,7 +21,8 @@ loop-holds c = matching (c .before .before .pre)
 
 returns : tie.Need-returns Inv-loop μ-loop
 returns c =
-    matched (c .before .before .before .before .loop .inv)
+    let at-loop = c .before .before .before .before in
+    matched (at-loop .loop .inv)
     (λ h e. c .if1 .taken (c .before .before .peek .ensures ∙ e ∙ sym (c .before .peek2 .ensures)))
 
 loop-again : tie.Need-loop-again Inv-loop μ-loop
@@ -45,8 +46,7 @@ matching-spec =
     μ-loop
     loop-holds
     (λ c. omega arith)
-    (λ c κs. search needs)
-    (λ c κs. search needs)
+    (λ c κs. search needs) (λ c κs. search needs)
     returns
     (λ c. omega arith)
     (λ c. omega arith)

@@ -1,13 +1,12 @@
 -- `json::scalar::put_number` meets its contract. Assumes nothing.
 use borrow.Author.Needs.{needs}
-use Prim.Native.Nat.{ℕ, _+_, _*_}
-use mathlib.Core.Bool.{Bool, true, false}
-use mathlib.Core.Path.{refl, ap, ap₂, _∙_}
+use Prim.Native.Nat.{ℕ, _+_}
+use mathlib.Core.Path.{refl, ap, _∙_}
 use native.Mathlib.Omega.{arith}
-use Rattle.definitions.specs.Number.{most-coefficient, most-scale}
+use Rattle.definitions.specs.Number.{most-scale}
 use Rattle.definitions.specs.Value.{Value}
 use Rattle.definitions.specs.Plain.{plain}
-use Rattle.nodes.specs.Nodes.{sign-bit, kind-code, number-bits}
+use Rattle.nodes.specs.Nodes.{kind-code, number-bits}
 use Rattle.nodes.specs.NodesLaws.{head-word-is}
 use Rattle.number.specs.NumberRead.{number-in}
 use Rattle.number.specs.DecimalLaws.{plain-short}
@@ -24,26 +23,32 @@ number-bits-requires c κs = omega (arith, c .before .pre .2 .scale)
 head-word-requires : tie.Need-head-word-requires
 unfolding most-scale
 head-word-requires c κs =
+    let at-start = c .before .before .before in
     omega (
       arith,
-      c .before .before .before .pre .2 .scale,
+      at-start .pre .2 .scale,
       c .before .number-bits .ensures,
-      sign-small (c .before .before .before .args .x .negative),
+      sign-small (at-start .args .x .negative),
       c .number-length .ensures,
-      plain-short (number-in (c .before .before .before .args .x)) (c .before .before .before .pre .2),
+      plain-short (number-in (at-start .args .x)) (at-start .pre .2),
     )
 
 returns : tie.Need-returns
 unfolding kind-code number-bits plain
 returns c =
+    let after-head-word = c .before .before .before .before .before .before in
+    let at-start = after-head-word .before .before .before .before in
     record {
       row =
           c .before .before .before .put-row .ensures
-          ∙ ap (λ (h : ℕ). with-row (c .before .before .before .before .before .before .before .before .before .before .args .nodes .now) (c .before .before .before .before .before .before .before .before .before .before .args .c .begun) h (c .before .before .before .before .before .before .before .before .before .before .args .x .coefficient) (c .before .before .before .before .before .before .before .before .before .before .args .name))
-          (c .before .before .before .before .before .before .head-word .ensures
-          ∙ head-word-is (Value.number (number-in (c .before .before .before .before .before .before .before .before .before .before .args .x))) refl (c .before .before .before .before .before .before .before .before .number-bits .ensures) (c .before .before .before .before .before .before .before .number-length .ensures));
-      answer = ap (λ (n : ℕ). Done (record { at = c .before .before .before .before .before .before .before .before .before .before .args .x .end; begun = c .before .before .before .before .before .before .before .before .before .before .args .c .begun + 1; top = c .before .before .before .before .before .before .before .before .before .before .args .c .top }) n) (c .before .before .before .before .before .before .before .number-length .ensures);
-      short = plain-short (number-in (c .before .before .before .before .before .before .before .before .before .before .args .x)) (c .before .before .before .before .before .before .before .before .before .before .pre .2);
+          ∙ ap (λ (h : ℕ). with-row (at-start .args .nodes .now) (at-start .args .c .begun) h (at-start .args .x .coefficient) (at-start .args .name))
+          (after-head-word .head-word .ensures
+          ∙ head-word-is (Value.number (number-in (at-start .args .x))) refl (after-head-word .before .before .number-bits .ensures)
+          (after-head-word .before .number-length .ensures));
+      answer =
+          ap (λ (n : ℕ). Done (record { at = at-start .args .x .end; begun = at-start .args .c .begun + 1; top = at-start .args .c .top }) n)
+          (after-head-word .before .number-length .ensures);
+      short = plain-short (number-in (at-start .args .x)) (at-start .pre .2);
     }
 
 pub put-number-spec : {M : Type 1} → statement M
@@ -53,8 +58,5 @@ put-number-spec =
     number-bits-requires
     (λ c κs. search needs)
     head-word-requires
-    (λ c. search needs)
-    (λ c κs. search needs)
-    (λ c. search needs)
-    (λ c. search needs)
+    (λ c. search needs) (λ c κs. search needs) (λ c. search needs) (λ c. search needs)
     returns)

@@ -6,41 +6,65 @@ use Rattle.json.proofs.scalar.read_number_value.Statement.{statement}
 use Rattle.json.proofs.scalar.read_number_value.Tie as tie
 
 returns : tie.Need-returns
-returns c = λ pool. number-none (c .before .before .before .before .before .before .args .c) (c .before .before .before .before .before .before .pre .0) (c .before .before .before .before .before .before .pre .1) (c .before .before .before .read-number .ensures) pool (c .if1 .taken)
+returns c =
+    let at-start = c .before .before .before .before .before .before in
+    λ pool. number-none (at-start .args .c) (at-start .pre .0) (at-start .pre .1) (c .before .before .before .read-number .ensures) pool (c .if1 .taken)
 
 returns-2 : tie.Need-returns-2
 returns-2 c =
+    let after-read-number = c .before .before .before .before .before .before in
+    let at-start = after-read-number .before .before .before in
     λ pool.
-    number-beyond (c .before .before .before .before .before .before .before .before .before .args .c) (c .before .before .before .before .before .before .before .before .before .pre .0) (c .before .before .before .before .before .before .before .before .before .pre .1) (c .before .before .before .before .before .before .read-number .ensures) pool (c .before .before .before .if1 .left) (c .before .before .is-full .ensures) (c .before .if2 .taken)
+    number-beyond (at-start .args .c) (at-start .pre .0) (at-start .pre .1) (after-read-number .read-number .ensures) pool
+    (c .before .before .before .if1 .left) (c .before .before .is-full .ensures) (c .before .if2 .taken)
     (c .if3 .taken)
 
 returns-3 : tie.Need-returns-3
 returns-3 c =
+    let else1 = c .before .before .before .before in
+    let at-start = else1 .before .before .before .before .before .before in
     λ pool.
-    number-full (c .before .before .before .before .before .before .before .before .before .before .args .c) (c .before .before .before .before .before .before .before .before .before .before .pre .0) (c .before .before .before .before .before .before .before .before .before .before .pre .1) (c .before .before .before .before .before .before .before .read-number .ensures) pool (c .before .before .before .before .if1 .left) (c .before .before .before .is-full .ensures) (c .before .before .if2 .taken)
+    number-full (at-start .args .c) (at-start .pre .0) (at-start .pre .1) (else1 .before .before .before .read-number .ensures) pool (else1 .if1 .left)
+    (c .before .before .before .is-full .ensures) (c .before .before .if2 .taken)
     (c .before .if3 .left) (c .if4 .taken)
 
 put-number-requires : tie.Need-put-number-requires
 put-number-requires c κs =
-    let free = c .before .before .before .before .is-full .ensures .within (c .before .if4 .left) in
-    (omega (arith, free .0, c .before .before .before .before .before .before .before .before .before .before .before .pre .0 .rows), omega (arith, free .0, c .before .before .before .before .before .before .before .before .before .before .before .pre .0 .few), number-bounded (c .before .before .before .before .before .before .before .before .read-number .ensures) (c .before .before .if3 .left))
+    let after-is-full = c .before .before .before .before in
+    let after-read-number = after-is-full .before .before .before .before in
+    let at-start = after-read-number .before .before .before in
+    let free = after-is-full .is-full .ensures .within (c .before .if4 .left) in (
+      omega (arith, free .0, at-start .pre .0 .rows),
+      omega (arith, free .0, at-start .pre .0 .few),
+      number-bounded (after-read-number .read-number .ensures) (c .before .before .if3 .left),
+    )
 
 returns-4 : tie.Need-returns-4
 returns-4 c =
+    let else4 = c .before .before .before .before in
+    let else1 = else4 .before .before .before .before in
+    let at-start = else1 .before .before .before .before .before .before in
     λ pool.
-    number-read (c .before .before .before .before .before .before .before .before .before .before .before .before .before .before .args .c) (c .before .before .before .before .before .before .before .before .before .before .before .before .before .before .pre .0) (c .before .before .before .before .before .before .before .before .before .before .before .before .before .before .pre .1) (c .before .before .before .before .before .before .before .before .before .before .before .read-number .ensures) pool (c .before .before .before .before .before .before .before .before .if1 .left) (c .before .before .before .before .before .before .before .is-full .ensures) (c .before .before .before .before .before .before .if2 .taken)
-    (c .before .before .before .before .before .if3 .left) (c .before .before .before .before .if4 .left) (c .before .before .put-number .ensures)
+    number-read (at-start .args .c) (at-start .pre .0) (at-start .pre .1) (else1 .before .before .before .read-number .ensures) pool (else1 .if1 .left)
+    (else4 .before .before .before .is-full .ensures) (else4 .before .before .if2 .taken)
+    (else4 .before .if3 .left) (else4 .if4 .left) (c .before .before .put-number .ensures)
 
 returns-5 : tie.Need-returns-5
 returns-5 c =
+    let after-read-number = c .before .before .before .before .before .before in
+    let at-start = after-read-number .before .before .before in
     λ pool.
-    number-broken-full (c .before .before .before .before .before .before .before .before .before .args .c) (c .before .before .before .before .before .before .before .before .before .pre .0) (c .before .before .before .before .before .before .before .before .before .pre .1) (c .before .before .before .before .before .before .read-number .ensures) pool (c .before .before .before .if1 .left) (c .before .before .is-full .ensures) (c .before .if2 .left)
+    number-broken-full (at-start .args .c) (at-start .pre .0) (at-start .pre .1) (after-read-number .read-number .ensures) pool
+    (c .before .before .before .if1 .left) (c .before .before .is-full .ensures) (c .before .if2 .left)
     (c .if5 .taken)
 
 returns-6 : tie.Need-returns-6
 returns-6 c =
+    let after-read-number = c .before .before .before .before .before .before in
+    let at-start = after-read-number .before .before .before in
     λ pool.
-    number-broken (c .before .before .before .before .before .before .before .before .before .args .c) (c .before .before .before .before .before .before .before .before .before .pre .0) (c .before .before .before .before .before .before .before .before .before .pre .1) (c .before .before .before .before .before .before .read-number .ensures) pool (c .before .before .before .if1 .left) (c .before .before .is-full .ensures) (c .before .if2 .left)
+    number-broken (at-start .args .c) (at-start .pre .0) (at-start .pre .1) (after-read-number .read-number .ensures) pool
+    (c .before .before .before .if1 .left) (c .before .before .is-full .ensures) (c .before .if2 .left)
     (c .if5 .left)
 
 pub read-number-value-spec : {M : Type 1} → statement M

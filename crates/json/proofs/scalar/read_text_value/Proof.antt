@@ -2,7 +2,7 @@
 use borrow.Author.Needs.{needs}
 use Prim.Native.Nat.{ℕ, _+_, _≤_, _<_}
 use mathlib.Core.Bool.{Bool}
-use mathlib.Core.Path.{ap, ap₂, _∙_, subst}
+use mathlib.Core.Path.{ap₂, _∙_, subst}
 use native.Mathlib.Omega.{arith}
 use Rattle.nodes.specs.Nodes.{reference}
 use Rattle.text.specs.TextRead.{Text-answer, Text-closed}
@@ -15,28 +15,51 @@ use Rattle.json.proofs.scalar.read_text_value.Tie as tie
 
 returns : tie.Need-returns
 returns c =
-    text-full (c .before .before .before .before .before .args .c) (c .before .before .before .before .before .pre .0) (c .before .before .before .before .before .pre .1)
-    (subst (λ (b : Bool). Judges (c .before .before .before .before .before .args .values) (c .before .before .before .before .before .args .left) (c .before .before .before .before .before .args .c .begun) b) (c .if1 .taken) (c .before .is-full .ensures))
+    let at-start = c .before .before .before .before .before in
+    text-full (at-start .args .c) (at-start .pre .0) (at-start .pre .1)
+    (subst (λ (b : Bool). Judges (at-start .args .values) (at-start .args .left) (at-start .args .c .begun) b) (c .if1 .taken) (c .before .is-full .ensures))
 
 read-text-requires : tie.Need-read-text-requires
-read-text-requires c κs = text-room (c .before .before .before .before .before .before .before .args .c) (c .before .before .before .before .before .before .before .pre .0) (c .before .before .before .before .before .before .before .pre .1)
+read-text-requires c κs =
+    let at-start = c .before .before .before .before .before .before .before in
+    text-room (at-start .args .c) (at-start .pre .0) (at-start .pre .1)
     (c .before .before .before .is-full .ensures .within (c .before .before .if1 .left) .0)
 
 -- the text that was read
 abbrev closed
     : (c : tie.After-known-told)
-    → Text-closed (c .before .before .before .before .before .before .before .before .before .before .before .before .before .args .doc .now) (c .before .before .before .before .before .before .before .before .before .before .before .before .before .args .c .at + 1) (c .before .before .before .before .before .read-text .last .1 .1 .0) (c .before .before .before .before .before .before .before .before .before .before .before .before .before .args .c .top) (c .before .end .given .0 .0) (c .before .end .given .0 .1 .0) (c .before .end .given .0 .1 .1 .0)
-closed c = subst (λ (r : TextRead). Text-answer (c .before .before .before .before .before .before .before .before .before .before .before .before .before .args .doc .now) (c .before .before .before .before .before .before .before .before .before .before .before .before .before .args .c .at + 1) (c .before .before .before .before .before .read-text .last .1 .1 .0) (c .before .before .before .before .before .before .before .before .before .before .before .before .before .args .c .top) r) (c .before .end .given .1) (c .before .before .before .before .before .read-text .ensures .answer)
+    → let after-read-text = c .before .before .before .before .before in
+    let at-start = after-read-text .before .before .before .before .before .before .before .before in
+    Text-closed (at-start .args .doc .now) (at-start .args .c .at + 1) (after-read-text .read-text .last .1 .1 .0) (at-start .args .c .top)
+    (c .before .end .given .0 .0) (c .before .end .given .0 .1 .0) (c .before .end .given .0 .1 .1 .0)
+closed c =
+    let after-read-text = c .before .before .before .before .before in
+    let at-start = after-read-text .before .before .before .before .before .before .before .before in
+    subst (λ (r : TextRead).
+    Text-answer (at-start .args .doc .now) (at-start .args .c .at + 1) (after-read-text .read-text .last .1 .1 .0) (at-start .args .c .top) r)
+    (c .before .end .given .1) (after-read-text .read-text .ensures .answer)
 
 -- what is used of the pool is little
 small
     : (c : tie.After-known-told)
-    → (c .before .before .before .before .before .before .before .before .before .before .before .before .before .args .c .top < 65536) × (c .before .end .given .0 .1 .0 ≤ 65536) × (c .before .end .given .0 .1 .1 .0 ≤ 65536)
-small c = (
-  omega (arith, c .before .before .before .before .before .before .before .before .before .before .before .before .before .pre .0 .room, c .before .before .before .before .before .before .before .before .before .before .before .before .before .pre .0 .low, c .before .before .before .before .before .before .before .before .before .before .before .before .before .pre .0 .placed .within, c .before .before .before .before .before .before .before .before .before .before .before .before .before .pre .0 .placed .short, c .before .before .before .before .before .before .before .before .before .before .before .before .before .pre .0 .placed .limit, c .before .before .before .before .before .before .before .before .before .before .before .before .before .pre .0 .placed .few),
-  omega (arith, closed c .shorter, closed c .within, c .before .before .before .before .before .before .before .before .before .before .before .before .before .pre .0 .placed .short),
-  omega (arith, closed c .bounded, closed c .within, c .before .before .before .before .before .before .before .before .before .before .before .before .before .pre .0 .placed .short),
-)
+    → let after-read-text-arg = c .before .before .before .before .before .before in
+    let at-start = after-read-text-arg .before .before .before .before .before .before .before in
+    (at-start .args .c .top < 65536) × (c .before .end .given .0 .1 .0 ≤ 65536) × (c .before .end .given .0 .1 .1 .0 ≤ 65536)
+small c =
+    let after-read-text-arg = c .before .before .before .before .before .before in
+    let at-start = after-read-text-arg .before .before .before .before .before .before .before in (
+      omega (
+        arith,
+        at-start .pre .0 .room,
+        at-start .pre .0 .low,
+        at-start .pre .0 .placed .within,
+        at-start .pre .0 .placed .short,
+        at-start .pre .0 .placed .limit,
+        at-start .pre .0 .placed .few,
+      ),
+      omega (arith, closed c .shorter, closed c .within, at-start .pre .0 .placed .short),
+      omega (arith, closed c .bounded, closed c .within, at-start .pre .0 .placed .short),
+    )
 
 text-reference-requires : tie.Need-text-reference-requires
 unfolding reference
@@ -47,31 +70,55 @@ head-word-requires c κs = omega (arith, small (c .before) .2)
 
 put-row-requires : tie.Need-put-row-requires
 put-row-requires c κs =
-    let free = c .before .before .before .before .before .before .before .before .before .before .before .before .before .is-full .ensures .within (c .before .before .before .before .before .before .before .before .before .before .before .before .if1 .left) in
-    omega (arith, free .0, c .before .before .before .before .before .before .before .before .before .before .before .before .before .before .before .before .before .pre .0 .placed .rows)
+    let after-end = c .before .before .before .before .before in
+    let else1 = after-end .before .before .before .before .before .before .before in
+    let at-start = else1 .before .before .before .before .before in
+    let free = else1 .before .is-full .ensures .within (else1 .if1 .left) in
+    omega (arith, free .0, at-start .pre .0 .placed .rows)
 
 add-t24 : tie.Need-add-t24
-add-t24 c = omega (arith, c .before .before .before .before .before .before .before .before .before .before .before .before .before .before .before .before .before .before .before .before .before .pre .0 .placed .few, c .before .before .before .before .before .before .before .before .before .before .before .before .before .before .before .before .before .before .before .before .before .pre .0 .placed .limit)
+add-t24 c =
+    let after-end = c .before .before .before .before .before .before .before .before .before in
+    let after-read-text-arg = after-end .before .before .before .before .before in
+    let at-start = after-read-text-arg .before .before .before .before .before .before .before in
+    omega (arith, at-start .pre .0 .placed .few, at-start .pre .0 .placed .limit)
 
 add-t25 : tie.Need-add-t25
-add-t25 c = omega (arith, small (c .before .before .before .before .before .before .before .before) .1)
+add-t25 c =
+    let after-known-told = c .before .before .before .before .before .before .before .before in
+    omega (arith, small after-known-told .1)
 
 add-t27 : tie.Need-add-t27
-add-t27 c = omega (arith, small (c .before .before .before .before .before .before .before .before .before) .0, small (c .before .before .before .before .before .before .before .before .before) .1)
+add-t27 c =
+    let after-known-told = c .before .before .before .before .before .before .before .before .before in
+    omega (arith, small after-known-told .0, small after-known-told .1)
 
 returns-2 : tie.Need-returns-2
 returns-2 c =
-    text-read (c .before .before .before .before .before .before .before .before .before .before .before .before .before .before .before .before .before .before .before .before .before .before .args .c) (c .before .before .before .before .before .before .before .before .before .before .before .before .before .before .before .before .before .before .before .before .before .before .pre .0) (c .before .before .before .before .before .before .before .before .before .before .before .before .before .before .before .before .before .before .before .before .before .before .pre .1) (c .before .before .before .before .before .before .before .before .before .before .before .before .before .before .read-text .ensures .kept) (c .before .before .before .before .before .before .before .before .before .before .before .before .before .before .read-text .ensures .front)
-    (subst (λ (b : Bool). Judges (c .before .before .before .before .before .before .before .before .before .before .before .before .before .before .before .before .before .before .before .before .before .before .args .values) (c .before .before .before .before .before .before .before .before .before .before .before .before .before .before .before .before .before .before .before .before .before .before .args .left) (c .before .before .before .before .before .before .before .before .before .before .before .before .before .before .before .before .before .before .before .before .before .before .args .c .begun) b) (c .before .before .before .before .before .before .before .before .before .before .before .before .before .before .before .before .before .if1 .left) (c .before .before .before .before .before .before .before .before .before .before .before .before .before .before .before .before .before .before .is-full .ensures))
-    (closed (c .before .before .before .before .before .before .before .before .before))
-    (c .before .before .before .before .put-row .ensures
-    ∙ ap₂ (λ (h x : ℕ). with-row (c .before .before .before .before .before .before .before .before .before .before .before .before .before .before .before .before .before .before .before .before .before .before .args .nodes .now) (c .before .before .before .before .before .before .before .before .before .before .before .before .before .before .before .before .before .before .before .before .before .before .args .c .begun) h x (c .before .before .before .before .before .before .before .before .before .before .before .before .before .before .before .before .before .before .before .before .before .before .args .name)) (c .before .before .before .before .before .before .before .head-word .ensures) (c .before .before .before .before .before .before .before .before .text-reference .ensures))
+    let after-put-row = c .before .before .before .before in
+    let after-text-reference = after-put-row .before .before .before .before in
+    let after-read-text = after-text-reference .before .before .before .before .before .before in
+    let after-is-full = after-read-text .before .before .before .before in
+    let at-start = after-is-full .before .before .before .before in
+    text-read (at-start .args .c) (at-start .pre .0) (at-start .pre .1) (after-read-text .read-text .ensures .kept) (after-read-text .read-text .ensures .front)
+    (subst (λ (b : Bool). Judges (at-start .args .values) (at-start .args .left) (at-start .args .c .begun) b)
+    (after-read-text .before .before .before .if1 .left) (after-is-full .is-full .ensures))
+    (closed (after-text-reference .before))
+    (after-put-row .put-row .ensures
+    ∙ ap₂ (λ (h x : ℕ). with-row (at-start .args .nodes .now) (at-start .args .c .begun) h x (at-start .args .name))
+    (after-put-row .before .before .before .head-word .ensures) (after-text-reference .text-reference .ensures))
 
 returns-3 : tie.Need-returns-3
 returns-3 c =
-    text-broken (c .before .before .before .before .before .before .before .before .before .before .before .before .before .args .c) (c .before .before .before .before .before .before .before .before .before .before .before .before .before .pre .0) (c .before .before .before .before .before .before .before .before .before .before .before .before .before .pre .1) (c .before .before .before .before .before .read-text .ensures .kept)
-    (subst (λ (b : Bool). Judges (c .before .before .before .before .before .before .before .before .before .before .before .before .before .args .values) (c .before .before .before .before .before .before .before .before .before .before .before .before .before .args .left) (c .before .before .before .before .before .before .before .before .before .before .before .before .before .args .c .begun) b) (c .before .before .before .before .before .before .before .before .if1 .left) (c .before .before .before .before .before .before .before .before .before .is-full .ensures))
-    (subst (λ (r : TextRead). Text-answer (c .before .before .before .before .before .before .before .before .before .before .before .before .before .args .doc .now) (c .before .before .before .before .before .before .before .before .before .before .before .before .before .args .c .at + 1) (c .before .before .before .before .before .read-text .last .1 .1 .0) (c .before .before .before .before .before .before .before .before .before .before .before .before .before .args .c .top) r) (c .before .place .given .1) (c .before .before .before .before .before .read-text .ensures .answer))
+    let after-read-text = c .before .before .before .before .before in
+    let after-is-full = after-read-text .before .before .before .before in
+    let at-start = after-is-full .before .before .before .before in
+    text-broken (at-start .args .c) (at-start .pre .0) (at-start .pre .1) (after-read-text .read-text .ensures .kept)
+    (subst (λ (b : Bool). Judges (at-start .args .values) (at-start .args .left) (at-start .args .c .begun) b)
+    (after-read-text .before .before .before .if1 .left) (after-is-full .is-full .ensures))
+    (subst (λ (r : TextRead).
+    Text-answer (at-start .args .doc .now) (at-start .args .c .at + 1) (after-read-text .read-text .last .1 .1 .0) (at-start .args .c .top) r)
+    (c .before .place .given .1) (after-read-text .read-text .ensures .answer))
 
 pub read-text-value-spec : {M : Type 1} → statement M
 read-text-value-spec =
@@ -89,9 +136,7 @@ read-text-value-spec =
     add-t24
     add-t25
     add-t27
-    (λ c. search needs)
-    (λ c. search needs)
-    (λ c. search needs)
+    (λ c. search needs) (λ c. search needs) (λ c. search needs)
     returns-2
     (λ c. search needs)
     returns-3)

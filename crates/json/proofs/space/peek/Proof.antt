@@ -11,7 +11,9 @@ cast-result : tie.Need-cast-result
 cast-result c = omega (arith, c .shared-slice-known .given (c .before .before .args .i))
 
 returns : tie.Need-returns
-returns c = getD-any (c .before .before .args .doc .now) (c .before .before .args .i) 0 256 (c .before .if1 .taken)
+returns c =
+    let at-start = c .before .before in
+    getD-any (at-start .args .doc .now) (at-start .args .i) 0 256 (c .before .if1 .taken)
 
 returns-2 : tie.Need-returns-2
 returns-2 c = sym (List·getD-eq-default (c .before .args .doc .now) 256 (c .if1 .left))

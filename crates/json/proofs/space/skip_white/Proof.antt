@@ -23,13 +23,17 @@ loop-holds c = skipping (c .before .pre)
 -- the byte at i is white
 abbrev is-so
     : (c : tie.Then1 Inv-loop μ-loop)
-    → white (getD (c .before .before .before .before .before .args .doc .now) (c .before .before .before .loop .i) 256) ≡ true
+    → let at-start = c .before .before .before .before .before in
+    white (getD (at-start .args .doc .now) (c .before .before .before .loop .i) 256) ≡ true
 is-so c = sym (c .before .is-white .ensures ∙ ap white (c .before .before .peek .ensures)) ∙ c .if1 .taken
 
 inside
     : (c : tie.Then1 Inv-loop μ-loop)
-    → c .before .before .before .loop .i < length (c .before .before .before .before .before .args .doc .now)
-inside c = white-inside (c .before .before .before .before .before .args .doc .now) (c .before .before .before .loop .i) (is-so c)
+    → let at-start = c .before .before .before .before .before in
+    c .before .before .before .loop .i < length (at-start .args .doc .now)
+inside c =
+    let at-start = c .before .before .before .before .before in
+    white-inside (at-start .args .doc .now) (c .before .before .before .loop .i) (is-so c)
 
 add-i : tie.Need-add-i Inv-loop μ-loop
 add-i c = omega (arith, inside c)
@@ -57,8 +61,7 @@ skip-white-spec =
     Inv-loop
     μ-loop
     loop-holds
-    (λ c κs. search needs)
-    (λ c κs. search needs)
+    (λ c κs. search needs) (λ c κs. search needs)
     add-i
     loop-less
     loop-again

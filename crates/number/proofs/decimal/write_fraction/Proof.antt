@@ -19,20 +19,22 @@ write-digits-requires c κs =
 
 slice-write-out : tie.Need-slice-write-out
 slice-write-out c =
-    let start = c .before .before .before .before .before .before in
+    let else1 = c .before .before .before .before in
+    let start = else1 .before .before in
     let a = start .args in
     omega (
       arith,
-      fraction-room (now (a .out)) (a .at) (a .scale) (a .coefficient) (c .before .before .before .before .if1 .left) (start .pre),
+      fraction-room (now (a .out)) (a .at) (a .scale) (a .coefficient) (else1 .if1 .left) (start .pre),
       c .before .before .write-digits .kept .0,
     )
 
 returns-2 : tie.Need-returns-2
 returns-2 c =
-    let start = c .before .before .before .before .before .before in
+    let else1 = c .before .before .before .before in
+    let start = else1 .before .before in
     let a = start .args in
     fraction-written (now (a .out)) (a .at) (a .scale) (a .coefficient)
-    (c .before .before .before .before .if1 .left)
+    (else1 .if1 .left)
     (start .pre)
     (c .before .before .write-digits .ensures)
 

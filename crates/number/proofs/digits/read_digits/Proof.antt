@@ -38,7 +38,9 @@ loop-again c =
     (c .shifted-on .ensures)
 
 returns : tie.Need-returns Inv-loop μ-loop
-returns c = c .before .before .before .before .loop .inv
+returns c =
+    let at-loop = c .before .before .before .before in
+    at-loop .loop .inv
 
 returns-2 : tie.Need-returns-2 Inv-loop μ-loop
 returns-2 c = c .before .loop .inv

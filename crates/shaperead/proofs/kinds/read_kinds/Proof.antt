@@ -23,57 +23,63 @@ loop-holds : tie.Need-loop-holds Inv-loop μ-loop
 loop-holds c = (no-kinds (c .before .before .pre .within), record { size = refl; front = refl })
 
 next-requires : tie.Need-next-requires Inv-loop μ-loop
-next-requires c κs = next-room (placed-further (c .before .before .before .before .pre) (c .before .loop .inv .1) (c .before .loop .inv .0 .ahead) (c .before .loop .inv .0 .within))
-
-enum-known-t : tie.Need-enum-known-t Inv-loop μ-loop
-enum-known-t c = search needs
-
-same-length : tie.Need-same-length Inv-loop μ-loop
-same-length c = search needs
+next-requires c κs =
+    let at-start = c .before .before .before .before in
+    next-room (placed-further (at-start .pre) (c .before .loop .inv .1) (c .before .loop .inv .0 .ahead) (c .before .loop .inv .0 .within))
 
 returns : tie.Need-returns Inv-loop μ-loop
 returns c =
+    let after-next = c .before .before .before in
+    let at-loop = after-next .before .before in
     record {
-      answer = kinds-end (c .before .before .before .before .before .loop .inv .0) (c .before .before .before .next .ensures) (c .match .keys2);
-      kept = kept-then (c .before .before .before .before .before .loop .inv .1) (next-kept (c .before .before .before .next .ensures));
+      answer = kinds-end (at-loop .loop .inv .0) (after-next .next .ensures) (c .match .keys2);
+      kept = kept-then (at-loop .loop .inv .1) (next-kept (after-next .next .ensures));
     }
 
 kind-of-requires : tie.Need-kind-of-requires Inv-loop μ-loop
 kind-of-requires c κs =
-    let f = found-word (c .before .before .before .before .before .next .ensures) (c .before .t .given .1) in (omega (arith, f .ahead), f .within)
-
-may-come-requires : tie.Need-may-come-requires Inv-loop μ-loop
-may-come-requires c κs = search needs
+    let after-next = c .before .before .before .before .before in
+    let f = found-word (after-next .next .ensures) (c .before .t .given .1) in (omega (arith, f .ahead), f .within)
 
 add-kinds : tie.Need-add-kinds Inv-loop μ-loop
 add-kinds c =
+    let after-kind-of = c .before .before in
+    let after-next = after-kind-of .before .before .before .before .before .before in
+    let at-loop = after-next .before .before in
     omega (
       arith,
-      held-small (one-kind (c .before .before .before .before .before .before .before .before .before .before .loop .inv .0) (found-word (c .before .before .before .before .before .before .before .before .next .ensures) (c .before .before .before .before .t .given .1)) (c .before .before .kind-of .ensures)
-          (subst (λ (b : Bool). Follows (c .before .before .before .before .before .before .before .before .before .before .loop .kinds) (c .before .before .kind-of .result) b) (c .if1 .taken) (c .before .may-come .ensures)) .held),
+      held-small (one-kind (at-loop .loop .inv .0) (found-word (after-next .next .ensures) (after-kind-of .before .before .t .given .1))
+          (after-kind-of .kind-of .ensures)
+          (subst (λ (b : Bool). Follows (at-loop .loop .kinds) (after-kind-of .kind-of .result) b) (c .if1 .taken) (c .before .may-come .ensures)) .held),
     )
 
 loop-less : tie.Need-loop-less Inv-loop μ-loop
 loop-less c =
-    let f = found-word (c .before .before .before .before .before .before .before .before .next .ensures) (c .before .before .before .before .t .given .1) in omega (arith, f .from, f .ahead, f .within)
+    let after-t = c .before .before .before .before in
+    let after-next = after-t .before .before .before .before in
+    let f = found-word (after-next .next .ensures) (after-t .t .given .1) in omega (arith, f .from, f .ahead, f .within)
 
 loop-again : tie.Need-loop-again Inv-loop μ-loop
-loop-again c = (
-  one-kind (c .before .before .before .before .before .before .before .before .before .before .loop .inv .0) (found-word (c .before .before .before .before .before .before .before .before .next .ensures) (c .before .before .before .before .t .given .1)) (c .before .before .kind-of .ensures)
-      (subst (λ (b : Bool). Follows (c .before .before .before .before .before .before .before .before .before .before .loop .kinds) (c .before .before .kind-of .result) b) (c .if1 .taken) (c .before .may-come .ensures)),
-  kept-then (c .before .before .before .before .before .before .before .before .before .before .loop .inv .1) (next-kept (c .before .before .before .before .before .before .before .before .next .ensures)),
-)
-
-same-length-2 : tie.Need-same-length-2 Inv-loop μ-loop
-same-length-2 c = search needs
+loop-again c =
+    let after-kind-of = c .before .before in
+    let after-next = after-kind-of .before .before .before .before .before .before in
+    let at-loop = after-next .before .before in (
+      one-kind (at-loop .loop .inv .0) (found-word (after-next .next .ensures) (after-kind-of .before .before .t .given .1)) (after-kind-of .kind-of .ensures)
+          (subst (λ (b : Bool). Follows (at-loop .loop .kinds) (after-kind-of .kind-of .result) b) (c .if1 .taken) (c .before .may-come .ensures)),
+      kept-then (at-loop .loop .inv .1) (next-kept (after-next .next .ensures)),
+    )
 
 returns-2 : tie.Need-returns-2 Inv-loop μ-loop
 returns-2 c =
+    let after-kind-of = c .before .before in
+    let after-next = after-kind-of .before .before .before .before .before .before in
+    let at-loop = after-next .before .before in
     record {
       answer =
-          no-kind-word (c .before .before .before .before .before .before .before .before .before .before .loop .inv .0) (found-word (c .before .before .before .before .before .before .before .before .next .ensures) (c .before .before .before .before .t .given .1)) (c .before .before .kind-of .ensures)
-          (subst (λ (b : Bool). Follows (c .before .before .before .before .before .before .before .before .before .before .loop .kinds) (c .before .before .kind-of .result) b) (c .if1 .left) (c .before .may-come .ensures));
-      kept = kept-then (c .before .before .before .before .before .before .before .before .before .before .loop .inv .1) (next-kept (c .before .before .before .before .before .before .before .before .next .ensures));
+          no-kind-word (at-loop .loop .inv .0) (found-word (after-next .next .ensures) (after-kind-of .before .before .t .given .1))
+          (after-kind-of .kind-of .ensures)
+          (subst (λ (b : Bool). Follows (at-loop .loop .kinds) (after-kind-of .kind-of .result) b) (c .if1 .left) (c .before .may-come .ensures));
+      kept = kept-then (at-loop .loop .inv .1) (next-kept (after-next .next .ensures));
     }
 
 pub read-kinds-spec : {M : Type 1} → statement M
@@ -84,13 +90,12 @@ read-kinds-spec =
     μ-loop
     loop-holds
     next-requires
-    enum-known-t
-    same-length
+    (λ c. search needs) (λ c. search needs)
     returns
     kind-of-requires
-    may-come-requires
+    (λ c κs. search needs)
     add-kinds
     loop-less
     loop-again
-    same-length-2
+    (λ c. search needs)
     returns-2)

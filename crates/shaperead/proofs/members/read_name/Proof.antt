@@ -5,59 +5,39 @@ use Rattle.shaperead.proofs.MemberReading.{no-member-word, name-room, n
 use Rattle.shaperead.proofs.members.read_name.Statement.{statement}
 use Rattle.shaperead.proofs.members.read_name.Tie as tie
 
-slice-aggregate-expect : tie.Need-slice-aggregate-expect
-slice-aggregate-expect c = search needs
-
-expect-requires : tie.Need-expect-requires
-expect-requires c κs = search needs
-
-enum-known-behind : tie.Need-enum-known-behind
-enum-known-behind c = search needs
-
 next-requires : tie.Need-next-requires
-next-requires c κs = next-room (name-room (c .before .before .before .before .before .before .expect .ensures) (c .before .before .behind .given .1) (c .before .before .before .before .before .before .before .before .before .before .before .pre))
-
-enum-known-t : tie.Need-enum-known-t
-enum-known-t c = search needs
-
-place-requires : tie.Need-place-requires
-place-requires c κs = search needs
-
-same-length : tie.Need-same-length
-same-length c = search needs
+next-requires c κs =
+    let after-expect = c .before .before .before .before .before .before in
+    let at-start = after-expect .before .before .before .before .before in
+    next-room (name-room (after-expect .expect .ensures) (c .before .before .behind .given .1) (at-start .pre))
 
 returns : tie.Need-returns
-returns c = no-name (c .before .before .before .before .before .before .before .before .before .before .before .expect .ensures) (c .before .before .before .before .before .before .before .behind .given .1) (c .before .before .before .before .next .ensures) (c .before .match2 .keys2) (c .place .ensures)
-
-enum-known-place : tie.Need-enum-known-place
-enum-known-place c = search needs
-
-same-length-2 : tie.Need-same-length-2
-same-length-2 c = search needs
+returns c =
+    let after-next = c .before .before .before .before in
+    let after-expect = after-next .before .before .before .before .before .before .before in
+    no-name (after-expect .expect .ensures) (after-next .before .before .before .behind .given .1) (after-next .next .ensures)
+    (c .before .match2 .keys2) (c .place .ensures)
 
 returns-2 : tie.Need-returns-2
-returns-2 c = a-name (c .before .before .before .before .before .before .before .before .before .before .before .before .expect .ensures) (c .before .before .before .before .before .before .before .before .behind .given .1) (c .before .before .before .before .before .next .ensures) (c .before .t .given .1)
-
-same-length-3 : tie.Need-same-length-3
-same-length-3 c = search needs
+returns-2 c =
+    let after-next = c .before .before .before .before .before in
+    let after-expect = after-next .before .before .before .before .before .before .before in
+    a-name (after-expect .expect .ensures) (after-next .before .before .before .behind .given .1) (after-next .next .ensures) (c .before .t .given .1)
 
 returns-3 : tie.Need-returns-3
-returns-3 c = no-member-word (c .before .before .before .before .before .expect .ensures) (c .before .place2 .given .1)
+returns-3 c =
+    let after-expect = c .before .before .before .before .before in
+    no-member-word (after-expect .expect .ensures) (c .before .place2 .given .1)
 
 pub read-name-spec : {M : Type 1} → statement M
 read-name-spec =
     tie.close
     (tie.spec
-    slice-aggregate-expect
-    expect-requires
-    enum-known-behind
+    (λ c. search needs) (λ c κs. search needs) (λ c. search needs)
     next-requires
-    enum-known-t
-    place-requires
-    same-length
+    (λ c. search needs) (λ c κs. search needs) (λ c. search needs)
     returns
-    enum-known-place
-    same-length-2
+    (λ c. search needs) (λ c. search needs)
     returns-2
-    same-length-3
+    (λ c. search needs)
     returns-3)

@@ -12,80 +12,74 @@ use Rattle.shaperead.proofs.opening.begin.Tie as tie
 next-requires : tie.Need-next-requires
 next-requires c κs = next-room (c .before .before .before .pre)
 
-enum-known-t : tie.Need-enum-known-t
-enum-known-t c = search needs
-
-place-requires : tie.Need-place-requires
-place-requires c κs = search needs
-
-same-length : tie.Need-same-length
-same-length c = search needs
-
 returns : tie.Need-returns
-returns c = bracket-missing (c .before .before .before .before .before .before .before .before .args .values) (c .before .before .before .before .before .before .before .before .args .left) (c .before .before .before .before .before .before .before .before .args .c) (c .before .before .before .before .next .ensures) (c .before .match .keys2) (c .place .ensures)
-
-is-full-requires : tie.Need-is-full-requires
-is-full-requires c κs = search needs
-
-same-length-2 : tie.Need-same-length-2
-same-length-2 c = search needs
+returns c =
+    let after-next = c .before .before .before .before in
+    let at-start = after-next .before .before .before .before in
+    bracket-missing (at-start .args .values) (at-start .args .left) (at-start .args .c) (after-next .next .ensures)
+    (c .before .match .keys2) (c .place .ensures)
 
 returns-2 : tie.Need-returns-2
 returns-2 c =
-    bracket-full (c .before .before .before .before .before .before .before .before .before .before .before .args .values) (c .before .before .before .before .before .before .before .before .before .before .before .args .left) (c .before .before .before .before .before .before .before .before .before .before .before .args .c) (c .before .before .before .before .before .before .before .next .ensures) (c .before .before .before .t .given .1)
-    (subst (λ (b : Bool). Judges (c .before .before .before .before .before .before .before .before .before .before .before .args .values) (c .before .before .before .before .before .before .before .before .before .before .before .args .left) (c .before .before .before .before .before .before .before .before .before .before .before .args .c .begun) b) (c .if1 .taken) (c .before .is-full .ensures))
+    let after-next = c .before .before .before .before .before .before .before in
+    let at-start = after-next .before .before .before .before in
+    bracket-full (at-start .args .values) (at-start .args .left) (at-start .args .c) (after-next .next .ensures) (c .before .before .before .t .given .1)
+    (subst (λ (b : Bool). Judges (at-start .args .values) (at-start .args .left) (at-start .args .c .begun) b) (c .if1 .taken) (c .before .is-full .ensures))
 
 add-expect : tie.Need-add-expect
-add-expect c = omega (arith, c .before .before .before .before .before .before .before .before .before .before .before .before .pre .short, bracket-room (c .before .before .before .before .before .before .before .before .before .before .before .before .args .values) (c .before .before .before .before .before .before .before .before .before .before .before .before .args .left) (c .before .before .before .before .before .before .before .before .before .before .before .before .args .c) (c .before .before .before .before .before .before .before .before .next .ensures) (c .before .before .before .before .t .given .1) (c .before .before .before .before .before .before .before .before .before .before .before .before .pre) .within)
-
-slice-aggregate-expect : tie.Need-slice-aggregate-expect
-slice-aggregate-expect c = search needs
+add-expect c =
+    let after-t = c .before .before .before .before in
+    let after-next = after-t .before .before .before .before in
+    let at-start = after-next .before .before .before .before in
+    omega (
+      arith,
+      at-start .pre .short,
+      bracket-room (at-start .args .values) (at-start .args .left) (at-start .args .c) (after-next .next .ensures) (after-t .t .given .1)
+          (at-start .pre) .within,
+    )
 
 expect-requires : tie.Need-expect-requires
-expect-requires c κs = bracket-room (c .before .before .before .before .before .before .before .before .before .before .before .before .before .args .values) (c .before .before .before .before .before .before .before .before .before .before .before .before .before .args .left) (c .before .before .before .before .before .before .before .before .before .before .before .before .before .args .c) (c .before .before .before .before .before .before .before .before .before .next .ensures) (c .before .before .before .before .before .t .given .1) (c .before .before .before .before .before .before .before .before .before .before .before .before .before .pre)
-
-enum-known-end : tie.Need-enum-known-end
-enum-known-end c = search needs
-
-enum-known-place : tie.Need-enum-known-place
-enum-known-place c = search needs
-
-same-length-3 : tie.Need-same-length-3
-same-length-3 c = search needs
+expect-requires c κs =
+    let after-t = c .before .before .before .before .before in
+    let after-next = after-t .before .before .before .before in
+    let at-start = after-next .before .before .before .before in
+    bracket-room (at-start .args .values) (at-start .args .left) (at-start .args .c) (after-next .next .ensures) (after-t .t .given .1) (at-start .pre)
 
 returns-3 : tie.Need-returns-3
 returns-3 c =
-    shape-begun (c .before .before .before .before .before .before .before .before .before .before .before .before .before .before .before .before .before .before .before .args .values) (c .before .before .before .before .before .before .before .before .before .before .before .before .before .before .before .before .before .before .before .args .left) (c .before .before .before .before .before .before .before .before .before .before .before .before .before .before .before .before .before .before .before .args .c) (c .before .before .before .before .before .before .before .before .before .before .before .before .before .before .before .next .ensures) (c .before .before .before .before .before .before .before .before .before .before .before .t .given .1)
-    (subst (λ (b : Bool). Judges (c .before .before .before .before .before .before .before .before .before .before .before .before .before .before .before .before .before .before .before .args .values) (c .before .before .before .before .before .before .before .before .before .before .before .before .before .before .before .before .before .before .before .args .left) (c .before .before .before .before .before .before .before .before .before .before .before .before .before .before .before .before .before .before .before .args .c .begun) b) (c .before .before .before .before .before .before .before .before .if1 .left) (c .before .before .before .before .before .before .before .before .before .is-full .ensures))
-    (c .before .before .before .before .before .expect .ensures) (c .before .end .given .1)
-
-same-length-4 : tie.Need-same-length-4
-same-length-4 c = search needs
+    let after-expect = c .before .before .before .before .before in
+    let after-is-full = after-expect .before .before .before .before in
+    let after-next = after-is-full .before .before .before .before .before .before in
+    let at-start = after-next .before .before .before .before in
+    shape-begun (at-start .args .values) (at-start .args .left) (at-start .args .c) (after-next .next .ensures) (after-is-full .before .before .t .given .1)
+    (subst (λ (b : Bool). Judges (at-start .args .values) (at-start .args .left) (at-start .args .c .begun) b) (after-expect .before .before .before .if1 .left)
+    (after-is-full .is-full .ensures))
+    (after-expect .expect .ensures) (c .before .end .given .1)
 
 returns-4 : tie.Need-returns-4
 returns-4 c =
-    shape-missing (c .before .before .before .before .before .before .before .before .before .before .before .before .before .before .before .before .before .before .before .args .values) (c .before .before .before .before .before .before .before .before .before .before .before .before .before .before .before .before .before .before .before .args .left) (c .before .before .before .before .before .before .before .before .before .before .before .before .before .before .before .before .before .before .before .args .c) (c .before .before .before .before .before .before .before .before .before .before .before .before .before .before .before .next .ensures) (c .before .before .before .before .before .before .before .before .before .before .before .t .given .1)
-    (subst (λ (b : Bool). Judges (c .before .before .before .before .before .before .before .before .before .before .before .before .before .before .before .before .before .before .before .args .values) (c .before .before .before .before .before .before .before .before .before .before .before .before .before .before .before .before .before .before .before .args .left) (c .before .before .before .before .before .before .before .before .before .before .before .before .before .before .before .before .before .before .before .args .c .begun) b) (c .before .before .before .before .before .before .before .before .if1 .left) (c .before .before .before .before .before .before .before .before .before .is-full .ensures))
-    (c .before .before .before .before .before .expect .ensures) (c .before .place2 .given .1)
+    let after-expect = c .before .before .before .before .before in
+    let after-is-full = after-expect .before .before .before .before in
+    let after-next = after-is-full .before .before .before .before .before .before in
+    let at-start = after-next .before .before .before .before in
+    shape-missing (at-start .args .values) (at-start .args .left) (at-start .args .c) (after-next .next .ensures) (after-is-full .before .before .t .given .1)
+    (subst (λ (b : Bool). Judges (at-start .args .values) (at-start .args .left) (at-start .args .c .begun) b) (after-expect .before .before .before .if1 .left)
+    (after-is-full .is-full .ensures))
+    (after-expect .expect .ensures) (c .before .place2 .given .1)
 
 pub begin-spec : {M : Type 1} → statement M
 begin-spec =
     tie.close
     (tie.spec
     next-requires
-    enum-known-t
-    place-requires
-    same-length
+    (λ c. search needs) (λ c κs. search needs) (λ c. search needs)
     returns
-    is-full-requires
-    same-length-2
+    (λ c κs. search needs) (λ c. search needs)
     returns-2
     add-expect
-    slice-aggregate-expect
+    (λ c. search needs)
     expect-requires
-    enum-known-end
-    enum-known-place
-    same-length-3
+    (λ c. search needs) (λ c. search needs) (λ c. search needs)
     returns-3
-    same-length-4
+    (λ c. search needs)
     returns-4)

@@ -8,46 +8,44 @@ use Rattle.shaperead.proofs.opening.expect.Statement.{statement}
 use Rattle.shaperead.proofs.opening.expect.Tie as tie
 
 next-requires : tie.Need-next-requires
-next-requires c κs = next-room (c .before .before .before .before .pre)
-
-enum-known-t : tie.Need-enum-known-t
-enum-known-t c = search needs
-
-place-requires : tie.Need-place-requires
-place-requires c κs = search needs
-
-same-length : tie.Need-same-length
-same-length c = search needs
+next-requires c κs =
+    let at-start = c .before .before .before .before in
+    next-room (at-start .pre)
 
 returns : tie.Need-returns
-returns c = word-missing (c .before .before .before .before .next .ensures) (c .before .before .before .before .before .before .before .before .before .args .word .now) (c .before .match .keys2) (c .place .ensures)
+returns c =
+    let after-next = c .before .before .before .before in
+    let at-start = after-next .before .before .before .before .before in
+    word-missing (after-next .next .ensures) (at-start .args .word .now) (c .before .match .keys2) (c .place .ensures)
 
 is-word-requires : tie.Need-is-word-requires
-is-word-requires c κs = let f = found-word (c .before .before .before .before .before .next .ensures) (c .before .t .given .1) in (omega (arith, f .ahead), f .within)
-
-same-length-2 : tie.Need-same-length-2
-same-length-2 c = search needs
+is-word-requires c κs =
+    let after-next = c .before .before .before .before .before in
+    let f = found-word (after-next .next .ensures) (c .before .t .given .1) in (omega (arith, f .ahead), f .within)
 
 returns-2 : tie.Need-returns-2
-returns-2 c = word-there (c .before .before .before .before .before .before .before .next .ensures) (c .before .before .before .before .before .before .before .before .before .before .before .before .args .word .now) (c .before .before .before .t .given .1) (sym (c .if1 .taken) ∙ c .before .is-word .ensures)
-
-same-length-3 : tie.Need-same-length-3
-same-length-3 c = search needs
+returns-2 c =
+    let after-next = c .before .before .before .before .before .before .before in
+    let at-start = after-next .before .before .before .before .before in
+    word-there (after-next .next .ensures) (at-start .args .word .now) (c .before .before .before .t .given .1)
+    (sym (c .if1 .taken) ∙ c .before .is-word .ensures)
 
 returns-3 : tie.Need-returns-3
-returns-3 c = word-other (c .before .before .before .before .before .before .before .next .ensures) (c .before .before .before .before .before .before .before .before .before .before .before .before .args .word .now) (c .before .before .before .t .given .1) (sym (c .if1 .left) ∙ c .before .is-word .ensures)
+returns-3 c =
+    let after-next = c .before .before .before .before .before .before .before in
+    let at-start = after-next .before .before .before .before .before in
+    word-other (after-next .next .ensures) (at-start .args .word .now) (c .before .before .before .t .given .1)
+    (sym (c .if1 .left) ∙ c .before .is-word .ensures)
 
 pub expect-spec : {M : Type 1} → statement M
 expect-spec =
     tie.close
     (tie.spec
     next-requires
-    enum-known-t
-    place-requires
-    same-length
+    (λ c. search needs) (λ c κs. search needs) (λ c. search needs)
     returns
     is-word-requires
-    same-length-2
+    (λ c. search needs)
     returns-2
-    same-length-3
+    (λ c. search needs)
     returns-3)

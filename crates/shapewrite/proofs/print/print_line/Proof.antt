@@ -13,36 +13,52 @@ Inv-loop out₀ at around j₀ i₀ t7 out j i = Spacing out₀ j₀ around out 
 abbrev μ-loop : tie.MeasureT-loop
 μ-loop out₀ at around j₀ i₀ t7 out j i = around - i
 
-slice-aggregate-print : tie.Need-slice-aggregate-print Inv-loop μ-loop
-slice-aggregate-print c = search needs
-
 print-requires : tie.Need-print-requires Inv-loop μ-loop
-print-requires c κs = omega (arith, c .before .before .before .pre, length-new-line (c .before .before .before .args .around))
+print-requires c κs =
+    let at-start = c .before .before .before in
+    omega (arith, at-start .pre, length-new-line (at-start .args .around))
 
 loop-holds : tie.Need-loop-holds Inv-loop μ-loop
 loop-holds c = spacing _ _ _
 
-slice-aggregate-print-2 : tie.Need-slice-aggregate-print-2 Inv-loop μ-loop
-slice-aggregate-print-2 c = search needs
-
 print-requires-2 : tie.Need-print-requires-2 Inv-loop μ-loop
 print-requires-2 c κs =
-    omega (arith, c .before .before .before .before .before .before .before .before .before .before .pre, length-new-line (c .before .before .before .before .before .before .before .before .before .before .args .around), spacing-end (c .before .before .before .loop .inv), c .before .before .loop-test .taken, c .before .before .before .before .before .before .print .ensures .end)
+    let after-print = c .before .before .before .before .before .before in
+    let at-start = after-print .before .before .before .before in
+    omega (
+      arith,
+      at-start .pre,
+      length-new-line (at-start .args .around),
+      spacing-end (c .before .before .before .loop .inv),
+      c .before .before .loop-test .taken,
+      after-print .print .ensures .end,
+    )
 
 add-i : tie.Need-add-i Inv-loop μ-loop
-add-i c = omega (arith, c .before .before .before .before .before .loop-test .taken, c .before .before .before .before .before .before .before .before .before .before .before .before .before .pre, length-new-line (c .before .before .before .before .before .before .before .before .before .before .before .before .before .args .around))
+add-i c =
+    let in-loop = c .before .before .before .before .before in
+    let at-start = in-loop .before .before .before .before .before .before .before .before in
+    omega (arith, in-loop .loop-test .taken, at-start .pre, length-new-line (at-start .args .around))
 
 loop-less : tie.Need-loop-less Inv-loop μ-loop
-loop-less c = omega (arith, c .before .before .before .before .before .loop-test .taken)
+loop-less c =
+    let in-loop = c .before .before .before .before .before in
+    omega (arith, in-loop .loop-test .taken)
 
 loop-again : tie.Need-loop-again Inv-loop μ-loop
-loop-again c = spacing-on (c .before .before .before .before .before .before .loop .inv) (c .before .before .before .before .before .loop-test .taken) (c .before .before .print2 .ensures)
+loop-again c =
+    let in-loop = c .before .before .before .before .before in
+    spacing-on (in-loop .before .loop .inv) (in-loop .loop-test .taken) (c .before .before .print2 .ensures)
 
 same-length : tie.Need-same-length Inv-loop μ-loop
-same-length c = c .before .loop .inv .printed .same ∙ c .before .before .before .before .print .ensures .same
+same-length c =
+    let after-print = c .before .before .before .before in
+    c .before .loop .inv .printed .same ∙ after-print .print .ensures .same
 
 returns : tie.Need-returns Inv-loop μ-loop
-returns c = spaced (c .before .loop .inv) (c .loop-test .left) (c .before .before .before .before .print .ensures)
+returns c =
+    let after-print = c .before .before .before .before in
+    spaced (c .before .loop .inv) (c .loop-test .left) (after-print .print .ensures)
 
 pub print-line-spec : {M : Type 1} → statement M
 print-line-spec =
@@ -50,10 +66,10 @@ print-line-spec =
     (tie.spec
     Inv-loop
     μ-loop
-    slice-aggregate-print
+    (λ c. search needs)
     print-requires
     loop-holds
-    slice-aggregate-print-2
+    (λ c. search needs)
     print-requires-2
     add-i
     loop-less

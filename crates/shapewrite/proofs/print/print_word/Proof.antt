@@ -10,35 +10,35 @@ use Rattle.shapewrite.proofs.Heads.{word-there, word-gone}
 use Rattle.shapewrite.proofs.print.print_word.Statement.{statement}
 use Rattle.shapewrite.proofs.print.print_word.Tie as tie
 
-has-requires : tie.Need-has-requires
-has-requires c κs = search needs
-
 print-requires : tie.Need-print-requires
 print-requires c κs =
+    let at-start = c .before .before .before .before .before in
     omega (
       arith,
-      c .before .before .before .before .before .pre,
-      ap length (word-there (has-bit (c .before .before .before .before .before .args .kinds) (c .before .before .before .before .before .args .kind)) (now (c .before .before .before .before .before .args .word)) (sym (c .before .before .has .ensures) ∙ c .before .if1 .taken)),
+      at-start .pre,
+      ap length (word-there (has-bit (at-start .args .kinds) (at-start .args .kind)) (now (at-start .args .word))
+          (sym (c .before .before .has .ensures) ∙ c .before .if1 .taken)),
     )
-
-same-length : tie.Need-same-length
-same-length c = search needs
 
 returns : tie.Need-returns
 returns c =
+    let then1 = c .before .before .before .before in
+    let at-start = then1 .before .before .before .before in
     record {
       printed = prints-as
-          (word-there (has-bit (c .before .before .before .before .before .before .before .before .args .kinds) (c .before .before .before .before .before .before .before .before .args .kind)) (now (c .before .before .before .before .before .before .before .before .args .word)) (sym (c .before .before .before .before .before .has .ensures) ∙ c .before .before .before .before .if1 .taken))
+          (word-there (has-bit (at-start .args .kinds) (at-start .args .kind)) (now (at-start .args .word))
+          (sym (then1 .before .has .ensures) ∙ then1 .if1 .taken))
           (c .before .before .print .ensures);
     }
 
 returns-2 : tie.Need-returns-2
 returns-2 c =
+    let at-start = c .before .before .before .before in
     record {
       printed = prints-as
-          (word-gone (has-bit (c .before .before .before .before .args .kinds) (c .before .before .before .before .args .kind)) (now (c .before .before .before .before .args .word)) (sym (c .before .has .ensures) ∙ c .if1 .left))
+          (word-gone (has-bit (at-start .args .kinds) (at-start .args .kind)) (now (at-start .args .word)) (sym (c .before .has .ensures) ∙ c .if1 .left))
           (prints-none _ _);
     }
 
 pub print-word-spec : {M : Type 1} → statement M
-print-word-spec = tie.close (tie.spec has-requires print-requires same-length returns returns-2)
+print-word-spec = tie.close (tie.spec (λ c κs. search needs) print-requires (λ c. search needs) returns returns-2)

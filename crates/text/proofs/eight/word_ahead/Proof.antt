@@ -8,17 +8,11 @@ use Rattle.text.proofs.eight.word_ahead.Tie as tie
 returns : tie.Need-returns
 returns c = λ e. absurd (false≢true e)
 
-sub-if2 : tie.Need-sub-if2
-sub-if2 c = search needs
-
 returns-2 : tie.Need-returns-2
 returns-2 c = λ e. absurd (false≢true e)
-
-eight-stand-requires : tie.Need-eight-stand-requires
-eight-stand-requires c κs = search needs
 
 returns-3 : tie.Need-returns-3
 returns-3 c = λ e. record { border = c .before .before .if1 .left; within = omega (arith, c .before .if2 .left); stand = c .eight-stand .ensures e }
 
 pub word-ahead-spec : {M : Type 1} → statement M
-word-ahead-spec = tie.close (tie.spec returns sub-if2 returns-2 eight-stand-requires returns-3)
+word-ahead-spec = tie.close (tie.spec returns (λ c. search needs) returns-2 (λ c κs. search needs) returns-3)

@@ -6,25 +6,24 @@ use Rattle.text.proofs.Escaped.{length-hex-escape, escaped-short, escap
 use Rattle.text.proofs.escape.cost.Statement.{statement}
 use Rattle.text.proofs.escape.cost.Tie as tie
 
-is-itself-requires : tie.Need-is-itself-requires
-is-itself-requires c κs = search needs
-
 returns : tie.Need-returns
 returns c = sym (ap length (c .before .is-itself .ensures (c .if1 .taken)))
-
-short-form-requires : tie.Need-short-form-requires
-short-form-requires c κs = search needs
 
 returns-2 : tie.Need-returns-2
 returns-2 c = sym (ap length (escaped-short _ (c .before .short-form .result) (c .before .short-form .ensures) (c .if2 .taken)))
 
 returns-3 : tie.Need-returns-3
-returns-3 c = sym (ap length (escaped-hex _ (c .before .before .short-form .result) (c .before .before .short-form .ensures) (c .before .if2 .left) (c .if3 .taken)) ∙ length-hex-escape _)
+returns-3 c =
+    let after-short-form = c .before .before in
+    sym (ap length (escaped-hex _ (after-short-form .short-form .result) (after-short-form .short-form .ensures) (c .before .if2 .left) (c .if3 .taken))
+    ∙ length-hex-escape _)
 
 returns-4 : tie.Need-returns-4
-returns-4 c = sym (ap length (escaped-itself _ (c .before .before .short-form .result) (c .before .before .short-form .ensures) (c .before .if2 .left) (c .if3 .left)))
+returns-4 c =
+    let after-short-form = c .before .before in
+    sym (ap length (escaped-itself _ (after-short-form .short-form .result) (after-short-form .short-form .ensures) (c .before .if2 .left) (c .if3 .left)))
 
 pub cost-spec : {M : Type 1} → statement M
 cost-spec =
     tie.close
-    (tie.spec is-itself-requires returns short-form-requires returns-2 returns-3 returns-4)
+    (tie.spec (λ c κs. search needs) returns (λ c κs. search needs) returns-2 returns-3 returns-4)

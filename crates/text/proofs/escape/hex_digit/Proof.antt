@@ -7,12 +7,6 @@ use Rattle.definitions.specs.Plain.{hex-digit}
 use Rattle.text.proofs.escape.hex_digit.Statement.{statement}
 use Rattle.text.proofs.escape.hex_digit.Tie as tie
 
-add-result : tie.Need-add-result
-add-result c = search needs
-
-add-result-2 : tie.Need-add-result-2
-add-result-2 c = search needs
-
 returns : tie.Need-returns
 unfolding hex-digit
 returns c = rw (lt-ltb (c .before .args .d) 10 (c .if1 .taken), hex-digit)
@@ -22,4 +16,4 @@ unfolding hex-digit
 returns-2 c = rw (le-ltb (c .before .args .d) 10 (c .if1 .left), hex-digit)
 
 pub hex-digit-spec : {M : Type 1} → statement M
-hex-digit-spec = tie.close (tie.spec add-result add-result-2 returns returns-2)
+hex-digit-spec = tie.close (tie.spec (λ c. search needs) (λ c. search needs) returns returns-2)

@@ -12,7 +12,6 @@ use Rattle.definitions.specs.Plain.{short-escapes}
 use Rattle.text.specs.TextParts.{short-form}
 use Rattle.text.proofs.Tables.{value-at}
 use Rattle.text.proofs.Escaped.{short-misses}
-use native.Mathlib.Omega.{arith}
 use Rattle.text.proofs.escape.short_form.Statement.{statement}
 use Rattle.text.proofs.escape.short_form.Tie as tie
 
@@ -46,7 +45,17 @@ returns-7 c = value-at short-form _ _ _ (c .match .keys7) refl
 
 returns-8 : tie.Need-returns-8
 unfolding short-escapes
-returns-8 c = let r = c .match .rest in short-misses (c .before .args .b) (λ i. r .0 .0 .0 .0 .0 .0 .1 (in-one i), (λ i. r .0 .0 .0 .0 .0 .1 (in-one i), (λ i. r .0 .0 .0 .0 .1 (in-one i), (λ i. r .0 .0 .0 .1 (in-one i), (λ i. r .0 .0 .1 (in-one i), (λ i. r .0 .1 (in-one i), (λ i. r .1 (in-one i), tt)))))))
+returns-8 c = let r = c .match .rest in
+    short-misses (c .before .args .b) (
+      λ i. r .0 .0 .0 .0 .0 .0 .1 (in-one i),
+      (
+        λ i. r .0 .0 .0 .0 .0 .1 (in-one i),
+        (
+          λ i. r .0 .0 .0 .0 .1 (in-one i),
+          (λ i. r .0 .0 .0 .1 (in-one i), (λ i. r .0 .0 .1 (in-one i), (λ i. r .0 .1 (in-one i), (λ i. r .1 (in-one i), tt)))),
+        ),
+      ),
+    )
 
 pub short-form-spec : {M : Type 1} → statement M
 short-form-spec =

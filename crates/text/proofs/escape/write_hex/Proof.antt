@@ -11,47 +11,20 @@ use native.Mathlib.Omega.{arith}
 use Rattle.text.proofs.escape.write_hex.Statement.{statement}
 use Rattle.text.proofs.escape.write_hex.Tie as tie
 
-slice-write-out : tie.Need-slice-write-out
-slice-write-out c = search needs
-
-add-out : tie.Need-add-out
-add-out c = search needs
-
 slice-write-out-2 : tie.Need-slice-write-out-2
 slice-write-out-2 c = simp length-set (omega arith)
-
-add-out-2 : tie.Need-add-out-2
-add-out-2 c = search needs
 
 slice-write-out-3 : tie.Need-slice-write-out-3
 slice-write-out-3 c = simp length-set (omega arith)
 
-add-out-3 : tie.Need-add-out-3
-add-out-3 c = search needs
-
 slice-write-out-4 : tie.Need-slice-write-out-4
 slice-write-out-4 c = simp length-set (omega arith)
-
-hex-digit-requires : tie.Need-hex-digit-requires
-hex-digit-requires c κs = search needs
-
-add-out-4 : tie.Need-add-out-4
-add-out-4 c = search needs
 
 slice-write-out-5 : tie.Need-slice-write-out-5
 slice-write-out-5 c = simp length-set (omega arith)
 
-hex-digit-requires-2 : tie.Need-hex-digit-requires-2
-hex-digit-requires-2 c κs = search needs
-
-add-out-5 : tie.Need-add-out-5
-add-out-5 c = search needs
-
 slice-write-out-6 : tie.Need-slice-write-out-6
 slice-write-out-6 c = simp length-set (omega arith)
-
-add-result : tie.Need-add-result
-add-result c = search needs
 
 same-length : tie.Need-same-length
 same-length c = simp length-set
@@ -67,26 +40,24 @@ returns c =
     let v = writes-next (a .at + 1) 0x75 u refl (omega arith) in
     let w = writes-next (a .at + 2) 0x30 v (omega arith) (omega arith) in
     let z = writes-next (a .at + 3) 0x30 w (omega arith) (omega arith) in
-    writes-same (hex-escape (a .b)) (a .at + 6) (writes-next (a .at + 5) y (writes-next (a .at + 4) x z (omega arith) (omega arith)) (omega arith) (omega arith))
+    writes-same (hex-escape (a .b)) (a .at + 6)
+    (writes-next (a .at + 5) y (writes-next (a .at + 4) x z (omega arith) (omega arith)) (omega arith) (omega arith))
     (ap₂ (λ d e. 0x5C ∷ 0x75 ∷ 0x30 ∷ 0x30 ∷ d ∷ e ∷ []) (c .before .hex-digit .ensures) (c .hex-digit2 .ensures)) (omega arith)
 
 pub write-hex-spec : {M : Type 1} → statement M
 write-hex-spec =
     tie.close
     (tie.spec
-    slice-write-out
-    add-out
+    (λ c. search needs) (λ c. search needs)
     slice-write-out-2
-    add-out-2
+    (λ c. search needs)
     slice-write-out-3
-    add-out-3
+    (λ c. search needs)
     slice-write-out-4
-    hex-digit-requires
-    add-out-4
+    (λ c κs. search needs) (λ c. search needs)
     slice-write-out-5
-    hex-digit-requires-2
-    add-out-5
+    (λ c κs. search needs) (λ c. search needs)
     slice-write-out-6
-    add-result
+    (λ c. search needs)
     same-length
     returns)

@@ -5,15 +5,6 @@ use borrow.Author.Needs.{needs}
 use Rattle.text.proofs.pieces.character_cost.Statement.{statement}
 use Rattle.text.proofs.pieces.character_cost.Tie as tie
 
-cast-cost : tie.Need-cast-cost
-cast-cost c = search needs
-
-cost-requires : tie.Need-cost-requires
-cost-requires c κs = search needs
-
-encoded-length-requires : tie.Need-encoded-length-requires
-encoded-length-requires c κs = search needs
-
 returns : tie.Need-returns
 returns c = c .cost .ensures ∙ sym (length-encode-low (c .before .before .args .c) (c .before .if1 .taken))
 
@@ -22,4 +13,4 @@ returns-2 c = c .encoded-length .ensures ∙ sym (length-encode-high (c .before 
 
 pub character-cost-spec : {M : Type 1} → statement M
 character-cost-spec =
-    tie.close (tie.spec cast-cost cost-requires encoded-length-requires returns returns-2)
+    tie.close (tie.spec (λ c. search needs) (λ c κs. search needs) (λ c κs. search needs) returns returns-2)

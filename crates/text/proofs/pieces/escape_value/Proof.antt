@@ -10,7 +10,6 @@ use Rattle.definitions.specs.Bytes.{look, between}
 use Rattle.definitions.specs.Text.{escape-table}
 use Rattle.text.specs.TextParts.{escape-value}
 use Rattle.text.proofs.Tables.{escape-misses, value-at}
-use native.Mathlib.Omega.{arith}
 use Rattle.text.proofs.pieces.escape_value.Statement.{statement}
 use Rattle.text.proofs.pieces.escape_value.Tie as tie
 
@@ -52,7 +51,23 @@ returns-9 c = value-at escape-value _ _ _ (c .match .keys9) refl
 
 returns-10 : tie.Need-returns-10
 unfolding escape-table
-returns-10 c = let r = c .match .rest in escape-misses (c .before .args .b) (λ i. r .0 .0 .0 .0 .0 .0 .0 .0 .1 (in-one i), (λ i. r .0 .0 .0 .0 .0 .0 .0 .1 (in-one i), (λ i. r .0 .0 .0 .0 .0 .0 .1 (in-one i), (λ i. r .0 .0 .0 .0 .0 .1 (in-one i), (λ i. r .0 .0 .0 .0 .1 (in-one i), (λ i. r .0 .0 .0 .1 (in-one i), (λ i. r .0 .0 .1 (in-one i), (λ i. r .0 .1 (in-one i), (λ i. r .1 (in-one i), tt)))))))))
+returns-10 c = let r = c .match .rest in
+    escape-misses (c .before .args .b) (
+      λ i. r .0 .0 .0 .0 .0 .0 .0 .0 .1 (in-one i),
+      (
+        λ i. r .0 .0 .0 .0 .0 .0 .0 .1 (in-one i),
+        (
+          λ i. r .0 .0 .0 .0 .0 .0 .1 (in-one i),
+          (
+            λ i. r .0 .0 .0 .0 .0 .1 (in-one i),
+            (
+              λ i. r .0 .0 .0 .0 .1 (in-one i),
+              (λ i. r .0 .0 .0 .1 (in-one i), (λ i. r .0 .0 .1 (in-one i), (λ i. r .0 .1 (in-one i), (λ i. r .1 (in-one i), tt)))),
+            ),
+          ),
+        ),
+      ),
+    )
 
 pub escape-value-spec : {M : Type 1} → statement M
 escape-value-spec =

@@ -1,6 +1,6 @@
 -- `text::pieces::read_named` meets its contract: the character's bytes are put (`piece-named`). Assumes nothing.
 use Prim.Native.Nat.{_+_, _-_}
-use mathlib.Core.Path.{_≡_, sym, ap, _∙_, subst}
+use mathlib.Core.Path.{sym, subst}
 use mathlib.Core.Option.{none}
 use Rattle.definitions.specs.Text.{Inside}
 use Rattle.definitions.specs.Utf8.{encode}
@@ -14,78 +14,72 @@ use native.Mathlib.Omega.{arith}
 use Rattle.text.proofs.pieces.read_named.Statement.{statement}
 use Rattle.text.proofs.pieces.read_named.Tie as tie
 
-add-read-unicode : tie.Need-add-read-unicode
-add-read-unicode c = search needs
-
 read-unicode-requires : tie.Need-read-unicode-requires
 read-unicode-requires c κs = let a = c .before .before .args in let p = c .before .before .pre in named-within (a .doc .now) (a .i) (p .0 .0) (p .1) (p .2)
 
-enum-known-value : tie.Need-enum-known-value
-enum-known-value c = search needs
-
-encoded-length-requires : tie.Need-encoded-length-requires
-encoded-length-requires c κs = search needs
-
 encoded-requires : tie.Need-encoded-requires
 encoded-requires c κs =
-    let a = c .before .before .before .before .before .before .before .args in
-    let p = c .before .before .before .before .before .before .before .pre in
+    let after-read-unicode = c .before .before .before .before in
+    let a = after-read-unicode .before .before .before .args in
+    let p = after-read-unicode .before .before .before .pre in
     let g = c .before .before .value .given in
-    let h : Code-read (a .doc .now) (Inside.digits none 0 0) (a .i + 2) (g .0 .0) (g .0 .1 .0) = subst (Reads-code (a .doc .now) (Inside.digits none 0 0) (a .i + 2)) (g .1) (c .before .before .before .before .read-unicode .ensures) in
+    let h
+    : Code-read (a .doc .now) (Inside.digits none 0 0) (a .i + 2) (g .0 .0) (g .0 .1 .0) =
+    subst (Reads-code (a .doc .now) (Inside.digits none 0 0) (a .i + 2)) (g .1) (after-read-unicode .read-unicode .ensures) in
     h .valid
-
-slice-aggregate-copy : tie.Need-slice-aggregate-copy
-slice-aggregate-copy c = search needs
 
 copy-requires : tie.Need-copy-requires
 copy-requires c κs =
-    let a = c .before .before .before .before .before .before .before .before .before .before .args in
-    let p = c .before .before .before .before .before .before .before .before .before .before .pre in
-    let g = c .before .before .before .before .before .value .given in
-    let h : Code-read (a .doc .now) (Inside.digits none 0 0) (a .i + 2) (g .0 .0) (g .0 .1 .0) = subst (Reads-code (a .doc .now) (Inside.digits none 0 0) (a .i + 2)) (g .1) (c .before .before .before .before .before .before .before .read-unicode .ensures) in
-    let k = c .before .before .before .encoded-length in
+    let after-encoded = c .before .before in
+    let after-read-unicode = after-encoded .before .before .before .before .before in
+    let a = after-read-unicode .before .before .before .args in
+    let p = after-read-unicode .before .before .before .pre in
+    let g = after-encoded .before .before .before .value .given in
+    let h
+    : Code-read (a .doc .now) (Inside.digits none 0 0) (a .i + 2) (g .0 .0) (g .0 .1 .0) =
+    subst (Reads-code (a .doc .now) (Inside.digits none 0 0) (a .i + 2)) (g .1) (after-read-unicode .read-unicode .ensures) in
+    let k = after-encoded .before .encoded-length in
     let m = h .within in
     let l = h .ahead in
-    let o = front-fits (encode (g .0 .0)) (c .before .before .encoded .result) (c .before .before .encoded .ensures) in
+    let o = front-fits (encode (g .0 .0)) (after-encoded .encoded .result) (after-encoded .encoded .ensures) in
     let e = k .ensures in
     (omega arith, omega arith, room-for (a .doc .now) (a .i) (a .pool .now) (a .w) (a .n) (k .result - 0) (p .0 .1) (omega (arith, length-encode (g .0 .0))))
 
 add-t20 : tie.Need-add-t20
 add-t20 c =
-    let a = c .before .before .before .before .before .before .before .before .before .before .before .before .before .args in
-    let p = c .before .before .before .before .before .before .before .before .before .before .before .before .before .pre in
-    let g = c .before .before .before .before .before .before .before .before .value .given in
-    let h : Code-read (a .doc .now) (Inside.digits none 0 0) (a .i + 2) (g .0 .0) (g .0 .1 .0) = subst (Reads-code (a .doc .now) (Inside.digits none 0 0) (a .i + 2)) (g .1) (c .before .before .before .before .before .before .before .before .before .before .read-unicode .ensures) in
-    let k = c .before .before .before .before .before .before .encoded-length in
+    let after-encoded = c .before .before .before .before .before in
+    let after-read-unicode = after-encoded .before .before .before .before .before in
+    let a = after-read-unicode .before .before .before .args in
+    let p = after-read-unicode .before .before .before .pre in
+    let g = after-encoded .before .before .before .value .given in
+    let h
+    : Code-read (a .doc .now) (Inside.digits none 0 0) (a .i + 2) (g .0 .0) (g .0 .1 .0) =
+    subst (Reads-code (a .doc .now) (Inside.digits none 0 0) (a .i + 2)) (g .1) (after-read-unicode .read-unicode .ensures) in
+    let k = after-encoded .before .encoded-length in
     let m = h .within in
     let l = h .ahead in
     let e = k .ensures in
     let r = room-for (a .doc .now) (a .i) (a .pool .now) (a .w) (a .n) (k .result) (p .0 .1) (omega (arith, length-encode (g .0 .0))) in
-    omega (arith, words-bytes (a .w) (a .n + k .result) _ r, c .before .before .before .before .before .before .before .before .before .before .before .before .before .good)
-
-character-cost-requires : tie.Need-character-cost-requires
-character-cost-requires c κs = search needs
-
-enum-known-place : tie.Need-enum-known-place
-enum-known-place c = search needs
-
-same-length : tie.Need-same-length
-same-length c = search needs
+    omega (arith, words-bytes (a .w) (a .n + k .result) _ r, after-read-unicode .before .before .before .good)
 
 returns : tie.Need-returns
 returns c =
-    let a = c .before .before .before .before .before .before .before .before .before .before .before .before .before .before .args in
-    let p = c .before .before .before .before .before .before .before .before .before .before .before .before .before .before .pre in
-    let g = c .before .before .before .before .before .before .before .before .before .value .given in
-    let h : Code-read (a .doc .now) (Inside.digits none 0 0) (a .i + 2) (g .0 .0) (g .0 .1 .0) = subst (Reads-code (a .doc .now) (Inside.digits none 0 0) (a .i + 2)) (g .1) (c .before .before .before .before .before .before .before .before .before .before .before .read-unicode .ensures) in
-    let k = c .before .before .before .before .before .before .before .encoded-length in
+    let after-encoded = c .before .before .before .before .before .before in
+    let after-read-unicode = after-encoded .before .before .before .before .before in
+    let a = after-read-unicode .before .before .before .args in
+    let p = after-read-unicode .before .before .before .pre in
+    let g = after-encoded .before .before .before .value .given in
+    let h
+    : Code-read (a .doc .now) (Inside.digits none 0 0) (a .i + 2) (g .0 .0) (g .0 .1 .0) =
+    subst (Reads-code (a .doc .now) (Inside.digits none 0 0) (a .i + 2)) (g .1) (after-read-unicode .read-unicode .ensures) in
+    let k = after-encoded .before .encoded-length in
     let d = c .before .before .before .copy in
     subst
     (λ m. Piece-read (a .doc .now) (a .i) (a .pool .now) (d .last .1 .1 .1 .0) (a .w) (a .n) (g .0 .1 .0) (a .n + m) (c .character-cost .result))
     (sym (k .ensures))
     (piece-named (a .doc .now) (a .i) (p .0 .0) (p .1) (p .2) (a .pool .now) (d .last .1 .1 .1 .0) (a .w) (a .n) (g .0 .1 .0) (g .0 .0)
     (c .character-cost .result) h
-    (puts-same (d .ensures) (front-part (encode (g .0 .0)) (c .before .before .before .before .before .before .encoded .result) (k .result) (k .ensures) (c .before .before .before .before .before .before .encoded .ensures)))
+    (puts-same (d .ensures) (front-part (encode (g .0 .0)) (after-encoded .encoded .result) (k .result) (k .ensures) (after-encoded .encoded .ensures)))
     (c .character-cost .ensures))
 
 returns-2 : tie.Need-returns-2
@@ -94,7 +88,8 @@ returns-2 c =
     let p = c .before .before .before .before .before .before .pre in
     record {
       breaks = named-breaks (a .doc .now) (a .i) (p .0 .0) (p .1) (p .2) (c .before .place .given .0 .0)
-          (subst (Reads-code (a .doc .now) (Inside.digits none 0 0) (a .i + 2)) (c .before .place .given .1) (c .before .before .before .read-unicode .ensures));
+          (subst (Reads-code (a .doc .now) (Inside.digits none 0 0) (a .i + 2)) (c .before .place .given .1)
+          (c .before .before .before .read-unicode .ensures));
       keeps = keeps-none (a .pool .now) (a .w);
     }
 
@@ -102,16 +97,13 @@ pub read-named-spec : {M : Type 1} → statement M
 read-named-spec =
     tie.close
     (tie.spec
-    add-read-unicode
+    (λ c. search needs)
     read-unicode-requires
-    enum-known-value
-    encoded-length-requires
+    (λ c. search needs) (λ c κs. search needs)
     encoded-requires
-    slice-aggregate-copy
+    (λ c. search needs)
     copy-requires
     add-t20
-    character-cost-requires
-    enum-known-place
-    same-length
+    (λ c κs. search needs) (λ c. search needs) (λ c. search needs)
     returns
     returns-2)

@@ -15,17 +15,11 @@ returns-2 c = hex-0 _ (omega arith) (omega arith)
 returns-3 : tie.Need-returns-3
 returns-3 c = hex-none _ (inr (inl (omega arith)))
 
-sub-result : tie.Need-sub-result
-sub-result c = search needs
-
 returns-4 : tie.Need-returns-4
 returns-4 c = hex-A _ (omega arith) (omega arith)
 
 returns-5 : tie.Need-returns-5
 returns-5 c = hex-none _ (inr (inr (inl (omega arith))))
-
-sub-result-2 : tie.Need-sub-result-2
-sub-result-2 c = search needs
 
 returns-6 : tie.Need-returns-6
 returns-6 c = hex-a _ (omega arith) (omega arith)
@@ -40,9 +34,9 @@ hex-value-spec =
     returns
     returns-2
     returns-3
-    sub-result
+    (λ c. search needs)
     returns-4
     returns-5
-    sub-result-2
+    (λ c. search needs)
     returns-6
     returns-7)

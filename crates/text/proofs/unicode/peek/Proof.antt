@@ -11,9 +11,6 @@ use native.Mathlib.Omega.{arith}
 use Rattle.text.proofs.unicode.peek.Statement.{statement}
 use Rattle.text.proofs.unicode.peek.Tie as tie
 
-shared-slice-read-result : tie.Need-shared-slice-read-result
-shared-slice-read-result c = search needs
-
 cast-result : tie.Need-cast-result
 cast-result c = omega (arith, c .shared-slice-known .given (c .before .before .args .i))
 
@@ -24,4 +21,4 @@ returns-2 : tie.Need-returns-2
 returns-2 c = sym (List·getD-eq-default (c .before .args .doc .now) 256 (c .if1 .left))
 
 pub peek-spec : {M : Type 1} → statement M
-peek-spec = tie.close (tie.spec shared-slice-read-result cast-result returns returns-2)
+peek-spec = tie.close (tie.spec (λ c. search needs) cast-result returns returns-2)

@@ -24,12 +24,6 @@ loop-holds c = let a = c .before .args in digits-start (a .doc .now) (a .at) (a 
 add-peek : tie.Need-add-peek Inv-loop μ-loop
 add-peek c = omega arith
 
-peek-requires : tie.Need-peek-requires Inv-loop μ-loop
-peek-requires c κs = search needs
-
-hex-value-requires : tie.Need-hex-value-requires Inv-loop μ-loop
-hex-value-requires c κs = search needs
-
 add-t10 : tie.Need-add-t10 Inv-loop μ-loop
 add-t10 c = omega arith
 
@@ -40,14 +34,15 @@ returns c =
     digits-wrong (a .doc .now) (a .at) (a .low) (l .n) (l .c) (l .inv) (c .before .before .before .loop-test .taken) (c .before .hex-value .result)
     (c .before .hex-value .ensures ∙ ap hex-value (c .before .before .peek .ensures)) (c .if1 .taken)
 
-digit-fits-requires : tie.Need-digit-fits-requires Inv-loop μ-loop
-digit-fits-requires c κs = search needs
-
 mul-c : tie.Need-mul-c Inv-loop μ-loop
-mul-c c = let l = c .before .before .before .before .before .before .loop in let a = c .before .before .before .before .before .before .before .before .args in omega (arith, so-far-small (a .low) (l .n) (l .c) (l .inv .range))
+mul-c c = let l = c .before .before .before .before .before .before .loop in
+    let a = c .before .before .before .before .before .before .before .before .args in
+    omega (arith, so-far-small (a .low) (l .n) (l .c) (l .inv .range))
 
 add-c : tie.Need-add-c Inv-loop μ-loop
-add-c c = let l = c .before .before .before .before .before .before .loop in let a = c .before .before .before .before .before .before .before .before .args in omega (arith, so-far-small (a .low) (l .n) (l .c) (l .inv .range))
+add-c c = let l = c .before .before .before .before .before .before .loop in
+    let a = c .before .before .before .before .before .before .before .before .args in
+    omega (arith, so-far-small (a .low) (l .n) (l .c) (l .inv .range))
 
 add-n : tie.Need-add-n Inv-loop μ-loop
 add-n c = omega arith
@@ -57,9 +52,9 @@ loop-less c = omega arith
 
 loop-again : tie.Need-loop-again Inv-loop μ-loop
 loop-again c =
-    let l = c .before .before .before .before .before .before .loop in
-    let a = c .before .before .before .before .before .before .before .before .args in
     let h = c .before .before .before in
+    let l = h .before .before .before .loop in
+    let a = h .before .before .before .before .before .args in
     digits-next (a .doc .now) (a .at) (a .low) (l .n) (l .c) (l .inv) (h .before .before .loop-test .taken) (h .hex-value .result)
     (h .hex-value .ensures ∙ ap hex-value (h .before .peek .ensures)) (c .before .before .if1 .left) (sym (c .before .digit-fits .ensures) ∙ c .if2 .taken)
 
@@ -68,9 +63,9 @@ add-t13 c = omega arith
 
 returns-2 : tie.Need-returns-2 Inv-loop μ-loop
 returns-2 c =
-    let l = c .before .before .before .before .before .before .loop in
-    let a = c .before .before .before .before .before .before .before .before .args in
     let h = c .before .before .before in
+    let l = h .before .before .before .loop in
+    let a = h .before .before .before .before .before .args in
     digits-unfit (a .doc .now) (a .at) (a .low) (l .n) (l .c) (l .inv) (h .before .before .loop-test .taken) (h .hex-value .result)
     (h .hex-value .ensures ∙ ap hex-value (h .before .peek .ensures)) (c .before .before .if1 .left) (sym (c .before .digit-fits .ensures) ∙ c .if2 .left)
 
@@ -78,7 +73,8 @@ add-t14 : tie.Need-add-t14 Inv-loop μ-loop
 add-t14 c = omega arith
 
 returns-3 : tie.Need-returns-3 Inv-loop μ-loop
-returns-3 c = let a = c .before .before .before .args in digits-done (a .doc .now) (a .at) (a .low) (c .before .loop .n) (c .before .loop .c) (c .before .loop .inv) (c .loop-test .left)
+returns-3 c = let a = c .before .before .before .args in
+    digits-done (a .doc .now) (a .at) (a .low) (c .before .loop .n) (c .before .loop .c) (c .before .loop .inv) (c .loop-test .left)
 
 pub read-digits-spec : {M : Type 1} → statement M
 read-digits-spec =
@@ -88,11 +84,10 @@ read-digits-spec =
     μ-loop
     loop-holds
     add-peek
-    peek-requires
-    hex-value-requires
+    (λ c κs. search needs) (λ c κs. search needs)
     add-t10
     returns
-    digit-fits-requires
+    (λ c κs. search needs)
     mul-c
     add-c
     add-n

@@ -17,20 +17,30 @@ abbrev μ-loop : tie.MeasureT-loop
 loop-holds : tie.Need-loop-holds Inv-loop μ-loop
 loop-holds c = let a = c .before .args in let p = c .before .pre in tails-start (a .doc .now) (a .at) (a .lo) (a .hi) (a .more) (p .0) (p .1) (p .2)
 
-peek-requires : tie.Need-peek-requires Inv-loop μ-loop
-peek-requires c κs = search needs
-
 returns : tie.Need-returns Inv-loop μ-loop
-returns c = let l = c .before .before .loop in let a = c .before .before .before .before .args in tails-wrong (a .doc .now) (Inside.tail (a .lo) (a .hi) (a .more)) (a .at) (l .i) (l .from) (l .to) (l .left) (c .before .peek .result) (l .inv) (c .before .peek .ensures) (inl (c .if1 .taken))
+returns c = let l = c .before .before .loop in
+    let a = c .before .before .before .before .args in
+    tails-wrong (a .doc .now) (Inside.tail (a .lo) (a .hi) (a .more)) (a .at) (l .i) (l .from) (l .to) (l .left) (c .before .peek .result) (l .inv)
+    (c .before .peek .ensures) (inl (c .if1 .taken))
 
 returns-2 : tie.Need-returns-2 Inv-loop μ-loop
-returns-2 c = let l = c .before .before .before .loop in let a = c .before .before .before .before .before .args in tails-wrong (a .doc .now) (Inside.tail (a .lo) (a .hi) (a .more)) (a .at) (l .i) (l .from) (l .to) (l .left) (c .before .before .peek .result) (l .inv) (c .before .before .peek .ensures) (inr (c .if2 .taken))
+returns-2 c =
+    let after-peek = c .before .before in
+    let l = after-peek .before .loop in
+    let a = after-peek .before .before .before .args in
+    tails-wrong (a .doc .now) (Inside.tail (a .lo) (a .hi) (a .more)) (a .at) (l .i) (l .from) (l .to) (l .left) (after-peek .peek .result) (l .inv)
+    (after-peek .peek .ensures) (inr (c .if2 .taken))
 
 add-i : tie.Need-add-i Inv-loop μ-loop
 add-i c = omega arith
 
 returns-3 : tie.Need-returns-3 Inv-loop μ-loop
-returns-3 c = let l = c .before .before .before .before .loop in let a = c .before .before .before .before .before .before .args in tails-done (a .doc .now) (Inside.tail (a .lo) (a .hi) (a .more)) (a .at) (l .i) (l .from) (l .to) (l .left) (c .before .before .before .peek .result) (l .inv) (c .before .before .before .peek .ensures) (c .before .before .if1 .left) (c .before .if2 .left) (c .if3 .taken)
+returns-3 c =
+    let after-peek = c .before .before .before in
+    let l = after-peek .before .loop in
+    let a = after-peek .before .before .before .args in
+    tails-done (a .doc .now) (Inside.tail (a .lo) (a .hi) (a .more)) (a .at) (l .i) (l .from) (l .to) (l .left) (after-peek .peek .result) (l .inv)
+    (after-peek .peek .ensures) (c .before .before .if1 .left) (c .before .if2 .left) (c .if3 .taken)
 
 sub-left : tie.Need-sub-left Inv-loop μ-loop
 sub-left c = omega arith
@@ -39,7 +49,12 @@ loop-less : tie.Need-loop-less Inv-loop μ-loop
 loop-less c = omega arith
 
 loop-again : tie.Need-loop-again Inv-loop μ-loop
-loop-again c = let l = c .before .before .before .before .loop in let a = c .before .before .before .before .before .before .args in tails-next (a .doc .now) (Inside.tail (a .lo) (a .hi) (a .more)) (a .at) (l .i) (l .from) (l .to) (l .left) (c .before .before .before .peek .result) (l .inv) (c .before .before .before .peek .ensures) (c .before .before .if1 .left) (c .before .if2 .left) (c .if3 .left)
+loop-again c =
+    let after-peek = c .before .before .before in
+    let l = after-peek .before .loop in
+    let a = after-peek .before .before .before .args in
+    tails-next (a .doc .now) (Inside.tail (a .lo) (a .hi) (a .more)) (a .at) (l .i) (l .from) (l .to) (l .left) (after-peek .peek .result) (l .inv)
+    (after-peek .peek .ensures) (c .before .before .if1 .left) (c .before .if2 .left) (c .if3 .left)
 
 pub tails-end-spec : {M : Type 1} → statement M
 tails-end-spec =
@@ -48,7 +63,7 @@ tails-end-spec =
     Inv-loop
     μ-loop
     loop-holds
-    peek-requires
+    (λ c κs. search needs)
     returns
     returns-2
     add-i
