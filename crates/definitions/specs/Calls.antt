@@ -8,7 +8,8 @@ use lib.ListN.{length, drop}
 use Rattle.definitions.specs.declared.Limits.{Limits}
 use Rattle.definitions.specs.declared.Answer.{Answer}
 use Rattle.definitions.specs.Bytes.{Bytes}
-use Rattle.definitions.specs.Operations.{Done, Source, plain-operation, infer-operation, join-operation, below-operation, admits-operation, check-operation, run-operation}
+use Rattle.definitions.specs.Operations.{Done, Source, plain-operation, infer-operation, join-operation}
+use Rattle.definitions.specs.Operations.{below-operation, admits-operation, check-operation, run-operation}
 
 -- the number returned, and the two buffers afterwards
 pub record Called : Type 0 where

@@ -3,11 +3,13 @@
 use Prim.Native.Nat.{ℕ}
 use mathlib.Core.Bool.{Bool, true, false, not, _&&_}
 use mathlib.Core.List.{List, [], _∷_}
-use mathlib.Core.Option.{Option, none, some}
+use mathlib.Core.Option.{none, some}
 use lib.ListN.{getD}
 use Rattle.definitions.specs.Bytes.{Bytes}
 use Rattle.definitions.specs.Outcome.{Outcome, ok, refused, _>>=_}
-use Rattle.definitions.specs.Shape.{Kind, among, Numeric, no-number, int-only, int-and-dec, Shape, shape, Element, no-list, list-of, Record, no-rec, rec-of, Fields, no-fields, nothing, within, element-of, record-of, find, only-bool, only-numeric, only-text, only-list, only-rec}
+use Rattle.definitions.specs.Shape.{Kind, among, Numeric, no-number, int-only, int-and-dec, Shape, shape, Element}
+use Rattle.definitions.specs.Shape.{no-list, list-of, Record, no-rec, rec-of, Fields, no-fields, nothing, within}
+use Rattle.definitions.specs.Shape.{element-of, record-of, find, only-bool, only-numeric, only-text, only-list, only-rec}
 use Rattle.definitions.specs.Join.{join, insert, shape-of}
 use Rattle.definitions.specs.Reader.{Place, Conversion, to-int, to-dec, to-bool, to-text, Test, Result, Pairs, no-pairs, pair}
 

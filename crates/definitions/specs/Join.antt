@@ -5,7 +5,8 @@ use mathlib.Core.Option.{none, some}
 use Rattle.definitions.specs.Bytes.{Bytes, order}
 use Rattle.definitions.specs.Number.{Number, is-int}
 use Rattle.definitions.specs.Value.{Value, Items, no-items, item, Members, no-members, member}
-use Rattle.definitions.specs.Shape.{Numeric, no-number, int-only, int-and-dec, Shape, shape, Element, no-list, list-of, Record, no-rec, rec-of, Fields, no-fields, field, nothing, find, only-null, only-bool, only-numeric, only-text, only-list, only-rec}
+use Rattle.definitions.specs.Shape.{Numeric, no-number, int-only, int-and-dec, Shape, shape, Element, no-list, list-of, Record, no-rec, rec-of}
+use Rattle.definitions.specs.Shape.{Fields, no-fields, field, nothing, find, only-null, only-bool, only-numeric, only-text, only-list, only-rec}
 
 -- ---- join
 

@@ -2,10 +2,10 @@
 -- `judge` knows the limits and gives each refusal its place. A refusal holds what is left of the text at its place.
 -- Stricter than the RFC: no byte order mark, no lone surrogate escape, no name twice,
 -- no number beyond refusal 4's limits, no more or deeper values than refusal 6 allows. Assumes nothing.
-use Prim.Native.Nat.{ℕ, zero, suc}
-use mathlib.Core.Bool.{Bool, true, false, _||_}
+use Prim.Native.Nat.{ℕ, suc}
+use mathlib.Core.Bool.{Bool, true, false}
 use mathlib.Core.List.{List, [], _∷_, reverse}
-use mathlib.Core.Option.{Option, none, some}
+use mathlib.Core.Option.{none, some}
 use lib.Dec.{eqb}
 use lib.ListN.{drop}
 use Rattle.definitions.specs.declared.Limits.{Limits}

@@ -5,15 +5,14 @@ use mathlib.Core.Path.{_≡_, refl}
 use mathlib.Core.Bool.{true, false}
 use mathlib.Core.List.{List, [], _∷_, _++_}
 use lib.ListN.{replicate}
-use Rattle.definitions.specs.declared.Answer.{Answer}
 use Rattle.definitions.specs.Limits.{standard}
 use Rattle.definitions.specs.Bytes.{Bytes, bytes}
-use Rattle.definitions.specs.Outcome.{Outcome, ok, refused}
+use Rattle.definitions.specs.Outcome.{ok, refused}
 use Rattle.definitions.specs.Json.{read-json}
 use Rattle.definitions.specs.Shape.{only-null, only-text, only-rec, rec-of, field, no-fields, ascending}
 use Rattle.definitions.specs.Reader.{Place, read-place}
 use Rattle.definitions.specs.Operations.{Done, refusal, written, said, plain-operation, admits-operation, check-operation}
-use Rattle.definitions.specs.Calls.{Called, plain-call, admits-call}
+use Rattle.definitions.specs.Calls.{plain-call, admits-call}
 use Rattle.definitions.specs.WorkSlices.{plain-slices, infer-slices, admits-slices, join-slices, below-slices}
 use Rattle.definitions.specs.Evaluate.{evaluate}
 

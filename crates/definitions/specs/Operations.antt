@@ -2,7 +2,7 @@
 -- the texts stands once for each (`infer-judged`); the operation on lent slices and the C call put their prelude before it.
 -- They are stated over a source, which says what a document is: JSON by `read-json`. The lengths of the work slices come as
 -- published and as lent, in the same order; nothing else depends on a work slice. Assumes nothing.
-use Prim.Native.Nat.{ℕ, zero, suc}
+use Prim.Native.Nat.{ℕ}
 use mathlib.Core.Bool.{Bool, true, false, _||_}
 use mathlib.Core.List.{List, [], _∷_, _++_}
 use lib.Dec.{ltb}
@@ -22,7 +22,7 @@ use Rattle.definitions.specs.Order.{below}
 use Rattle.definitions.specs.Join.{join, shape-of}
 use Rattle.definitions.specs.Admits.{admits}
 use Rattle.definitions.specs.ShapeText.{read-shape, write-shape}
-use Rattle.definitions.specs.Reader.{Result, read-reader}
+use Rattle.definitions.specs.Reader.{read-reader}
 use Rattle.definitions.specs.Checking.{check-reader}
 use Rattle.definitions.specs.Running.{Ran, run-reader}
 

@@ -2,7 +2,8 @@
 use mathlib.Core.Bool.{Bool, true, false, not, _&&_, _||_}
 use mathlib.Core.Option.{none, some}
 use Rattle.definitions.specs.Bytes.{found}
-use Rattle.definitions.specs.Shape.{Kind, all-kinds, every, Shape, shape, Element, no-list, list-of, Record, no-rec, rec-of, Fields, no-fields, field, has, element-of, record-of, find}
+use Rattle.definitions.specs.Shape.{Kind, all-kinds, every, Shape, shape, Element, no-list, list-of, Record}
+use Rattle.definitions.specs.Shape.{no-rec, rec-of, Fields, no-fields, field, has, element-of, record-of, find}
 
 -- "A's kinds are all in B"
 unfoldable pub kinds-in : Shape → Shape → Bool

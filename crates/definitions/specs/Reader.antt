@@ -10,7 +10,8 @@ use Rattle.definitions.specs.Bytes.{Bytes, bytes, same}
 use Rattle.definitions.specs.Outcome.{Outcome, refused}
 use Rattle.definitions.specs.Number.{Numeral, no-digits, beyond, number-of, begin, spelled}
 use Rattle.definitions.specs.Value.{Value}
-use Rattle.definitions.specs.Tokens.{Token, opening, closing, quoted, word, broken, Placed, tokens, Step, misplaced, go, opens, want-open, want-close, want-text, want-word, where-true, where-some, Named, named, want-named, read-tokens}
+use Rattle.definitions.specs.Tokens.{Token, opening, closing, quoted, word, broken, Placed, tokens, Step, misplaced, go, opens, want-open}
+use Rattle.definitions.specs.Tokens.{want-close, want-text, want-word, where-true, where-some, Named, named, want-named, read-tokens}
 
 -- ---- forms; each keeps the place of its bracket
 

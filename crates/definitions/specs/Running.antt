@@ -12,7 +12,7 @@ use Rattle.definitions.specs.Outcome.{Outcome, ok, refused, _>>=_}
 use Rattle.definitions.specs.Value.{Value, Items, no-items, item, Members, no-members, member, count}
 use Rattle.definitions.specs.Shape.{Kind, among}
 use Rattle.definitions.specs.Admits.{kind-of}
-use Rattle.definitions.specs.Reader.{Place, Conversion, Test, Result, Pairs, no-pairs, pair}
+use Rattle.definitions.specs.Reader.{Place, Conversion, Result, Pairs, no-pairs, pair}
 use Rattle.definitions.specs.Checking.{field-kinds, convert-kinds, list-kinds, test-kinds}
 
 -- what ran, and the steps counted when it had

@@ -10,7 +10,8 @@ use Rattle.definitions.specs.declared.Limits.{Limits}
 use Rattle.definitions.specs.Limits.{standard}
 use Rattle.definitions.specs.Bytes.{Bytes, bytes}
 use Rattle.definitions.specs.Json.{read-json}
-use Rattle.definitions.specs.Operations.{Done, refusal, written, said, plain-operation, infer-operation, below-operation, admits-operation, check-operation, run-operation}
+use Rattle.definitions.specs.Operations.{Done, refusal, written, said, plain-operation, infer-operation}
+use Rattle.definitions.specs.Operations.{below-operation, admits-operation, check-operation, run-operation}
 use Rattle.definitions.specs.Calls.{quiet}
 use Rattle.definitions.specs.Evaluate.{evaluate}
 

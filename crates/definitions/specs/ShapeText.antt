@@ -9,8 +9,10 @@ use Rattle.definitions.specs.declared.Limits.{Limits}
 use Rattle.definitions.specs.Bytes.{Bytes, bytes}
 use Rattle.definitions.specs.Outcome.{Outcome}
 use Rattle.definitions.specs.Plain.{plain-text}
-use Rattle.definitions.specs.Shape.{Kind, all-kinds, rank, among, Numeric, no-number, int-only, int-and-dec, Shape, shape, Element, no-list, list-of, Record, no-rec, rec-of, Fields, no-fields, field, has, before}
-use Rattle.definitions.specs.Tokens.{Token, opening, closing, quoted, word, broken, Placed, tokens, Step, misplaced, go, opens, want-open, want-close, want-text, where-true, where-some, Named, named, look-word, want-named, read-tokens}
+use Rattle.definitions.specs.Shape.{Kind, all-kinds, rank, among, Numeric, no-number, int-only, int-and-dec, Shape, shape}
+use Rattle.definitions.specs.Shape.{Element, no-list, list-of, Record, no-rec, rec-of, Fields, no-fields, field, has, before}
+use Rattle.definitions.specs.Tokens.{Token, opening, closing, quoted, word, broken, Placed, tokens, Step, misplaced, go, opens, want-open}
+use Rattle.definitions.specs.Tokens.{want-close, want-text, where-true, where-some, Named, named, look-word, want-named, read-tokens}
 
 -- ---- where in a shape text a token stands
 

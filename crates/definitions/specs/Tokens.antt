@@ -1,6 +1,6 @@
 -- Tokens of shape texts and readers, and reading a text of forms one step a token. Assumes nothing.
 use Prim.Native.Nat.{ℕ, suc}
-use mathlib.Core.Bool.{Bool, true, false, _||_}
+use mathlib.Core.Bool.{Bool, true, false}
 use mathlib.Core.List.{List, [], _∷_, reverse}
 use mathlib.Core.Option.{Option, none, some}
 use Rattle.definitions.specs.declared.Limits.{Limits}

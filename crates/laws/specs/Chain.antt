@@ -2,15 +2,14 @@
 -- come to. The calls are the operations of `definitions`. Assumes nothing.
 use Prim.Native.Nat.{ℕ, _≤_, _<_}
 use mathlib.Core.Path.{_≡_}
-use mathlib.Core.Bool.{Bool, true, false, _||_}
+use mathlib.Core.Bool.{Bool, true, false}
 use mathlib.Core.List.{List, [], _∷_, _++_, map}
-use lib.Dec.{eqb, ltb}
+use lib.Dec.{eqb}
 use lib.ListN.{length, take, drop}
 use Rattle.definitions.specs.declared.Limits.{Limits}
-use Rattle.definitions.specs.declared.Answer.{Answer}
 use Rattle.definitions.specs.Limits.{over}
 use Rattle.definitions.specs.Bytes.{Bytes, bytes}
-use Rattle.definitions.specs.Outcome.{Outcome, ok, refused}
+use Rattle.definitions.specs.Outcome.{ok, refused}
 use Rattle.definitions.specs.Value.{Value, size, nesting}
 use Rattle.definitions.specs.Plain.{plain}
 use Rattle.definitions.specs.Shape.{Shape, ascending}

@@ -1,11 +1,11 @@
 -- A reader that passes the check against a shape's text: what check wrote is the text of its result shape, and run on a
 -- document that the shape admits ends as demand 3 says. Assumes nothing.
-use Prim.Native.Nat.{ℕ, zero, suc, _≤_, _<_}
+use Prim.Native.Nat.{ℕ, _≤_}
 use mathlib.Core.Path.{_≡_, refl, sym, ap, _∙_, subst}
 use mathlib.Core.Bool.{Bool, true, false}
-use mathlib.Core.List.{List, [], _∷_, _++_}
-use lib.Dec.{ltb, lit<}
-use lib.ListN.{length, take, drop}
+use mathlib.Core.List.{List}
+use lib.Dec.{ltb}
+use lib.ListN.{length, take}
 use Rattle.definitions.specs.declared.Limits.{Limits}
 use Rattle.definitions.specs.Bytes.{Bytes}
 use Rattle.definitions.specs.Outcome.{Outcome, ok, refused}
@@ -17,15 +17,18 @@ use Rattle.definitions.specs.ShapeText.{read-shape, write-shape}
 use Rattle.definitions.specs.Reader.{Result, read-reader}
 use Rattle.definitions.specs.Checking.{check-reader}
 use Rattle.definitions.specs.Running.{Ran, run-reader}
-use Rattle.definitions.specs.Operations.{Done, Source, Judged, passed, _>>=_, refusal, in-text, slices-short, prelude, Text-out, to-write, shape-out, result-out, deliver, finish, check-judged, run-judged, check-operation, run-operation}
+use Rattle.definitions.specs.Operations.{Done, Source, Judged, passed, _>>=_, refusal, in-text, slices-short, prelude, Text-out}
+use Rattle.definitions.specs.Operations.{to-write, result-out, deliver, finish, check-judged, run-judged, check-operation, run-operation}
 use Rattle.laws.specs.Good.{Good-shape}
 use Rattle.laws.specs.Readers.{Safe}
 use Rattle.laws.specs.Soundness.{sound}
 use Rattle.laws.specs.SoundShapes.{check-ascending}
 use Rattle.laws.specs.ReaderFacts.{reader-scoped, reader-proper}
 use Rattle.laws.specs.RoundLaws.{reader-read-good, check-good, shape-reads-back}
-use Rattle.laws.specs.Tests.{ltb-lt, ltb-le}
-use Rattle.laws.specs.Judging.{Positive, bind-positive, prelude-positive, both-positive, in-text-positive, shape-out-positive, bind-passed, bind-of, prelude-short, prelude-long, prelude-passed, both-read, both-passed, in-text-passed, shape-over, shape-out-passed, shape-fits, result-over, result-out-over, result-out-fits, deliver-short, deliver-room, finish-zero, finish-written, front}
+use Rattle.laws.specs.Tests.{ltb-lt}
+use Rattle.laws.specs.Judging.{Positive, bind-positive, prelude-positive, both-positive, in-text-positive, shape-out-positive, bind-passed, bind-of}
+use Rattle.laws.specs.Judging.{prelude-short, prelude-long, prelude-passed, both-read, both-passed, in-text-passed, shape-over, shape-out-passed}
+use Rattle.laws.specs.Judging.{shape-fits, result-over, result-out-over, result-out-fits, deliver-short, deliver-room, finish-zero, finish-written, front}
 use Rattle.laws.specs.Numbered.{numbered-shape, numbered-reader, numbered-check-reader}
 use Rattle.laws.specs.Chain.{Reads, Ends, gives, short-work, out-of-steps, too-large, no-room, Passes, Proper-source}
 use Rattle.laws.specs.ChainReached.{Stands, stands-reads, ok-same}
@@ -149,7 +152,8 @@ module _ (source : Source) (published lent : List ℕ) (l : Limits) where
       run-ends h = subst End (sym (run-is reader document output)) (go (slices-short published lent) refl)
         where
           go : (b : Bool) → slices-short published lent ≡ b → End (finish output (ran reader document))
-          go true q = subst (λ (m : Judged Text-out). End (finish output m)) (sym (prelude-short published lent (run-judged source l reader document) q)) (short-work q)
+          go true q =
+              subst (λ (m : Judged Text-out). End (finish output m)) (sym (prelude-short published lent (run-judged source l reader document) q)) (short-work q)
           go false q = subst (λ (m : Judged Text-out). End (finish output m)) (sym (ran-runs q)) (ends-run (run-reader r l v) refl h)
 
 -- ---- both

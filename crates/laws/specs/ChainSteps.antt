@@ -1,10 +1,9 @@
 -- One infer call: exactly when it is accepted, and what it leaves. Assumes nothing.
-use Prim.Native.Nat.{ℕ, zero, suc, _≤_, _<_}
-use mathlib.Core.Path.{_≡_, refl, sym, ap, _∙_, subst}
-use mathlib.Core.Bool.{Bool, true, false}
-use mathlib.Core.List.{List, [], _∷_, _++_}
-use lib.Dec.{ltb, eqb, lit<}
-use lib.ListN.{length, take, drop}
+use Prim.Native.Nat.{ℕ, _≤_}
+use mathlib.Core.Path.{_≡_, refl, _∙_, subst}
+use mathlib.Core.Bool.{true, false}
+use mathlib.Core.List.{List}
+use lib.ListN.{length, take}
 use Rattle.definitions.specs.declared.Limits.{Limits}
 use Rattle.definitions.specs.Bytes.{Bytes}
 use Rattle.definitions.specs.Outcome.{Outcome, ok, refused}
@@ -12,9 +11,10 @@ use Rattle.definitions.specs.Value.{Value}
 use Rattle.definitions.specs.Shape.{Shape}
 use Rattle.definitions.specs.Join.{join, shape-of}
 use Rattle.definitions.specs.ShapeText.{read-shape, write-shape}
-use Rattle.definitions.specs.Operations.{Source, Judged, passed, slices-short, prelude, Text-out, to-write, shape-out, finish, infer-judged, infer-operation}
+use Rattle.definitions.specs.Operations.{Source, Judged, passed, slices-short, prelude, Text-out, to-write, finish, infer-judged, infer-operation}
 use Rattle.laws.specs.Tests.{eqb-eq, eq-eqb}
-use Rattle.laws.specs.Judging.{Numbered, Positive, bind-of, bind-positive, prelude-positive, both-positive, shape-out-positive, prelude-long, prelude-passed, both-read, both-passed, shape-over, shape-out-passed, shape-out-fits, finish-zero, finish-written, front}
+use Rattle.laws.specs.Judging.{Numbered, Positive, bind-of, bind-positive, prelude-positive, both-positive, shape-out-positive, prelude-long}
+use Rattle.laws.specs.Judging.{prelude-passed, both-read, both-passed, shape-over, shape-out-passed, shape-out-fits, finish-zero, finish-written, front}
 use Rattle.laws.specs.Chain.{Call, infers, takes, left-by, Reads, Proper-source}
 
 module _ (source : Source) (published : List ℕ) (l : Limits) where

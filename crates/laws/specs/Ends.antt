@@ -6,7 +6,7 @@ use mathlib.Core.Bool.{Bool, true, false}
 use mathlib.Core.List.{List}
 use Rattle.definitions.specs.declared.Answer.{Answer}
 use Rattle.definitions.specs.Bytes.{Bytes}
-use Rattle.definitions.specs.Operations.{Done, Judged, passed, stopped, _>>=_, refusal, Text-out, slices-short, prelude, finish, said, say}
+use Rattle.definitions.specs.Operations.{Done, Judged, passed, stopped, _>>=_, refusal, Text-out, slices-short, prelude, finish, say}
 use Rattle.laws.specs.Judging.{bind-of, bind-stopped, prelude-short, prelude-long}
 
 -- ---- with an output

@@ -181,7 +181,14 @@ module _ {Q : Type 0} {step : Q → Placed → Step Q} where
       record { before = h .before; behind = h .behind; between = h .between; first = on e (h .first); second = h .second; split = h .split }
   walk-parts (t ∷ pre) (enter {d = d} e w) =
       let h = walk-parts pre w in
-      record { before = d ∷ h .before; behind = h .behind; between = h .between; first = enter e (h .first); second = h .second; split = ap (λ x. d ∷ x) (h .split) }
+      record {
+        before = d ∷ h .before;
+        behind = h .behind;
+        between = h .between;
+        first = enter e (h .first);
+        second = h .second;
+        split = ap (λ x. d ∷ x) (h .split);
+      }
 
   -- one walk behind another
   pub walk-join

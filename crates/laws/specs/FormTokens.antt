@@ -38,7 +38,9 @@ record Moved (X : List Placed → List Placed → Type 0) (ts us : List Placed) 
   same-left : Same us left
 
 -- where a token must come next
-closed : {X : List Placed → List Placed → Type 0} {x : ℕ} {k : Token} {ts vs : List Placed} → Moved X ts (at x k ∷ vs) → (y : ℕ) × (ws : List Placed) × X ts (at y k ∷ ws) × Same vs ws
+closed
+    : {X : List Placed → List Placed → Type 0} {x : ℕ} {k : Token} {ts vs : List Placed} → Moved X ts (at x k ∷ vs)
+    → (y : ℕ) × (ws : List Placed) × X ts (at y k ∷ ws) × Same vs ws
 closed {X} {ts = ts} m =
     let t = take-token (m .same-left) in
     (t .place, t .left, subst (X ts) (t .split) (m .form), t .same-left)
@@ -223,8 +225,11 @@ mutual
   pairs-same (next-pair {n = n} c f h g) e =
       let a = name-same c e in
       let (r, m) = result-same f (a .same-left) in
-      let (qs, i, o) = pairs-same g (m .same-left) in
-      (pair n r qs, λ b. ap (λ z. same b n || z) (i b), record { left = o .left; form = next-pair (a .form) (m .form) (i n ∙ h) (o .form); same-left = o .same-left })
+      let (qs, i, o) = pairs-same g (m .same-left) in (
+        pair n r qs,
+        λ b. ap (λ z. same b n || z) (i b),
+        record { left = o .left; form = next-pair (a .form) (m .form) (i n ∙ h) (o .form); same-left = o .same-left },
+      )
 
 -- a right text's tokens at other places are a right text
 pub reader-places : {ts us : List Placed} → Reader-text ts → Same ts us → Reader-text us

@@ -1,12 +1,10 @@
 -- How operations are judged: what a pipeline of causes that passed says of each, that every refusal has a number above 0,
 -- and what is then written. Assumes nothing.
-use Prim.Native.Nat.{ℕ, zero, suc, _≤_, _<_, zero-le, suc-le-suc}
-use native.Mathlib.Nat.{not-suc-le-zero, le-refl}
+use Prim.Native.Nat.{ℕ, _≤_, _<_}
 use native.Mathlib.Omega.{arith}
 use mathlib.Core.Path.{_≡_, refl, sym, ap, _∙_, subst}
-use mathlib.Core.Bool.{Bool, true, false, _||_, true≢false, false≢true}
-use mathlib.Core.List.{List, [], _∷_, _++_}
-use mathlib.Core.Option.{Option, none, some}
+use mathlib.Core.Bool.{Bool, true, false, _||_}
+use mathlib.Core.List.{List, _++_}
 use lib.Dec.{ltb, lit<}
 use lib.ListN.{length, take, drop}
 use lib.Seq.{take-append-seam}
@@ -20,8 +18,9 @@ use Rattle.definitions.specs.Plain.{plain}
 use Rattle.definitions.specs.Shape.{Shape, forms, levels}
 use Rattle.definitions.specs.ShapeText.{write-shape}
 use Rattle.definitions.specs.Running.{Ran}
-use Rattle.definitions.specs.Operations.{Done, Judged, passed, stopped, _>>=_, refusal, output-short, written, Reading, in-text, judge-text, judge-both, slices-short, judge-work, prelude, Text-out, to-write, shape-out, result-out, deliver, finish}
-use Rattle.laws.specs.Tests.{ltb-le, le-ltb, ltb-lt, lt-ltb}
+use Rattle.definitions.specs.Operations.{Done, Judged, passed, stopped, _>>=_, refusal, output-short, written, Reading, in-text, judge-text}
+use Rattle.definitions.specs.Operations.{judge-both, slices-short, judge-work, prelude, Text-out, to-write, shape-out, result-out, deliver, finish}
+use Rattle.laws.specs.Tests.{ltb-le, le-ltb}
 use Rattle.laws.specs.Bools.{or-false-left, or-false-right}
 
 -- ---- every refusal has a number

@@ -1,6 +1,5 @@
 -- Every refusal of a shape text, a reader or a check has a number above 0. Assumes nothing.
-use Prim.Native.Nat.{ℕ, zero, suc, _<_}
-use mathlib.Core.Path.{_≡_, refl, sym, ap, _∙_, subst}
+use Prim.Native.Nat.{ℕ, suc}
 use mathlib.Core.Bool.{Bool, true, false}
 use mathlib.Core.List.{List, [], _∷_}
 use mathlib.Core.Option.{Option, none, some}
@@ -9,13 +8,13 @@ use lib.ListN.{length}
 use Rattle.definitions.specs.declared.Limits.{Limits}
 use Rattle.definitions.specs.Bytes.{Bytes}
 use Rattle.definitions.specs.Outcome.{Outcome, ok, refused, _>>=_}
-use Rattle.definitions.specs.Shape.{Kind, Shape, Record, no-rec, rec-of, Fields, within, element-of, record-of, find}
-use Rattle.definitions.specs.Join.{join, insert, shape-of}
+use Rattle.definitions.specs.Shape.{Kind, Shape, Record, no-rec, rec-of, within, record-of, find}
 use Rattle.definitions.specs.Limits.{over}
 use Rattle.definitions.specs.Tokens.{Placed, Step, misplaced, go, opens, judge-step, or-end, read-tokens, tokens}
 use Rattle.definitions.specs.ShapeText.{read-shape}
 use Rattle.definitions.specs.Reader.{Place, Result, Pairs, no-pairs, pair, empty-reader, read-result, read-reader}
-use Rattle.definitions.specs.Checking.{wants, listed, field-shape, field-kinds, convert-kinds, convert-shape, list-kinds, if-kinds, element-shape, cut-to, taken-out, check-place, check, check-pairs, check-reader}
+use Rattle.definitions.specs.Checking.{wants, listed, field-shape, field-kinds, convert-kinds, list-kinds}
+use Rattle.definitions.specs.Checking.{if-kinds, check-place, check, check-pairs, check-reader}
 use Rattle.laws.specs.Judging.{Numbered}
 
 -- ---- texts of forms

@@ -171,8 +171,25 @@ step-back (want (result-word x o)) t ts z b =
     (λ r. Rest r ts z)
     (λ k. Rest (want (result-word x o)) (at (t .at) k ∷ ts) z)
     result-words
-    (λ f. go (want (f x o)))
-    (convert-begins int-word, (convert-begins dec-word, (convert-begins bool-word, (convert-begins text-word, (keep-begins, (count-begins, (each-begins, (when-begins, (if-begins, (num-begins, (str-begins, (yes-begins, (no-begins, (none-begins, (pack-begins, tt)))))))))))))))
+    (λ f. go (want (f x o))) (
+      convert-begins int-word,
+      (
+        convert-begins dec-word,
+        (
+          convert-begins bool-word,
+          (
+            convert-begins text-word,
+            (
+              keep-begins,
+              (
+                count-begins,
+                (each-begins, (when-begins, (if-begins, (num-begins, (str-begins, (yes-begins, (no-begins, (none-begins, (pack-begins, tt))))))))),
+              ),
+            ),
+          ),
+        ),
+      ),
+    )
     (t .token)
     b
 step-back (want (when-test x o)) t ts z b =
@@ -180,8 +197,10 @@ step-back (want (when-test x o)) t ts z b =
     (λ r. Rest r ts z)
     (λ k. Rest (want (when-test x o)) (at (t .at) k ∷ ts) z)
     test-words
-    (λ k. go (want (place-open (in-result x (tests k) o))))
-    (rest-test null-test, (rest-test bool-test, (rest-test int-test, (rest-test num-test, (rest-test text-test, (rest-test list-test, (rest-test rec-test, tt)))))))
+    (λ k. go (want (place-open (in-result x (tests k) o)))) (
+      rest-test null-test,
+      (rest-test bool-test, (rest-test int-test, (rest-test num-test, (rest-test text-test, (rest-test list-test, (rest-test rec-test, tt)))))),
+    )
     (t .token)
     b
 step-back (want (num-number x o)) t ts z b =

@@ -188,8 +188,40 @@ step-says (want (result-word x o)) t =
     q = want (result-word x o)
 
     rows : Each (λ w f. Says (Goes q) (Enters q) (word w) (go (want (f x o)))) result-words
-    rows =
-        (goes-word q _ _ refl refl, (goes-word q _ _ refl refl, (goes-word q _ _ refl refl, (goes-word q _ _ refl refl, (goes-word q _ _ refl refl, (goes-word q _ _ refl refl, (goes-word q _ _ refl refl, (goes-word q _ _ refl refl, (goes-word q _ _ refl refl, (goes-word q _ _ refl refl, (goes-word q _ _ refl refl, (goes-word q _ _ refl refl, (goes-word q _ _ refl refl, (goes-word q _ _ refl refl, (goes-word q _ _ refl refl, tt)))))))))))))))
+    rows = (
+      goes-word q _ _ refl refl,
+      (
+        goes-word q _ _ refl refl,
+        (
+          goes-word q _ _ refl refl,
+          (
+            goes-word q _ _ refl refl,
+            (
+              goes-word q _ _ refl refl,
+              (
+                goes-word q _ _ refl refl,
+                (
+                  goes-word q _ _ refl refl,
+                  (
+                    goes-word q _ _ refl refl,
+                    (
+                      goes-word q _ _ refl refl,
+                      (
+                        goes-word q _ _ refl refl,
+                        (
+                          goes-word q _ _ refl refl,
+                          (goes-word q _ _ refl refl, (goes-word q _ _ refl refl, (goes-word q _ _ refl refl, (goes-word q _ _ refl refl, tt)))),
+                        ),
+                      ),
+                    ),
+                  ),
+                ),
+              ),
+            ),
+          ),
+        ),
+      ),
+    )
 step-says (want (when-test x o)) t =
     named-says (Goes q) (Enters q) test-words (λ k. go (want (place-open (in-result x (tests k) o)))) rows (t .token)
   where
@@ -197,8 +229,16 @@ step-says (want (when-test x o)) t =
     q = want (when-test x o)
 
     rows : Each (λ w k. Says (Goes q) (Enters q) (word w) (go (want (place-open (in-result x (tests k) o))))) test-words
-    rows =
-        (goes-word q _ _ refl refl, (goes-word q _ _ refl refl, (goes-word q _ _ refl refl, (goes-word q _ _ refl refl, (goes-word q _ _ refl refl, (goes-word q _ _ refl refl, (goes-word q _ _ refl refl, tt)))))))
+    rows = (
+      goes-word q _ _ refl refl,
+      (
+        goes-word q _ _ refl refl,
+        (
+          goes-word q _ _ refl refl,
+          (goes-word q _ _ refl refl, (goes-word q _ _ refl refl, (goes-word q _ _ refl refl, (goes-word q _ _ refl refl, tt)))),
+        ),
+      ),
+    )
 step-says (want (num-number x o)) t =
     let q = want (num-number x o) in
     word-says

@@ -43,8 +43,10 @@ place-walk (field-form {p = x} {x = y} {y = z} {n = n} {q = q} h f) o e =
 apart-more : (n : Bytes) (r : Result) (ps qs : Pairs) → Apart ps qs → among-pairs n qs ≡ false → Apart (pair n r ps) qs
 unfolding among-pairs
 apart-more n r ps no-pairs a h = tt
-apart-more n r ps (pair m s qs) a h =
-    (none-over (same-sym n m ∙ or-false-left (same n m) (among-pairs n qs) h) (a .0), apart-more n r ps qs (a .1) (or-false-right (same n m) (among-pairs n qs) h))
+apart-more n r ps (pair m s qs) a h = (
+  none-over (same-sym n m ∙ or-false-left (same n m) (among-pairs n qs) h) (a .0),
+  apart-more n r ps qs (a .1) (or-false-right (same n m) (among-pairs n qs) h),
+)
 
 -- all are apart from none
 apart-none : (qs : Pairs) → Apart no-pairs qs

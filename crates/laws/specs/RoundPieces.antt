@@ -10,9 +10,13 @@ use Rattle.definitions.specs.declared.Limits.{Limits}
 use Rattle.definitions.specs.Bytes.{Bytes, bytes, look, between, order, same}
 use Rattle.definitions.specs.Plain.{plain-text}
 use Rattle.definitions.specs.Limits.{over}
-use Rattle.definitions.specs.Tokens.{opening, closing, quoted, word, at-place, go, opens, want-open, want-close, want-text, want-word, want-named, where-true, where-some, look-word, border-table}
-use Rattle.definitions.specs.Shape.{Kind, all-kinds, among, Shape, shape, Element, no-list, list-of, Record, no-rec, rec-of, Fields, no-fields, field, behind}
-use Rattle.definitions.specs.ShapeText.{Parts, no-parts, Around, as-element, as-member, State, want, shape-open, shape-word, kind-word, member-open, member-word, member-name, member-close, put, depth, build, name-fits, shape-words, member-words, member-step, element-step, bracket-step, kind-step, want-step, step, write-kinds, new-line, write, write-element, write-record, write-fields}
+use Rattle.definitions.specs.Tokens.{opening, closing, quoted, word, at-place, go, opens, want-open, want-close}
+use Rattle.definitions.specs.Tokens.{want-text, want-word, want-named, where-true, where-some, look-word, border-table}
+use Rattle.definitions.specs.Shape.{Kind, all-kinds, among, Shape, Element, no-list, list-of, Record, no-rec, rec-of, Fields, no-fields, field, behind}
+use Rattle.definitions.specs.ShapeText.{Parts, no-parts, Around, as-element, as-member, State, want, shape-open, shape-word}
+use Rattle.definitions.specs.ShapeText.{kind-word, member-open, member-word, member-name, member-close, put, depth, build}
+use Rattle.definitions.specs.ShapeText.{name-fits, shape-words, member-words, member-step, element-step, bracket-step, kind-step}
+use Rattle.definitions.specs.ShapeText.{want-step, step, write-kinds, new-line, write, write-element, write-record, write-fields}
 use Rattle.laws.specs.Ranges.{gt-leb}
 use Rattle.laws.specs.LexLaws.{inner, is-word, Bordered, bordered-line}
 use Rattle.laws.specs.RoundReads.{Steps}

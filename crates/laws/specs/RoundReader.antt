@@ -7,10 +7,14 @@ use mathlib.Core.Option.{Option, none, some, Option·none-ne-some, Option·some-
 use lib.ListN.{getD}
 use Rattle.definitions.specs.Bytes.{Bytes, same}
 use Rattle.definitions.specs.Outcome.{Outcome, ok, refused}
-use Rattle.definitions.specs.Shape.{Kind, Shape, Element, Record, Fields, field, nothing, within, element-of, record-of, find, only-bool, only-numeric, only-text, only-list, only-rec}
+use Rattle.definitions.specs.Shape.{Kind, Shape, Element, Record, Fields, nothing, within, element-of}
+use Rattle.definitions.specs.Shape.{record-of, find, only-bool, only-numeric, only-text, only-list, only-rec}
 use Rattle.definitions.specs.Reader.{Place, Conversion, to-int, to-dec, to-bool, to-text, Test, Result, Pairs}
-use Rattle.definitions.specs.Checking.{wants, listed, field-shape, field-kinds, list-kinds, if-kinds, convert-kinds, convert-shape, element-shape, stay-element, stay-record, stay, cut-to, taken-out, check-place, check, check-pairs, check-reader}
-use Rattle.laws.specs.Good.{Good-shape, good-shape, Good-element, good-no-list, good-list-of, Good-record, good-no-rec, good-rec-of, Good-fields, good-no-fields, good-field, Good-reader, good-convert, good-keep, good-count, good-each, good-when, good-choose, good-literal, good-pack, Good-pairs, good-no-pairs, good-pair}
+use Rattle.definitions.specs.Checking.{wants, listed, field-shape, field-kinds, list-kinds, if-kinds, convert-kinds, convert-shape, element-shape}
+use Rattle.definitions.specs.Checking.{stay-element, stay-record, stay, cut-to, taken-out, check-place, check, check-pairs, check-reader}
+use Rattle.laws.specs.Good.{Good-shape, good-shape, Good-element, good-no-list, good-list-of, Good-record, good-no-rec}
+use Rattle.laws.specs.Good.{good-rec-of, Good-fields, good-no-fields, good-field, Good-reader, good-convert, good-keep, good-count}
+use Rattle.laws.specs.Good.{good-each, good-when, good-choose, good-literal, good-pack, Good-pairs, good-no-pairs, good-pair}
 use Rattle.laws.specs.RoundGood.{join-good, nothing-good, insert-good, shape-of-good}
 use Rattle.laws.specs.RoundOutcome.{Gives, gives-ok, gives-refused, gives-holds, gives-then, gives-if}
 

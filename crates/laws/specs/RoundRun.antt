@@ -17,8 +17,11 @@ use Rattle.definitions.specs.Shape.{Kind, among}
 use Rattle.definitions.specs.Admits.{kind-of}
 use Rattle.definitions.specs.Reader.{Place, Result, Pairs}
 use Rattle.definitions.specs.Checking.{field-kinds, convert-kinds, list-kinds, test-kinds}
-use Rattle.definitions.specs.Running.{Ran, gives, enter, stuck-unless, member-of, members-of, field-value, converted, items-of, int-value, truth, run-place, run-items, run, run-pairs, run-reader}
-use Rattle.laws.specs.Good.{Good-value, good-null, good-bool, good-number, good-text, good-list, good-rec, Good-items, good-no-items, good-item, Good-members, good-no-members, good-member, Good-reader, good-convert, good-keep, good-count, good-each, good-when, good-choose, good-literal, good-pack, Good-pairs, good-no-pairs, good-pair}
+use Rattle.definitions.specs.Running.{Ran, gives, enter, stuck-unless, member-of, members-of, field-value, converted}
+use Rattle.definitions.specs.Running.{items-of, int-value, truth, run-place, run-items, run, run-pairs, run-reader}
+use Rattle.laws.specs.Good.{Good-value, good-null, good-bool, good-number, good-text, good-list, good-rec, Good-items, good-no-items}
+use Rattle.laws.specs.Good.{good-item, Good-members, good-no-members, good-member, Good-reader, good-convert, good-keep, good-count}
+use Rattle.laws.specs.Good.{good-each, good-when, good-choose, good-literal, good-pack, Good-pairs, good-no-pairs, good-pair}
 use Rattle.laws.specs.RoundOutcome.{Gives, gives-ok, gives-refused, gives-holds, gives-then, gives-map, gives-if}
 
 -- ---- values of places
@@ -106,7 +109,9 @@ count-size (item v vs) =
 
 int-value-good : (n : ℕ) → n ≤ most-coefficient → Good-value (int-value n)
 unfolding int-value
-int-value-good n h = good-number {x = record { negative = false; coefficient = n; scale = 0 }} (record { coefficient-fits = h; scale-fits = omega arith; minus-fits = λ e z. false≢true e })
+int-value-good n h =
+    good-number {x = record { negative = false; coefficient = n; scale = 0 }}
+    (record { coefficient-fits = h; scale-fits = omega arith; minus-fits = λ e z. false≢true e })
 
 count-good : (vs : Items) → Fair-items vs → Good-value (int-value (count vs))
 count-good vs f =

@@ -13,12 +13,14 @@ use Rattle.definitions.specs.Shape.{among}
 use Rattle.definitions.specs.Admits.{kind-of}
 use Rattle.definitions.specs.Reader.{Place, Result, Pairs, no-pairs, pair, among-pairs}
 use Rattle.definitions.specs.Checking.{convert-kinds, list-kinds, test-kinds}
-use Rattle.definitions.specs.Running.{Ran, gives, member-of, members-of, converted, items-of, int-value, truth, run-place, run-items, run, run-pairs, run-reader}
+use Rattle.definitions.specs.Running.{Ran, gives, member-of, members-of, converted, items-of, int-value}
+use Rattle.definitions.specs.Running.{truth, run-place, run-items, run, run-pairs, run-reader}
 use Rattle.laws.specs.Bools.{and-intro}
 use Rattle.laws.specs.Distinct.{distinct, distinct-items, distinct-members}
 use Rattle.laws.specs.Readers.{proper, proper-pairs}
 use Rattle.laws.specs.Bools.{and-two, and-three}
-use Rattle.laws.specs.SoundHolds.{Holds, gave, any, holds-any, holds-number, holds-of, holds-both, holds-bind, holds-stuck, holds-enter, holds-either, holds-truth, holds-field}
+use Rattle.laws.specs.SoundHolds.{Holds, gave, any, holds-any, holds-number, holds-of, holds-both, holds-bind}
+use Rattle.laws.specs.SoundHolds.{holds-stuck, holds-enter, holds-either, holds-truth, holds-field}
 
 -- ---- steps and refusals
 

@@ -254,7 +254,11 @@ words-to (run-more {b = b} e run) {s} (has-kind {k = j} {ts = ts} f g) ks h same
     (at-or-above {b = rank k} {c = rank j} (omega arith)))
     (λ k q. among-later k j ks (λ p. let z : ⊥ = omega arith in z) ∙ under k (omega arith))
     in
-    record { kinds = r .kinds; chain = kinds-next {b = bound ks} {k = j} (omega arith) (may-follow-has s ks j (omega arith) f (λ k q. same k (omega arith))) (r .chain); agrees = r .agrees }
+    record {
+      kinds = r .kinds;
+      chain = kinds-next {b = bound ks} {k = j} (omega arith) (may-follow-has s ks j (omega arith) f (λ k q. same k (omega arith))) (r .chain);
+      agrees = r .agrees;
+    }
 words-to (run-more {b = b} e run) {s} (lacks-kind {k = j} f g) ks h same under =
     words-to
     run

@@ -119,7 +119,8 @@ unfolding build record-from
 ended-with p h = rw (h, record-from)
 
 -- the bracket that ends a shape
-pub tail-end : {p : Parts} {o : Around} {a : Shape} {x : ℕ} {ts : List Placed} → Rest (put (build p) o) ts a → Rest (want (member-open p o)) (at x closing ∷ ts) a
+pub tail-end
+    : {p : Parts} {o : Around} {a : Shape} {x : ℕ} {ts : List Placed} → Rest (put (build p) o) ts a → Rest (want (member-open p o)) (at x closing ∷ ts) a
 tail-end {p} {o} {a} {ts = ts} r =
     ⊎-elim
     (λ (h : among Kind.rec (p .kinds) ≡ true).

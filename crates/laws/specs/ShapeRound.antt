@@ -118,7 +118,8 @@ fields-parts name s fs around l n m k p o q q₁ z u b w f x y =
     y))))))))
 
 mutual
-  unfolding ascending forms levels write has has-list has-rec kinds-alone kinds-and-element with-fields with-element with-member parts-of fields-in fields-onto follows put depth
+  unfolding ascending forms levels write has has-list has-rec kinds-alone kinds-and-element with-fields with-element with-member parts-of fields-in
+      fields-onto follows put depth
 
   shape-reads
       : {s : Shape} → Good-shape s → ascending s ≡ true → (around : ℕ) (l : Limits) (n : ℕ) (o : Around) (q : State) (z : Bytes)

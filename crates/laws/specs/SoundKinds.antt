@@ -11,10 +11,13 @@ use lib.ListN.{getD}
 use Rattle.definitions.specs.Number.{Number, is-int}
 use Rattle.definitions.specs.Outcome.{Outcome, refused}
 use Rattle.definitions.specs.Value.{Value}
-use Rattle.definitions.specs.Shape.{Kind, all-kinds, rank, among, every, Numeric, no-number, int-only, int-and-dec, Shape, shape, Element, no-list, list-of, Record, no-rec, rec-of, has, has-int, has-dec, has-list, has-rec, within, element-of, record-of, ascending, ascending-element, ascending-record, only-numeric, only-bool, only-text}
+use Rattle.definitions.specs.Shape.{Kind, all-kinds, rank, among, every, Numeric, no-number, int-only, int-and-dec, Shape, shape, Element}
+use Rattle.definitions.specs.Shape.{no-list, list-of, Record, no-rec, rec-of, has, has-int, has-dec, has-list, has-rec, within, element-of}
+use Rattle.definitions.specs.Shape.{record-of, ascending, ascending-element, ascending-record, only-numeric, only-bool, only-text}
 use Rattle.definitions.specs.Admits.{kind-of, missing-have-null, admits, admitted, admitted-items, admitted-members}
 use Rattle.definitions.specs.Reader.{Conversion, to-int, to-dec, to-bool, to-text, Test}
-use Rattle.definitions.specs.Checking.{convert-kinds, if-kinds, convert-shape, element-shape, test-kinds, stay-numeric, stay-element, stay-record, stay, cut-to, taken-out}
+use Rattle.definitions.specs.Checking.{convert-kinds, if-kinds, convert-shape, element-shape, test-kinds}
+use Rattle.definitions.specs.Checking.{stay-numeric, stay-element, stay-record, stay, cut-to, taken-out}
 use Rattle.definitions.specs.Running.{items-of, int-value, truth}
 use Rattle.laws.specs.Bools.{and-left, and-right, and-intro, or-cases, clash}
 use Rattle.laws.specs.SoundHolds.{Holds}

@@ -16,7 +16,8 @@ use Rattle.definitions.specs.Shape.{Kind, among}
 use Rattle.definitions.specs.Admits.{kind-of}
 use Rattle.definitions.specs.Reader.{Place, Result, Pairs, no-pairs, pair}
 use Rattle.definitions.specs.Checking.{field-kinds, convert-kinds, list-kinds, test-kinds}
-use Rattle.definitions.specs.Running.{Ran, gives, enter, stuck-unless, member-of, members-of, field-value, converted, items-of, int-value, truth, run-place, run-items, run, run-pairs, run-reader}
+use Rattle.definitions.specs.Running.{Ran, gives, enter, stuck-unless, member-of, members-of, field-value, converted}
+use Rattle.definitions.specs.Running.{items-of, int-value, truth, run-place, run-items, run, run-pairs, run-reader}
 
 -- ---- the same run again
 

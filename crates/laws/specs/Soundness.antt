@@ -13,16 +13,19 @@ use Rattle.definitions.specs.Shape.{among, Shape, nothing, element-of, record-o
 use Rattle.definitions.specs.Join.{join}
 use Rattle.definitions.specs.Admits.{kind-of, missing-have-null, admits, admitted, admitted-items, admitted-members}
 use Rattle.definitions.specs.Reader.{Place, Result, Pairs, no-pairs, pair, among-pairs}
-use Rattle.definitions.specs.Checking.{field-kinds, convert-kinds, list-kinds, if-kinds, field-shape, element-shape, cut-to, taken-out, check-place, check, check-pairs, check-reader, test-kinds}
+use Rattle.definitions.specs.Checking.{field-kinds, convert-kinds, list-kinds, if-kinds, field-shape, element-shape}
+use Rattle.definitions.specs.Checking.{cut-to, taken-out, check-place, check, check-pairs, check-reader, test-kinds}
 use Rattle.definitions.specs.Running.{Ran, gives, field-value, converted, items-of, run-place, run-items, run, run-pairs, run-reader}
 use Rattle.laws.specs.Bools.{and-intro, not-true}
 use Rattle.laws.specs.Distinct.{distinct}
 use Rattle.laws.specs.AdmitsLaws.{shape-of-admits, admits-join-left, admits-join-right}
 use Rattle.laws.specs.Readers.{Safe, scoped-place, scoped, scoped-pairs, proper, proper-pairs}
 use Rattle.laws.specs.Bools.{and-two, and-three}
-use Rattle.laws.specs.SoundHolds.{Holds, gave, any, holds-ok, holds-number, holds-of, holds-map, holds-both, holds-bind, holds-wants, holds-unstuck, holds-enter, holds-either, holds-listed}
+use Rattle.laws.specs.SoundHolds.{Holds, gave, any, holds-ok, holds-number, holds-of, holds-map, holds-both}
+use Rattle.laws.specs.SoundHolds.{holds-bind, holds-wants, holds-unstuck, holds-enter, holds-either, holds-listed}
 use Rattle.laws.specs.RunLaws.{distinct-none, distinct-bind, pairs-named, run-keeps-distinct}
-use Rattle.laws.specs.SoundKinds.{within-kind, convert-admits, count-admits, items-admitted, holds-condition, cut-admits, taken-admits, cut-ascending, taken-ascending}
+use Rattle.laws.specs.SoundKinds.{within-kind, convert-admits, count-admits, items-admitted}
+use Rattle.laws.specs.SoundKinds.{holds-condition, cut-admits, taken-admits, cut-ascending, taken-ascending}
 use Rattle.laws.specs.SoundFields.{field-admits, pack-admitted}
 use Rattle.laws.specs.SoundShapes.{Ascends, ascends-none, ascends-bind, element-ascending, place-ascending, result-ascending, pairs-ascending}
 

@@ -43,7 +43,8 @@ heads-hits (head-ed i) = inr (omega arith, inr (omega arith, inr (omega arith, i
 heads-hits (head-ee i) = inr (omega arith, inr (omega arith, inr (omega arith, inr (omega arith, inl (i, refl)))))
 heads-hits (head-f0 i) = inr (omega arith, inr (omega arith, inr (omega arith, inr (omega arith, inr (omega arith, inl (i, refl))))))
 heads-hits (head-f1 i) = inr (omega arith, inr (omega arith, inr (omega arith, inr (omega arith, inr (omega arith, inr (omega arith, inl (i, refl)))))))
-heads-hits (head-f4 i) = inr (omega arith, inr (omega arith, inr (omega arith, inr (omega arith, inr (omega arith, inr (omega arith, inr (omega arith, inl (i, refl))))))))
+heads-hits (head-f4 i) =
+    inr (omega arith, inr (omega arith, inr (omega arith, inr (omega arith, inr (omega arith, inr (omega arith, inr (omega arith, inl (i, refl))))))))
 
 pub heads-look : {b lo hi n : ℕ} → Heads b lo hi n → look head-table b ≡ some (tails lo hi n)
 heads-look {b} {lo} {hi} {n} h = hits-look head-table b (tails lo hi n) (heads-hits h)
@@ -61,8 +62,10 @@ hit-escapes (there _ (there _ (here i))) = short-escape (at-one (λ x. Rfc.escap
 hit-escapes (there _ (there _ (there _ (here i)))) = short-escape (at-one (λ x. Rfc.escaped-char x 0x08) i Rfc.escaped-char.backspace)
 hit-escapes (there _ (there _ (there _ (there _ (here i))))) = short-escape (at-one (λ x. Rfc.escaped-char x 0x0C) i Rfc.escaped-char.form-feed)
 hit-escapes (there _ (there _ (there _ (there _ (there _ (here i)))))) = short-escape (at-one (λ x. Rfc.escaped-char x 0x0A) i Rfc.escaped-char.line-feed)
-hit-escapes (there _ (there _ (there _ (there _ (there _ (there _ (here i))))))) = short-escape (at-one (λ x. Rfc.escaped-char x 0x0D) i Rfc.escaped-char.carriage-return)
-hit-escapes (there _ (there _ (there _ (there _ (there _ (there _ (there _ (here i)))))))) = short-escape (at-one (λ x. Rfc.escaped-char x 0x09) i Rfc.escaped-char.tab)
+hit-escapes (there _ (there _ (there _ (there _ (there _ (there _ (here i))))))) =
+    short-escape (at-one (λ x. Rfc.escaped-char x 0x0D) i Rfc.escaped-char.carriage-return)
+hit-escapes (there _ (there _ (there _ (there _ (there _ (there _ (there _ (here i)))))))) =
+    short-escape (at-one (λ x. Rfc.escaped-char x 0x09) i Rfc.escaped-char.tab)
 hit-escapes (there _ (there _ (there _ (there _ (there _ (there _ (there _ (there _ (here i))))))))) = at-one (λ x. Escapes x none) i hex-escape
 
 pub escapes-look : {b : ℕ} {e : Option ℕ} → Escapes b e → look escape-table b ≡ some e

@@ -32,10 +32,14 @@ unfolding short-escapes bytes
 hit-short (here i) = as-short (at-one (λ x. Rfc.escaped-char 0x22 x) i Rfc.escaped-char.quotation-mark) (λ l q n. q (in-one i))
 hit-short (there _ (here i)) = as-short (at-one (λ x. Rfc.escaped-char 0x5C x) i Rfc.escaped-char.reverse-solidus) (λ l q n. n (in-one i))
 hit-short (there _ (there _ (here i))) = as-short (at-one (λ x. Rfc.escaped-char 0x62 x) i Rfc.escaped-char.backspace) (λ l q n. below i l (omega arith))
-hit-short (there _ (there _ (there _ (here i)))) = as-short (at-one (λ x. Rfc.escaped-char 0x66 x) i Rfc.escaped-char.form-feed) (λ l q n. below i l (omega arith))
-hit-short (there _ (there _ (there _ (there _ (here i))))) = as-short (at-one (λ x. Rfc.escaped-char 0x6E x) i Rfc.escaped-char.line-feed) (λ l q n. below i l (omega arith))
-hit-short (there _ (there _ (there _ (there _ (there _ (here i)))))) = as-short (at-one (λ x. Rfc.escaped-char 0x72 x) i Rfc.escaped-char.carriage-return) (λ l q n. below i l (omega arith))
-hit-short (there _ (there _ (there _ (there _ (there _ (there _ (here i))))))) = as-short (at-one (λ x. Rfc.escaped-char 0x74 x) i Rfc.escaped-char.tab) (λ l q n. below i l (omega arith))
+hit-short (there _ (there _ (there _ (here i)))) =
+    as-short (at-one (λ x. Rfc.escaped-char 0x66 x) i Rfc.escaped-char.form-feed) (λ l q n. below i l (omega arith))
+hit-short (there _ (there _ (there _ (there _ (here i))))) =
+    as-short (at-one (λ x. Rfc.escaped-char 0x6E x) i Rfc.escaped-char.line-feed) (λ l q n. below i l (omega arith))
+hit-short (there _ (there _ (there _ (there _ (there _ (here i)))))) =
+    as-short (at-one (λ x. Rfc.escaped-char 0x72 x) i Rfc.escaped-char.carriage-return) (λ l q n. below i l (omega arith))
+hit-short (there _ (there _ (there _ (there _ (there _ (there _ (here i))))))) =
+    as-short (at-one (λ x. Rfc.escaped-char 0x74 x) i Rfc.escaped-char.tab) (λ l q n. below i l (omega arith))
 
 quote-found : look short-escapes 0x22 ≡ some (bytes "\\\"")
 unfolding look between short-escapes

@@ -1,32 +1,34 @@
 -- What infer, join and check write reads back as the shape that the definitions compute; and a refusal keeps the output.
 -- Assumes nothing.
-use Prim.Native.Nat.{ℕ, _≤_, _<_}
-use mathlib.Core.Path.{_≡_, refl, sym, ap, _∙_, subst}
+use Prim.Native.Nat.{ℕ, _≤_}
+use mathlib.Core.Path.{_≡_, refl, sym, ap, _∙_}
 use mathlib.Core.Bool.{Bool, true, false}
-use mathlib.Core.List.{List, [], _∷_, _++_}
+use mathlib.Core.List.{List}
 use lib.Dec.{ltb}
-use lib.ListN.{length, take, drop}
+use lib.ListN.{length, take}
 use Rattle.definitions.specs.declared.Limits.{Limits}
 use Rattle.definitions.specs.Bytes.{Bytes}
-use Rattle.definitions.specs.Outcome.{Outcome, ok, refused}
+use Rattle.definitions.specs.Outcome.{ok}
 use Rattle.definitions.specs.Value.{Value}
 use Rattle.definitions.specs.Shape.{Shape, ascending}
 use Rattle.definitions.specs.Join.{join, shape-of}
 use Rattle.definitions.specs.ShapeText.{read-shape, write-shape}
 use Rattle.definitions.specs.Reader.{Result, read-reader}
 use Rattle.definitions.specs.Checking.{check-reader}
-use Rattle.definitions.specs.Operations.{Done, Source, Judged, passed, stopped, written, prelude, Text-out, shape-out, deliver, finish, join-judged, infer-operation, join-operation, check-operation}
+use Rattle.definitions.specs.Operations.{Done, Source, Judged, passed, stopped, written, prelude, Text-out, deliver}
+use Rattle.definitions.specs.Operations.{finish, join-judged, infer-operation, join-operation, check-operation}
 use Rattle.laws.specs.Good.{Good-shape}
 use Rattle.laws.specs.JoinLaws.{join-ascending, shape-of-ascending}
 use Rattle.laws.specs.SoundShapes.{check-ascending}
 use Rattle.laws.specs.ShapeForms.{shape-ascending}
 use Rattle.laws.specs.RoundLaws.{shape-reads-back, shape-read-good, join-good, check-good, reader-read-good}
-use Rattle.laws.specs.Judging.{Positive, bind-positive, prelude-positive, both-positive, shape-out-positive, prelude-passed, both-passed, shape-over, shape-out-passed, shape-fits, deliver-short, deliver-room, finish-zero, finish-written, front}
+use Rattle.laws.specs.Judging.{Positive, bind-positive, prelude-positive, both-positive, shape-out-positive, prelude-passed, both-passed}
+use Rattle.laws.specs.Judging.{shape-over, shape-out-passed, shape-fits, deliver-short, deliver-room, finish-zero, finish-written, front}
 use Rattle.laws.specs.Numbered.{numbered-shape}
 use Rattle.laws.specs.Tests.{eq-eqb}
 use Rattle.laws.specs.Chain.{Call, infers, takes, Proper-source}
 use Rattle.laws.specs.ChainSteps.{Accepted, accepted-left, taken-accepted, left-taken}
-use Rattle.laws.specs.ChainReaders.{Passed, check-passed}
+use Rattle.laws.specs.ChainReaders.{check-passed}
 
 -- ---- a refusal keeps the output
 
@@ -50,7 +52,8 @@ pub infer-reads-back
     : (source : Source) → Proper-source source → (published lent : List ℕ) (l : Limits) (shape document output : Bytes)
     → infer-operation source published lent l shape document output .answer .number ≡ 0
     → (s : Shape) × (v : Value) × (read-shape l shape ≡ ok s) × (source l document ≡ ok v)
-    × (read-shape l (take (infer-operation source published lent l shape document output .answer .length) (infer-operation source published lent l shape document output .output))
+    × (read-shape l (take (infer-operation source published lent l shape document output .answer .length)
+    (infer-operation source published lent l shape document output .output))
     ≡ ok (join s (shape-of v)))
 unfolding infers takes
 infer-reads-back source proper published lent l shape document output e =
@@ -119,7 +122,8 @@ module _ (published lent : List ℕ) (l : Limits) where
   pub check-reads-back
       : (reader shape output : Bytes) → check-operation published lent l reader shape output .answer .number ≡ 0
       → (r : Result) × (s : Shape) × (u : Shape) × (read-reader l reader ≡ ok r) × (read-shape l shape ≡ ok s) × (check-reader r s ≡ ok u)
-      × (read-shape l (take (check-operation published lent l reader shape output .answer .length) (check-operation published lent l reader shape output .output))
+      × (read-shape l
+      (take (check-operation published lent l reader shape output .answer .length) (check-operation published lent l reader shape output .output))
       ≡ ok u)
   check-reads-back reader shape output e =
       let (r, s, u, p) = check-passed published lent l reader shape output e in (
