@@ -16,6 +16,9 @@ ANTT_PASSED = re.compile(r'(?<![^\s(){}.;,@"«»])--[^\n]*|\{-.*?-\}|"(?:\\.|[^"
 ANTT_NAME = re.compile(r'(?<![^\s(){};,@"«»])[^\s(){}.;,@"«»]+')
 # `use PATH.{NAMES}`, `use PATH as NAME`; what is passed on with `pub` is not asked after.
 USE = re.compile(r"(?m)^[ \t]*(pub )?use (\S+?)(?:\.\{([^}]*)\}| as (\S+))?[ \t]*$")
+# the same in Rattle, for its clauses; there a comment begins with two slashes
+GHOST_USE = re.compile(r"(?m)^[ \t]*ghost (pub )?use (\S+?)(?:\.\{([^}]*)\}| as (\S+))?;[ \t]*$")
+RATTLE_PASSED = re.compile(r"//[^\n]*")
 
 
 def width(root):
@@ -28,11 +31,11 @@ def width(root):
 
 
 def imports(root):
-    """Every name that an .antt file imports is used in it."""
+    """Every name that an .antt file imports, or an .rt file for its clauses, is used in it."""
     root = Path(root)
-    for path in crate_files(root, ".antt"):
+    for path in crate_files(root, ".antt") + crate_files(root, ".rt"):
         text = text_of(path)
-        for name, at in idle(text):
+        for name, at in idle(text) if path.suffix == ".antt" else idle_ghosts(text):
             yield f"{path.relative_to(root).as_posix()}:{text.count(chr(10), 0, at) + 1}", f"`{name}` is imported and not used"
 
 
@@ -49,14 +52,14 @@ def text_of(path):
     return path.read_text(encoding="utf-8", errors="replace")
 
 
-def passed_over(text):
+def passed_over(text, passed):
     """The text with its comments and quoted texts blanked, each place where it was."""
-    return ANTT_PASSED.sub(lambda m: re.sub(r"[^\n]", " ", m[0]), text)
+    return passed.sub(lambda m: re.sub(r"[^\n]", " ", m[0]), text)
 
 
-def imported(text):
+def imported(text, use_line):
     """Each name that the file's `use` lines bring in, with its place."""
-    for use in USE.finditer(passed_over(text)):
+    for use in use_line.finditer(text):
         if use[1]:
             continue
         if use[4]:
@@ -65,13 +68,18 @@ def imported(text):
             yield item[0].split(" as ")[-1].strip(), use.start(3) + item.start()
 
 
-def idle(text):
+def idle(text, use_line=USE, passed=ANTT_PASSED):
     """The imported names that nothing behind the `use` lines names, each with its place.
 
     An operator is used by all its parts, as `_+_` by `+`, or by its whole name."""
-    body = USE.sub("", passed_over(text))
-    said = set(ANTT_NAME.findall(body))
-    for name, at in imported(text):
+    text = passed_over(text, passed)
+    said = set(ANTT_NAME.findall(use_line.sub("", text)))
+    for name, at in imported(text, use_line):
         parts = {part for part in name.split("_") if part} or {name}
         if name not in said and not ("_" in name and parts <= said):
             yield name, at
+
+
+def idle_ghosts(text):
+    """The same of what an .rt file brings in for its clauses."""
+    return idle(text, GHOST_USE, RATTLE_PASSED)
