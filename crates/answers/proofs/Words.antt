@@ -10,7 +10,7 @@ use Rattle.definitions.specs.declared.Answer.{Answer}
 use Rattle.definitions.specs.Bytes.{Bytes}
 use Rattle.definitions.specs.Calls.{little-endian, as-word, answer-words}
 use Rattle.text.specs.Writes.{Writes}
-use Rattle.text.specs.WritesLaws.{writes-none, writes-then, writes-next, writes-length, writes-as}
+use Rattle.text.specs.WritesLaws.{writes-none, writes-then, writes-next, writes-length}
 
 -- i bytes of a word are put at a place of the buffer o, and rest is what is left of it
 pub record Putting (o : Bytes) (at word : ℕ) (b : Bytes) (rest i : ℕ) : Type 0 where
@@ -38,7 +38,8 @@ module _ {o : Bytes} {at word : ℕ} {b : Bytes} {rest i : ℕ} (p : Putting o a
             (writes-next (at + i) (rest % 256) (p .wrote) refl (omega arith));
         left =
             append-assoc (p .done) (rest % 256 ∷ []) (little-endian (8 - (i + 1)) (rest / 256))
-            ∙ ap (λ (x : Bytes). p .done ++ x) (sym (step (8 - i) rest (omega arith) ∙ ap (λ (n : ℕ). rest % 256 ∷ little-endian n (rest / 256)) (let e : 8 - i - 1 ≡ 8 - (i + 1) = omega arith in e)))
+            ∙ ap (λ (x : Bytes). p .done ++ x) (sym (step (8 - i) rest (omega arith)
+            ∙ ap (λ (n : ℕ). rest % 256 ∷ little-endian n (rest / 256)) (let e : 8 - i - 1 ≡ 8 - (i + 1) = omega arith in e)))
             ∙ p .left;
         most = omega arith;
       }
@@ -51,7 +52,8 @@ module _ {o : Bytes} {at word : ℕ} {b : Bytes} {rest i : ℕ} (p : Putting o a
   put h =
       p .wrote .bytes
       ∙ ap (λ (n : ℕ). take at o ++ p .done ++ drop (at + n) o) (let e : i ≡ 8 = omega (arith, p .most) in e)
-      ∙ ap (λ (x : Bytes). take at o ++ x ++ drop (at + 8) o) (sym (append-nil (p .done)) ∙ ap (λ (n : ℕ). p .done ++ little-endian n rest) (let e : 0 ≡ 8 - i = omega (arith, p .most) in e) ∙ p .left)
+      ∙ ap (λ (x : Bytes). take at o ++ x ++ drop (at + 8) o)
+      (sym (append-nil (p .done)) ∙ ap (λ (n : ℕ). p .done ++ little-endian n rest) (let e : 0 ≡ 8 - i = omega (arith, p .most) in e) ∙ p .left)
 
 -- ---- an answer's five words
 
@@ -84,4 +86,7 @@ five-words o a {y} e h₁ h₂ h₃ h₄ h₅ =
     (writes-then (omega arith) (writes-then (omega arith) (put-writes 0 (a .text) h₁) (put-writes 8 (a .place) h₂)) (put-writes 16 (a .length) h₃))
     (put-writes 24 (a .steps) h₄))
     (put-writes 32 y h₅) in
-    w .bytes ∙ ap (λ (k : ℕ). little-endian 8 (a .text) ++ little-endian 8 (a .place) ++ little-endian 8 (a .length) ++ little-endian 8 (a .steps) ++ little-endian 8 k ++ drop 40 o) e
+    w .bytes
+    ∙ ap (λ (k : ℕ).
+    little-endian 8 (a .text) ++ little-endian 8 (a .place) ++ little-endian 8 (a .length) ++ little-endian 8 (a .steps)
+    ++ little-endian 8 k ++ drop 40 o) e

@@ -2,16 +2,17 @@
 use Prim.Native.Nat.{ℕ, suc, _+_, _≤_, _<_, min}
 use native.Mathlib.Omega.{arith}
 use native.Mathlib.Decide.{decLt}
-use mathlib.Core.Path.{_≡_, refl, sym, ap, _∙_, subst}
+use mathlib.Core.Path.{_≡_, refl, ap, _∙_}
 use mathlib.Core.Bool.{Bool, true, false}
-use mathlib.Core.List.{List, [], _∷_}
+use mathlib.Core.List.{[], _∷_}
 use lib.ListN.{length}
 use Rattle.definitions.specs.declared.Limits.{Limits}
 use Rattle.definitions.specs.Bytes.{Bytes}
 use Rattle.definitions.specs.Outcome.{Outcome, refused, placed}
 use Rattle.definitions.specs.Number.{beyond}
 use Rattle.definitions.specs.Value.{Value, has-name}
-use Rattle.definitions.specs.Json.{Open, root, Gap, State, gap, Move, broken, broken-number, go, begin-value, begin-number, begin-name, end-name, end-number, end-text, move, end-move, full, judge, scan, read-json}
+use Rattle.definitions.specs.Json.{Open, root, Gap, State, gap, Move, broken, broken-number, go, begin-value, begin-number}
+use Rattle.definitions.specs.Json.{begin-name, end-name, end-number, end-text, move, end-move, full, judge, scan, read-json}
 use Rattle.laws.specs.Tests.{le-ltb}
 
 -- what one side of a test comes to

@@ -5,7 +5,7 @@ use mathlib.Core.List.{List}
 use lib.ListN.{length}
 use Rattle.definitions.specs.declared.Limits.{Limits}
 use Rattle.definitions.specs.Bytes.{Bytes}
-use Rattle.definitions.specs.Outcome.{ok, refused}
+use Rattle.definitions.specs.Outcome.{ok}
 use Rattle.definitions.specs.Json.{read-json}
 use Rattle.definitions.specs.declared.Format.{Format}
 use Rattle.definitions.specs.declared.Format.the-variants.{Json}

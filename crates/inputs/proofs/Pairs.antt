@@ -17,7 +17,8 @@ use Rattle.json.specs.declared.DocumentRead.the-variants as document-read
 use Rattle.slices.specs.Long.{long-three}
 use Rattle.documents.specs.Documents.{Document-room, Judges-document}
 use Rattle.documents.specs.DocumentsLaws.{document-passes as judged-passes, document-refused as judged-refused}
-use Rattle.inputs.specs.Inputs.{Shape-room, Shape-passes, Shape-outcome, Judges-shape, Judges-first, Both-pass, Shape-document-slices, Shape-document-held, Two-shapes-slices, Two-shapes-held}
+use Rattle.inputs.specs.Inputs.{Shape-room, Shape-passes, Shape-outcome, Judges-shape, Judges-first, Both-pass}
+use Rattle.inputs.specs.Inputs.{Shape-document-slices, Shape-document-held, Two-shapes-slices, Two-shapes-held}
 use Rattle.inputs.proofs.ShapeTexts.{table-grown}
 
 -- ---- the first text

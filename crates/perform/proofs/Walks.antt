@@ -89,7 +89,8 @@ module _ {l : Limits} {shapes pool : List ℕ} {used top : ℕ} {s : Shape} (t :
 
 -- ---- a value into a shape
 
-module _ {l : Limits} {shapes nodes pool : List ℕ} {used words top : ℕ} {s : Shape} {v : Value} (h : Shape-document-held l shapes nodes pool used words top s v) where
+module _ {l : Limits} {shapes nodes pool : List ℕ} {used words top : ℕ} {s : Shape} {v : Value}
+    (h : Shape-document-held l shapes nodes pool used words top s v) where
   meets : Meets shapes nodes pool used 0 0 (take top pool) 0 s 0 v
   meets =
       record {

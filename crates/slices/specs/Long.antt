@@ -3,12 +3,13 @@ use Prim.Native.Nat.{ℕ, _+_, _-_, _*_, _/_, _≤_, min}
 use native.Mathlib.Nat.{le-trans, add-le-add}
 use native.Mathlib.Omega.{arith}
 use mathlib.Core.Path.{_≡_, refl}
-use mathlib.Core.Bool.{Bool, true, false, _||_}
+use mathlib.Core.Bool.{false, _||_}
 use mathlib.Core.List.{[], _∷_}
 use lib.Dec.{ltb}
 use Rattle.definitions.specs.declared.Limits.{Limits}
 use Rattle.definitions.specs.Operations.{slices-short}
-use Rattle.definitions.specs.WorkSlices.{form-words, name-words, most-values, value-words, text-words, for-document, for-shape-document, for-two-shapes, plain-slices, infer-slices, join-slices}
+use Rattle.definitions.specs.WorkSlices.{form-words, name-words, most-values, value-words, text-words, for-document}
+use Rattle.definitions.specs.WorkSlices.{for-shape-document, for-two-shapes, plain-slices, infer-slices, join-slices}
 use Rattle.laws.specs.Tests.{ltb-le, le-ltb}
 use Rattle.laws.specs.Bools.{or-false-left, or-false-right}
 

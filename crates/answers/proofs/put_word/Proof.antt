@@ -15,17 +15,10 @@ abbrev μ-loop : tie.MeasureT-loop
 loop-holds : tie.Need-loop-holds Inv-loop μ-loop
 loop-holds c = putting (c .args .buffer .now) (c .args .at) (c .args .word)
 
-cast-buffer : tie.Need-cast-buffer Inv-loop μ-loop
-cast-buffer c = search needs
-
-add-buffer : tie.Need-add-buffer Inv-loop μ-loop
-add-buffer c = search needs
-
 slice-write-buffer : tie.Need-slice-write-buffer Inv-loop μ-loop
-slice-write-buffer c = omega (arith, putting-length (c .before .loop .inv) (c .before .before .pre), c .before .before .pre, c .loop-test .taken)
-
-add-i : tie.Need-add-i Inv-loop μ-loop
-add-i c = search needs
+slice-write-buffer c =
+    let at-start = c .before .before in
+    omega (arith, putting-length (c .before .loop .inv) (at-start .pre), at-start .pre, c .loop-test .taken)
 
 loop-less : tie.Need-loop-less Inv-loop μ-loop
 loop-less c = omega (arith, c .loop-test .taken)
@@ -40,4 +33,6 @@ returns : tie.Need-returns Inv-loop μ-loop
 returns c = put (c .before .loop .inv) (c .loop-test .left)
 
 pub put-word-spec : {M : Type 1} → statement M
-put-word-spec = tie.close (tie.spec Inv-loop μ-loop loop-holds cast-buffer add-buffer slice-write-buffer add-i loop-less loop-again same-length returns)
+put-word-spec =
+    tie.close (tie.spec Inv-loop μ-loop loop-holds (λ c. search needs) (λ c. search needs) slice-write-buffer (λ c. search needs) loop-less
+    loop-again same-length returns)

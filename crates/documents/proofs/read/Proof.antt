@@ -13,9 +13,9 @@ returns c =
 
 returns-2 : tie.Need-returns-2
 returns-2 c =
-    let at-start = c .before .before .before .before .before .before .before .before .before .before .before .before in
-    let at-short = c .before .before .before .before .before .before .before in
     let at-read = c .before .before .before .before in
+    let at-short = at-read .before .before .before in
+    let at-start = at-short .before .before .before .before .before in
     let a = at-start .args in
     judges-json (a .format) (a .limits) (a .document .now) (a .pool .now) _ _ (a .top) (at-read .read-json .result) (at-short .if1 .left)
     (at-read .read-json .ensures)

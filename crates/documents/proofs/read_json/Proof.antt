@@ -6,9 +6,9 @@ use Rattle.documents.proofs.read_json.Tie as tie
 
 returns : tie.Need-returns
 returns c =
-    let at-start = c .before .before .before .before .before .before .before .before .before .before .before in
-    let at-least = c .before .before .before .before .before .before .before in
     let at-read = c .before .before .before .before in
+    let at-least = at-read .before .before .before in
+    let at-start = at-least .before .before .before .before in
     let a = at-start .args in
     read-as (a .limits) (a .document .now) (at-least .least .result) (a .pool .now) _ _ (a .top) (at-read .read-document .result)
     (at-least .least .ensures) (at-read .read-document .ensures .answer)

@@ -11,25 +11,25 @@ use Rattle.inputs.proofs.first_shape.Tie as tie
 
 slice-aggregate-read-shape : tie.Need-slice-aggregate-read-shape
 slice-aggregate-read-shape c =
-    let at-start = c .before .before .before .before .before .before in
     let at-words = c .before .before in
+    let at-start = at-words .before .before .before .before in
     let n = at-words .name-words .result in
     let h : n ≤ length (at-start .args .pool .now) = omega (arith, at-words .name-words .ensures, at-start .pre .names) in
     sym (length-take-le n (at-start .args .pool .now) h)
 
 read-shape-requires : tie.Need-read-shape-requires
 read-shape-requires c κs =
-    let at-start = c .before .before .before .before .before .before in
     let at-words = c .before .before in
+    let at-start = at-words .before .before .before .before in
     let a = at-start .args in
     front-room (a .limits) (a .text .now) (a .shapes .now) (a .pool .now) (at-words .name-words .result) (at-words .name-words .ensures)
     (at-start .pre)
 
 returns : tie.Need-returns
 returns c =
-    let at-start = c .before .before .before .before .before .before .before .before .before .before .before in
-    let at-words = c .before .before .before .before .before .before .before in
     let at-read = c .before .before .before .before in
+    let at-words = at-read .before .before .before in
+    let at-start = at-words .before .before .before .before in
     let a = at-start .args in
     let n = at-words .name-words .result in
     let h : n ≤ length (a .pool .now) = omega (arith, at-words .name-words .ensures, at-start .pre .names) in

@@ -12,8 +12,8 @@ returns c =
 
 returns-2 : tie.Need-returns-2
 returns-2 c =
-    let at-short = c .before .before .before .before .before .before .before in
     let at-read = c .before .before .before .before in
+    let at-short = at-read .before .before .before in
     judges-read (at-short .if1 .left) (at-read .read-shape .ensures)
 
 pub read-shape-spec : {M : Type 1} → statement M

@@ -10,17 +10,17 @@ use Rattle.perform.proofs.admits.Tie as tie
 
 admits-requires : tie.Need-admits-requires
 admits-requires c κs =
-    let at-texts = c .before .before .before .before .before .before .before .before .before .before .before in
     let at-told = c .before .before .before in
+    let at-texts = at-told .before .before .before .before .before .before .before .before in
     let b = both-passes (at-texts .shape-document .ensures) (at-told .enum-told .given .1) in
     admission (b .held)
 
 returns : tie.Need-returns
 unfolding admits-judged say
 returns c =
-    let at-texts = c .before .before .before .before .before .before .before .before .before .before .before .before .before in
-    let at-told = c .before .before .before .before .before in
     let at-walk = c .before in
+    let at-told = at-walk .before .before .before .before in
+    let at-texts = at-told .before .before .before .before .before .before .before .before in
     let b = both-passes (at-texts .shape-document .ensures) (at-told .enum-told .given .1) in
     let e = at-walk .admits .ensures (b .first) (shape-held (b .held .shape)) (b .second) (value-held (b .held .value)) in
     says-passed _ (b .judged) (c .said .ensures ∙ ap said e)
@@ -28,8 +28,8 @@ returns c =
 returns-2 : tie.Need-returns-2
 unfolding admits-judged
 returns-2 c =
-    let at-texts = c .before .before .before .before .before .before .before .before .before .before in
     let at-number = c .before .before in
+    let at-texts = at-number .before .before .before .before .before .before .before .before in
     says-stopped _ (c .refusal .ensures) (both-refused (at-texts .shape-document .ensures) (at-number .number .given .1))
 
 pub admits-spec : {M : Type 1} → statement M

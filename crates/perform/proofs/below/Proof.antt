@@ -10,17 +10,17 @@ use Rattle.perform.proofs.below.Tie as tie
 
 below-requires : tie.Need-below-requires
 below-requires c κs =
-    let at-texts = c .before .before .before .before .before .before .before .before .before .before .before in
     let at-told = c .before .before .before in
+    let at-texts = at-told .before .before .before .before .before .before .before .before in
     let b = both-passes (at-texts .two-shapes .ensures) (at-told .enum-told .given .1) in
     comparison (b .held)
 
 returns : tie.Need-returns
 unfolding below-judged say
 returns c =
-    let at-texts = c .before .before .before .before .before .before .before .before .before .before .before .before .before in
-    let at-told = c .before .before .before .before .before in
     let at-walk = c .before in
+    let at-told = at-walk .before .before .before .before in
+    let at-texts = at-told .before .before .before .before .before .before .before .before in
     let b = both-passes (at-texts .two-shapes .ensures) (at-told .enum-told .given .1) in
     let e = at-walk .below .ensures (b .first) (shape-held (b .held .one)) (b .second) (shape-held (b .held .other)) in
     says-passed _ (b .judged) (c .said .ensures ∙ ap said e)
@@ -28,8 +28,8 @@ returns c =
 returns-2 : tie.Need-returns-2
 unfolding below-judged
 returns-2 c =
-    let at-texts = c .before .before .before .before .before .before .before .before .before .before in
     let at-number = c .before .before in
+    let at-texts = at-number .before .before .before .before .before .before .before .before in
     says-stopped _ (c .refusal .ensures) (both-refused (at-texts .two-shapes .ensures) (at-number .number .given .1))
 
 pub below-spec : {M : Type 1} → statement M

@@ -24,10 +24,10 @@ deliver-requires c κs =
 
 returns-2 : tie.Need-returns-2
 returns-2 c =
-    let at-start = c .before .before .before .before .before .before .before .before .before in
     let at-end = c .before .before in
+    let at-start = at-end .before .before .before .before .before .before .before in
     let a = at-start .args in
-    let e = c .before .before .before .before .enum-told .given .1 in (
+    let e = at-end .before .before .enum-told .given .1 in (
       λ u g. at-end .deliver .ensures .0 u (grown-holds u (a .grown) (a .shapes .now) (a .pool .now) (a .limits) g e),
       λ u g. at-end .deliver .ensures .1 u (grown-holds u (a .grown) (a .shapes .now) (a .pool .now) (a .limits) g e),
     )

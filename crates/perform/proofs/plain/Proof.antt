@@ -23,28 +23,29 @@ read-requires c κs =
 
 deliver-requires : tie.Need-deliver-requires
 deliver-requires c κs =
-    let at-read = c .before .before .before .before .before .before .before .before .before in
     let at-told = c .before .before .before in
+    let at-read = at-told .before .before .before .before .before .before in
     let (v, passes, held) = document-passes (at-read .read .ensures) (at-told .enum-told .given .1) in
     record { value = v; holds = value-held (held .table) }
 
 returns : tie.Need-returns
 unfolding plain-judged finish
 returns c =
-    let at-start = c .before .before .before .before .before .before .before .before .before .before .before .before .before .before .before .before .before .before .before in
-    let at-read = c .before .before .before .before .before .before .before .before .before .before .before .before in
-    let at-told = c .before .before .before .before .before .before in
     let at-end = c .before .before in
+    let at-told = at-end .before .before .before .before in
+    let at-read = at-told .before .before .before .before .before .before in
+    let at-start = at-read .before .before .before .before .before .before .before in
     let (v, passes, held) = document-passes (at-read .read .ensures) (at-told .enum-told .given .1) in
     let h = value-held (held .table) in
-    finishes-passed (at-start .args .output .now) (λ v. passed (to-write (plain v) 0)) (passes 1) (at-end .deliver .ensures .0 v h, at-end .deliver .ensures .1 v h)
+    finishes-passed (at-start .args .output .now) (λ v. passed (to-write (plain v) 0)) (passes 1)
+    (at-end .deliver .ensures .0 v h, at-end .deliver .ensures .1 v h)
 
 returns-2 : tie.Need-returns-2
 unfolding plain-judged
 returns-2 c =
-    let at-start = c .before .before .before .before .before .before .before .before .before .before .before .before .before .before .before in
-    let at-read = c .before .before .before .before .before .before .before .before in
     let at-number = c .before .before in
+    let at-read = at-number .before .before .before .before .before .before in
+    let at-start = at-read .before .before .before .before .before .before .before in
     finishes-stopped (at-start .args .output .now) _ (c .refusal .ensures) (document-refused (at-read .read .ensures) (at-number .number .given .1) 1)
 
 pub plain-spec : {M : Type 1} → statement M
