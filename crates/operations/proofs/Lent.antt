@@ -23,7 +23,8 @@ module _ (l : Limits) (small : Small l) where
   for-one document nodes pool e =
       record { long = long-for-document l (length nodes) (length pool) (length document) e; small = small }
 
-  module _ (shape document : Bytes) (shapes nodes pool : List ℕ) (e : slices-short (infer-slices l) (length shapes ∷ length nodes ∷ length pool ∷ []) ≡ false) where
+  module _ (shape document : Bytes) (shapes nodes pool : List ℕ)
+      (e : slices-short (infer-slices l) (length shapes ∷ length nodes ∷ length pool ∷ []) ≡ false) where
     pub for-both : Shape-document-slices shape document shapes nodes pool l
     for-both =
         record {

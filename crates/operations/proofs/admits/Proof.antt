@@ -16,29 +16,34 @@ use Rattle.operations.proofs.admits.Tie as tie
 returns : tie.Need-returns
 unfolding admits-operation standard
 returns c =
-    let at-start = c .before .before .before .before .before .before .before .before in
     let at-short = c .before .before in
+    let at-start = at-short .before .before .before .before .before .before in
     let a = at-start .args in
-    says-short (admits-slices standard) (length (a .shapes .now) ∷ length (a .nodes .now) ∷ length (a .pool .now) ∷ []) (admits-judged read-json standard (a .shape .now) (a .document .now)) (sym (at-short .shape-document-short .ensures) ∙ c .before .if1 .taken) (c .refusal .ensures)
+    says-short (admits-slices standard) (length (a .shapes .now) ∷ length (a .nodes .now) ∷ length (a .pool .now) ∷ [])
+    (admits-judged read-json standard (a .shape .now) (a .document .now))
+    (sym (at-short .shape-document-short .ensures) ∙ c .before .if1 .taken) (c .refusal .ensures)
 
 admits-requires : tie.Need-admits-requires
 unfolding standard
 admits-requires c κs =
-    let at-start = c .before .before .before .before .before .before .before .before .before .before in
-    let at-short = c .before .before .before .before in
     let at-if = c .before .before .before in
+    let at-short = at-if .before in
+    let at-start = at-short .before .before .before .before .before .before in
     let a = at-start .args in
-    for-both standard (standard-small refl) (a .shape .now) (a .document .now) (a .shapes .now) (a .nodes .now) (a .pool .now) (sym (at-short .shape-document-short .ensures) ∙ at-if .if1 .left)
+    for-both standard (standard-small refl) (a .shape .now) (a .document .now) (a .shapes .now) (a .nodes .now) (a .pool .now)
+    (sym (at-short .shape-document-short .ensures) ∙ at-if .if1 .left)
 
 returns-2 : tie.Need-returns-2
 unfolding admits-operation standard source
 returns-2 c =
-    let at-start = c .before .before .before .before .before .before .before .before .before .before .before .before .before .before .before .before .before in
-    let at-short = c .before .before .before .before .before .before .before .before .before .before .before in
-    let at-if = c .before .before .before .before .before .before .before .before .before .before in
     let at-call = c .before .before .before .before .before .before in
+    let at-if = at-call .before .before .before .before in
+    let at-short = at-if .before in
+    let at-start = at-short .before .before .before .before .before .before in
     let a = at-start .args in
-    says-long (admits-slices standard) (length (a .shapes .now) ∷ length (a .nodes .now) ∷ length (a .pool .now) ∷ []) (admits-judged read-json standard (a .shape .now) (a .document .now)) (sym (at-short .shape-document-short .ensures) ∙ at-if .if1 .left) (at-call .admits .ensures)
+    says-long (admits-slices standard) (length (a .shapes .now) ∷ length (a .nodes .now) ∷ length (a .pool .now) ∷ [])
+    (admits-judged read-json standard (a .shape .now) (a .document .now)) (sym (at-short .shape-document-short .ensures) ∙ at-if .if1 .left)
+    (at-call .admits .ensures)
 
 pub admits-spec : {M : Type 1} → statement M
 admits-spec =

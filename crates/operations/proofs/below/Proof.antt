@@ -15,29 +15,32 @@ use Rattle.operations.proofs.below.Tie as tie
 returns : tie.Need-returns
 unfolding below-operation standard
 returns c =
-    let at-start = c .before .before .before .before .before .before .before .before in
     let at-short = c .before .before in
+    let at-start = at-short .before .before .before .before .before .before in
     let a = at-start .args in
-    says-short (below-slices standard) (length (a .shapes .now) ∷ length (a .others .now) ∷ length (a .pool .now) ∷ []) (below-judged standard (a .first .now) (a .second .now)) (sym (at-short .two-shapes-short .ensures) ∙ c .before .if1 .taken) (c .refusal .ensures)
+    says-short (below-slices standard) (length (a .shapes .now) ∷ length (a .others .now) ∷ length (a .pool .now) ∷ [])
+    (below-judged standard (a .first .now) (a .second .now)) (sym (at-short .two-shapes-short .ensures) ∙ c .before .if1 .taken) (c .refusal .ensures)
 
 below-requires : tie.Need-below-requires
 unfolding standard
 below-requires c κs =
-    let at-start = c .before .before .before .before .before .before .before .before .before .before in
-    let at-short = c .before .before .before .before in
     let at-if = c .before .before .before in
+    let at-short = at-if .before in
+    let at-start = at-short .before .before .before .before .before .before in
     let a = at-start .args in
-    for-pair standard (standard-small refl) (a .first .now) (a .second .now) (a .shapes .now) (a .others .now) (a .pool .now) (sym (at-short .two-shapes-short .ensures) ∙ at-if .if1 .left)
+    for-pair standard (standard-small refl) (a .first .now) (a .second .now) (a .shapes .now) (a .others .now) (a .pool .now)
+    (sym (at-short .two-shapes-short .ensures) ∙ at-if .if1 .left)
 
 returns-2 : tie.Need-returns-2
 unfolding below-operation standard
 returns-2 c =
-    let at-start = c .before .before .before .before .before .before .before .before .before .before .before .before .before .before .before .before .before in
-    let at-short = c .before .before .before .before .before .before .before .before .before .before .before in
-    let at-if = c .before .before .before .before .before .before .before .before .before .before in
     let at-call = c .before .before .before .before .before .before in
+    let at-if = at-call .before .before .before .before in
+    let at-short = at-if .before in
+    let at-start = at-short .before .before .before .before .before .before in
     let a = at-start .args in
-    says-long (below-slices standard) (length (a .shapes .now) ∷ length (a .others .now) ∷ length (a .pool .now) ∷ []) (below-judged standard (a .first .now) (a .second .now)) (sym (at-short .two-shapes-short .ensures) ∙ at-if .if1 .left) (at-call .below .ensures)
+    says-long (below-slices standard) (length (a .shapes .now) ∷ length (a .others .now) ∷ length (a .pool .now) ∷ [])
+    (below-judged standard (a .first .now) (a .second .now)) (sym (at-short .two-shapes-short .ensures) ∙ at-if .if1 .left) (at-call .below .ensures)
 
 pub below-spec : {M : Type 1} → statement M
 below-spec =

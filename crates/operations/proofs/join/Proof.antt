@@ -17,50 +17,56 @@ use Rattle.operations.proofs.join.Tie as tie
 returns : tie.Need-returns
 unfolding join-operation standard
 returns c =
-    let at-start = c .before .before .before .before .before .before .before .before .before in
     let at-short = c .before .before in
+    let at-start = at-short .before .before .before .before .before .before .before in
     let a = at-start .args in
-    finishes-short (join-slices standard) (length (a .shapes .now) ∷ length (a .others .now) ∷ length (a .pool .now) ∷ []) (a .output .now) (join-judged standard (a .first .now) (a .second .now)) (sym (at-short .two-shapes-short .ensures) ∙ c .before .if1 .taken) (c .refusal .ensures)
+    finishes-short (join-slices standard) (length (a .shapes .now) ∷ length (a .others .now) ∷ length (a .pool .now) ∷ []) (a .output .now)
+    (join-judged standard (a .first .now) (a .second .now)) (sym (at-short .two-shapes-short .ensures) ∙ c .before .if1 .taken) (c .refusal .ensures)
 
 slice-relend-prefix-join : tie.Need-slice-relend-prefix-join
 unfolding standard
 slice-relend-prefix-join c =
-    let at-start = c .before .before .before .before .before .before .before .before .before .before in
-    let at-short = c .before .before .before in
     let at-if = c .before .before in
+    let at-short = at-if .before in
+    let at-start = at-short .before .before .before .before .before .before .before in
     let a = at-start .args in
-    enough-pair standard (standard-small refl) (a .first .now) (a .second .now) (a .shapes .now) (a .others .now) (a .pool .now) (sym (at-short .two-shapes-short .ensures) ∙ at-if .if1 .left)
+    enough-pair standard (standard-small refl) (a .first .now) (a .second .now) (a .shapes .now) (a .others .now) (a .pool .now)
+    (sym (at-short .two-shapes-short .ensures) ∙ at-if .if1 .left)
 
 slice-aggregate-join : tie.Need-slice-aggregate-join
 unfolding standard
 slice-aggregate-join c =
-    let at-start = c .before .before .before .before .before .before .before .before .before .before .before in
-    let at-short = c .before .before .before .before in
     let at-if = c .before .before .before in
+    let at-short = at-if .before in
+    let at-start = at-short .before .before .before .before .before .before .before in
     let a = at-start .args in
     let e = sym (at-short .two-shapes-short .ensures) ∙ at-if .if1 .left in
-    sym (length-take-le 1024 (a .shapes .now) (enough-pair standard (standard-small refl) (a .first .now) (a .second .now) (a .shapes .now) (a .others .now) (a .pool .now) e))
+    sym (length-take-le 1024 (a .shapes .now)
+    (enough-pair standard (standard-small refl) (a .first .now) (a .second .now) (a .shapes .now) (a .others .now) (a .pool .now) e))
 
 join-requires : tie.Need-join-requires
 unfolding standard
 join-requires c κs =
-    let at-start = c .before .before .before .before .before .before .before .before .before .before .before .before .before in
-    let at-short = c .before .before .before .before .before .before in
     let at-if = c .before .before .before .before .before in
+    let at-short = at-if .before in
+    let at-start = at-short .before .before .before .before .before .before .before in
     let a = at-start .args in
     let e = sym (at-short .two-shapes-short .ensures) ∙ at-if .if1 .left in
-    let h = enough-pair standard (standard-small refl) (a .first .now) (a .second .now) (a .shapes .now) (a .others .now) (a .pool .now) e in
-    (for-cut-pair standard (standard-small refl) (a .first .now) (a .second .now) (a .shapes .now) (a .others .now) (a .pool .now) e, omega (arith, length-take-le 1024 (a .shapes .now) h))
+    let h = enough-pair standard (standard-small refl) (a .first .now) (a .second .now) (a .shapes .now) (a .others .now) (a .pool .now) e in (
+      for-cut-pair standard (standard-small refl) (a .first .now) (a .second .now) (a .shapes .now) (a .others .now) (a .pool .now) e,
+      omega (arith, length-take-le 1024 (a .shapes .now) h),
+    )
 
 returns-2 : tie.Need-returns-2
 unfolding join-operation standard
 returns-2 c =
-    let at-start = c .before .before .before .before .before .before .before .before .before .before .before .before .before .before .before .before .before .before .before .before .before .before in
-    let at-short = c .before .before .before .before .before .before .before .before .before .before .before .before .before .before .before in
-    let at-if = c .before .before .before .before .before .before .before .before .before .before .before .before .before .before in
     let at-call = c .before .before .before .before .before .before .before .before in
+    let at-if = at-call .before .before .before .before .before .before in
+    let at-short = at-if .before in
+    let at-start = at-short .before .before .before .before .before .before .before in
     let a = at-start .args in
-    finishes-long (join-slices standard) (length (a .shapes .now) ∷ length (a .others .now) ∷ length (a .pool .now) ∷ []) (a .output .now) (join-judged standard (a .first .now) (a .second .now)) (sym (at-short .two-shapes-short .ensures) ∙ at-if .if1 .left) (at-call .join .ensures)
+    finishes-long (join-slices standard) (length (a .shapes .now) ∷ length (a .others .now) ∷ length (a .pool .now) ∷ []) (a .output .now)
+    (join-judged standard (a .first .now) (a .second .now)) (sym (at-short .two-shapes-short .ensures) ∙ at-if .if1 .left) (at-call .join .ensures)
 
 pub join-spec : {M : Type 1} → statement M
 join-spec =

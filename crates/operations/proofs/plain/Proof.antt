@@ -16,29 +16,31 @@ use Rattle.operations.proofs.plain.Tie as tie
 returns : tie.Need-returns
 unfolding plain-operation standard
 returns c =
-    let at-start = c .before .before .before .before .before .before .before in
     let at-short = c .before .before in
+    let at-start = at-short .before .before .before .before .before in
     let a = at-start .args in
-    finishes-short (plain-slices standard) (length (a .nodes .now) ∷ length (a .pool .now) ∷ []) (a .output .now) (plain-judged read-json standard (a .document .now)) (sym (at-short .document-short .ensures) ∙ c .before .if1 .taken) (c .refusal .ensures)
+    finishes-short (plain-slices standard) (length (a .nodes .now) ∷ length (a .pool .now) ∷ []) (a .output .now)
+    (plain-judged read-json standard (a .document .now)) (sym (at-short .document-short .ensures) ∙ c .before .if1 .taken) (c .refusal .ensures)
 
 plain-requires : tie.Need-plain-requires
 unfolding standard
 plain-requires c κs =
-    let at-start = c .before .before .before .before .before .before .before .before .before in
-    let at-short = c .before .before .before .before in
     let at-if = c .before .before .before in
+    let at-short = at-if .before in
+    let at-start = at-short .before .before .before .before .before in
     let a = at-start .args in
     for-one standard (standard-small refl) (a .document .now) (a .nodes .now) (a .pool .now) (sym (at-short .document-short .ensures) ∙ at-if .if1 .left)
 
 returns-2 : tie.Need-returns-2
 unfolding plain-operation standard source
 returns-2 c =
-    let at-start = c .before .before .before .before .before .before .before .before .before .before .before .before .before .before .before .before in
-    let at-short = c .before .before .before .before .before .before .before .before .before .before .before in
-    let at-if = c .before .before .before .before .before .before .before .before .before .before in
     let at-call = c .before .before .before .before .before .before in
+    let at-if = at-call .before .before .before .before in
+    let at-short = at-if .before in
+    let at-start = at-short .before .before .before .before .before in
     let a = at-start .args in
-    finishes-long (plain-slices standard) (length (a .nodes .now) ∷ length (a .pool .now) ∷ []) (a .output .now) (plain-judged read-json standard (a .document .now)) (sym (at-short .document-short .ensures) ∙ at-if .if1 .left) (at-call .plain .ensures)
+    finishes-long (plain-slices standard) (length (a .nodes .now) ∷ length (a .pool .now) ∷ []) (a .output .now)
+    (plain-judged read-json standard (a .document .now)) (sym (at-short .document-short .ensures) ∙ at-if .if1 .left) (at-call .plain .ensures)
 
 pub plain-spec : {M : Type 1} → statement M
 plain-spec =
