@@ -2,11 +2,11 @@
 use Prim.Native.Nat.{ℕ, _≤_, _<_}
 use mathlib.Core.Path.{_≡_, refl, sym, ap, _∙_}
 use mathlib.Core.Bool.{Bool, true, false}
-use mathlib.Core.List.{[], _∷_, _++_}
+use mathlib.Core.List.{_++_}
 use lib.ListN.{length, drop}
 use Rattle.definitions.specs.declared.Answer.{Answer}
 use Rattle.definitions.specs.Bytes.{Bytes}
-use Rattle.definitions.specs.Operations.{Done, Judged, Text-out, refusal, slices-short, prelude, finish, say}
+use Rattle.definitions.specs.Operations.{Judged, Text-out, refusal, slices-short, prelude, finish, say}
 use Rattle.definitions.specs.Calls.{Called, answer-words, answered, call, quiet, buffer-published, buffer-lent}
 use Rattle.laws.specs.Tests.{lt-ltb, le-ltb}
 use Rattle.laws.specs.Ends.{Comes, finishes-short, finishes-long, says-short, says-long}

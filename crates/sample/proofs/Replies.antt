@@ -19,7 +19,8 @@ use Rattle.definitions.specs.Join.{join, shape-of}
 use Rattle.definitions.specs.ShapeText.{read-shape}
 use Rattle.definitions.specs.Operations.{Done, Judged, passed, stopped, Text-out, output-short, written, finish, infer-judged, infer-operation}
 use Rattle.definitions.specs.WorkSlices.{infer-slices}
-use Rattle.laws.specs.Judging.{Numbered, Positive, bind-positive, both-positive, shape-out-positive, prelude-long, deliver-short, deliver-room, finish-zero, finish-written, front}
+use Rattle.laws.specs.Judging.{Numbered, Positive, bind-positive, both-positive, shape-out-positive}
+use Rattle.laws.specs.Judging.{prelude-long, deliver-short, deliver-room, finish-zero, finish-written, front}
 use Rattle.laws.specs.Numbered.{numbered-shape}
 use Rattle.laws.specs.Theorems.{json-proper}
 use Rattle.slices.specs.Long.{three-long}
@@ -112,7 +113,8 @@ module _ (text document : Bytes) where
   unfolding infer-operation standard
   same out =
       ap (λ j. finish out j)
-      (prelude-long (infer-slices standard) (length (replicate {A = ℕ} 1024 0) ∷ length (replicate {A = ℕ} 1536 0) ∷ length (replicate {A = ℕ} 4607 0) ∷ []) judged
+      (prelude-long (infer-slices standard)
+      (length (replicate {A = ℕ} 1024 0) ∷ length (replicate {A = ℕ} 1536 0) ∷ length (replicate {A = ℕ} 4607 0) ∷ []) judged
       (three-long 1024 1536 4607 _ _ _ (omega (arith, length-replicate {A = ℕ} 1024 0)) (omega (arith, length-replicate {A = ℕ} 1536 0))
       (omega (arith, length-replicate {A = ℕ} 4607 0))))
 

@@ -13,13 +13,14 @@ use Rattle.definitions.specs.Outcome.{ok, refused}
 use Rattle.definitions.specs.Value.{Value}
 use Rattle.definitions.specs.Shape.{nothing}
 use Rattle.definitions.specs.Json.{read-json}
-use Rattle.definitions.specs.Join.{join, shape-of}
+use Rattle.definitions.specs.Join.{shape-of}
 use Rattle.definitions.specs.ShapeText.{read-shape, write-shape}
 use Rattle.definitions.specs.Operations.{Done, Judged, passed, stopped, refusal, judge-text, Text-out, shape-out, finish, infer-judged}
 use Rattle.definitions.specs.Evaluate.{evaluate}
 use Rattle.laws.specs.Tests.{lt-ltb}
 use Rattle.laws.specs.JoinLaws.{join-nothing-left}
-use Rattle.laws.specs.Judging.{bind-of, bind-stopped, second-stops, both-pass, text-long, text-refused, text-reads, shape-over, shape-out-over, shape-out-fits, shape-fits, finish-written, front}
+use Rattle.laws.specs.Judging.{bind-of, bind-stopped, second-stops, both-pass, text-long, text-refused, text-reads}
+use Rattle.laws.specs.Judging.{shape-over, shape-out-over, shape-out-fits, shape-fits, finish-written, front}
 use Rattle.laws.specs.Theorems.{json-proper}
 use Rattle.sample.specs.Reply.{refused-line, told, reply-to}
 

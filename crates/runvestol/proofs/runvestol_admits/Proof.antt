@@ -18,12 +18,13 @@ returns c =
 returns-2 : tie.Need-returns-2
 unfolding admits-call admits-operation standard source
 returns-2 c =
-    let at-start = c .before .before .before .before .before .before .before .before .before in
-    let at-long = c .before .before .before .before .before in
-    let at-done = c .before .before .before .before in
     let at-put = c .before .before in
+    let at-done = at-put .before .before in
+    let at-long = at-done .before in
+    let at-start = at-long .before .before .before .before in
     let a = at-start .args in
-    answers-long (a .answer .now) (at-long .if1 .left) (at-done .admits .result) (at-put .put-answer .ensures) (admits-judged read-json standard (a .shape .now) (a .document .now)) (at-done .admits .ensures)
+    answers-long (a .answer .now) (at-long .if1 .left) (at-done .admits .result) (at-put .put-answer .ensures)
+    (admits-judged read-json standard (a .shape .now) (a .document .now)) (at-done .admits .ensures)
 
 pub runvestol-admits-spec : {M : Type 1} → statement M
 runvestol-admits-spec =

@@ -17,12 +17,13 @@ returns c =
 returns-2 : tie.Need-returns-2
 unfolding below-call below-operation standard
 returns-2 c =
-    let at-start = c .before .before .before .before .before .before .before .before .before in
-    let at-long = c .before .before .before .before .before in
-    let at-done = c .before .before .before .before in
     let at-put = c .before .before in
+    let at-done = at-put .before .before in
+    let at-long = at-done .before in
+    let at-start = at-long .before .before .before .before in
     let a = at-start .args in
-    answers-long (a .answer .now) (at-long .if1 .left) (at-done .below .result) (at-put .put-answer .ensures) (below-judged standard (a .first .now) (a .second .now)) (at-done .below .ensures)
+    answers-long (a .answer .now) (at-long .if1 .left) (at-done .below .result) (at-put .put-answer .ensures)
+    (below-judged standard (a .first .now) (a .second .now)) (at-done .below .ensures)
 
 pub runvestol-below-spec : {M : Type 1} → statement M
 runvestol-below-spec =

@@ -17,12 +17,13 @@ returns c =
 returns-2 : tie.Need-returns-2
 unfolding join-call join-operation standard
 returns-2 c =
-    let at-start = c .before .before .before .before .before .before .before .before .before .before .before .before .before in
-    let at-long = c .before .before .before .before .before .before .before .before in
-    let at-done = c .before .before .before .before .before .before in
     let at-put = c .before .before in
+    let at-done = at-put .before .before .before .before in
+    let at-long = at-done .before .before in
+    let at-start = at-long .before .before .before .before .before in
     let a = at-start .args in
-    calls-long (a .answer .now) (at-long .if1 .left) (at-done .join .result) (at-put .put-answer .ensures) (a .output .now) (join-judged standard (a .first .now) (a .second .now)) (at-done .join .ensures)
+    calls-long (a .answer .now) (at-long .if1 .left) (at-done .join .result) (at-put .put-answer .ensures) (a .output .now)
+    (join-judged standard (a .first .now) (a .second .now)) (at-done .join .ensures)
 
 pub runvestol-join-spec : {M : Type 1} → statement M
 runvestol-join-spec =

@@ -8,46 +8,77 @@ use Rattle.sample.proofs.Replies.{line-front}
 use Rattle.sample.proofs.refuse.Statement.{statement}
 use Rattle.sample.proofs.refuse.Tie as tie
 
-slice-aggregate-write-name : tie.Need-slice-aggregate-write-name
-slice-aggregate-write-name c = search needs
-
-write-name-requires : tie.Need-write-name-requires
-write-name-requires c κs = search needs
-
-write-decimal-requires : tie.Need-write-decimal-requires
-write-decimal-requires c κs = search needs
-
-slice-aggregate-write-name-2 : tie.Need-slice-aggregate-write-name-2
-slice-aggregate-write-name-2 c = search needs
-
 write-name-requires-2 : tie.Need-write-name-requires-2
 write-name-requires-2 c κs =
-    omega (arith, c .before .before .before .before .before .before .before .before .before .before .before .before .pre, c .before .before .before .before .before .before .before .before .write-name .ensures .end, c .before .before .before .before .write-decimal .ensures .end, decimal-short (c .before .before .before .before .before .before .before .before .before .before .before .before .args .number) (c .before .before .before .before .before .before .before .before .before .before .before .before .fits .number))
+    let after-write-decimal = c .before .before .before .before in
+    let after-write-name = after-write-decimal .before .before .before .before in
+    let at-start = after-write-name .before .before .before .before in
+    omega (
+      arith,
+      at-start .pre,
+      after-write-name .write-name .ensures .end,
+      after-write-decimal .write-decimal .ensures .end,
+      decimal-short (at-start .args .number) (at-start .fits .number),
+    )
 
 write-decimal-requires-2 : tie.Need-write-decimal-requires-2
 write-decimal-requires-2 c κs =
-    omega (arith, c .before .before .before .before .before .before .before .before .before .before .before .before .before .before .before .before .pre, c .before .before .before .before .before .before .before .before .before .before .before .before .write-name .ensures .end, c .before .before .before .before .before .before .before .before .write-decimal .ensures .end, c .before .before .before .write-name2 .ensures .end, decimal-short (c .before .before .before .before .before .before .before .before .before .before .before .before .before .before .before .before .args .number) (c .before .before .before .before .before .before .before .before .before .before .before .before .before .before .before .before .fits .number))
-
-slice-aggregate-write-name-3 : tie.Need-slice-aggregate-write-name-3
-slice-aggregate-write-name-3 c = search needs
+    let after-write-decimal = c .before .before .before .before .before .before .before .before in
+    let after-write-name = after-write-decimal .before .before .before .before in
+    let at-start = after-write-name .before .before .before .before in
+    omega (
+      arith,
+      at-start .pre,
+      after-write-name .write-name .ensures .end,
+      after-write-decimal .write-decimal .ensures .end,
+      c .before .before .before .write-name2 .ensures .end,
+      decimal-short (at-start .args .number) (at-start .fits .number),
+    )
 
 write-name-requires-3 : tie.Need-write-name-requires-3
 write-name-requires-3 c κs =
-    omega (arith, c .before .before .before .before .before .before .before .before .before .before .before .before .before .before .before .before .before .before .before .before .before .pre, c .before .before .before .before .before .before .before .before .before .before .before .before .before .before .before .before .before .write-name .ensures .end, c .before .before .before .before .before .before .before .before .before .before .before .before .before .write-decimal .ensures .end, c .before .before .before .before .before .before .before .before .write-name2 .ensures .end, c .before .before .before .before .write-decimal2 .ensures .end, decimal-short (c .before .before .before .before .before .before .before .before .before .before .before .before .before .before .before .before .before .before .before .before .before .args .number) (c .before .before .before .before .before .before .before .before .before .before .before .before .before .before .before .before .before .before .before .before .before .fits .number), decimal-short (c .before .before .before .before .before .before .before .before .before .before .before .before .before .before .before .before .before .before .before .before .before .args .place) (c .before .before .before .before .before .before .before .before .before .before .before .before .before .before .before .before .before .before .before .before .before .fits .place))
-
-same-length : tie.Need-same-length
-same-length c = search needs
+    let after-write-decimal2 = c .before .before .before .before in
+    let after-write-name2 = after-write-decimal2 .before .before .before .before in
+    let after-write-decimal = after-write-name2 .before .before .before .before .before in
+    let after-write-name = after-write-decimal .before .before .before .before in
+    let at-start = after-write-name .before .before .before .before in
+    omega (
+      arith,
+      at-start .pre,
+      after-write-name .write-name .ensures .end,
+      after-write-decimal .write-decimal .ensures .end,
+      after-write-name2 .write-name2 .ensures .end,
+      after-write-decimal2 .write-decimal2 .ensures .end,
+      decimal-short (at-start .args .number) (at-start .fits .number),
+      decimal-short (at-start .args .place) (at-start .fits .place),
+    )
 
 returns : tie.Need-returns
 unfolding bytes
 returns c =
-    line-front (c .before .before .before .before .before .before .before .before .before .before .before .before .before .before .before .before .before .before .before .before .before .before .before .before .args .number) (c .before .before .before .before .before .before .before .before .before .before .before .before .before .before .before .before .before .before .before .before .before .before .before .before .args .place)
-    (omega (arith, c .before .before .before .before .before .before .before .before .before .before .before .before .before .before .before .before .before .before .before .before .before .before .before .before .pre, c .before .before .before .before .before .before .before .before .before .before .before .before .before .before .before .before .before .before .before .before .write-name .ensures .end, c .before .before .before .before .before .before .before .before .before .before .before .before .before .before .before .before .write-decimal .ensures .end, c .before .before .before .before .before .before .before .before .before .before .before .write-name2 .ensures .end, c .before .before .before .before .before .before .before .write-decimal2 .ensures .end, c .before .before .write-name3 .ensures .end, decimal-short (c .before .before .before .before .before .before .before .before .before .before .before .before .before .before .before .before .before .before .before .before .before .before .before .before .args .number) (c .before .before .before .before .before .before .before .before .before .before .before .before .before .before .before .before .before .before .before .before .before .before .before .before .fits .number), decimal-short (c .before .before .before .before .before .before .before .before .before .before .before .before .before .before .before .before .before .before .before .before .before .before .before .before .args .place) (c .before .before .before .before .before .before .before .before .before .before .before .before .before .before .before .before .before .before .before .before .before .before .before .before .fits .place)))
-    (c .before .before .before .before .before .before .before .before .before .before .before .before .before .before .before .before .before .before .before .before .write-name .ensures)
-    (c .before .before .before .before .before .before .before .before .before .before .before .before .before .before .before .before .write-decimal .ensures)
-    (c .before .before .before .before .before .before .before .before .before .before .before .write-name2 .ensures)
-    (c .before .before .before .before .before .before .before .write-decimal2 .ensures)
-    (c .before .before .write-name3 .ensures)
+    let after-write-name3 = c .before .before in
+    let after-write-decimal2 = after-write-name3 .before .before .before .before .before in
+    let after-write-name2 = after-write-decimal2 .before .before .before .before in
+    let after-write-decimal = after-write-name2 .before .before .before .before .before in
+    let after-write-name = after-write-decimal .before .before .before .before in
+    let at-start = after-write-name .before .before .before .before in
+    line-front (at-start .args .number) (at-start .args .place)
+    (omega (
+      arith,
+      at-start .pre,
+      after-write-name .write-name .ensures .end,
+      after-write-decimal .write-decimal .ensures .end,
+      after-write-name2 .write-name2 .ensures .end,
+      after-write-decimal2 .write-decimal2 .ensures .end,
+      after-write-name3 .write-name3 .ensures .end,
+      decimal-short (at-start .args .number) (at-start .fits .number),
+      decimal-short (at-start .args .place) (at-start .fits .place),
+    ))
+    (after-write-name .write-name .ensures)
+    (after-write-decimal .write-decimal .ensures)
+    (after-write-name2 .write-name2 .ensures)
+    (after-write-decimal2 .write-decimal2 .ensures)
+    (after-write-name3 .write-name3 .ensures)
     refl
     refl
     refl
@@ -56,13 +87,10 @@ pub refuse-spec : {M : Type 1} → statement M
 refuse-spec =
     tie.close
     (tie.spec
-    slice-aggregate-write-name
-    write-name-requires
-    write-decimal-requires
-    slice-aggregate-write-name-2
+    (λ c. search needs) (λ c κs. search needs) (λ c κs. search needs) (λ c. search needs)
     write-name-requires-2
     write-decimal-requires-2
-    slice-aggregate-write-name-3
+    (λ c. search needs)
     write-name-requires-3
-    same-length
+    (λ c. search needs)
     returns)

@@ -1,5 +1,4 @@
 -- `suite::figure` meets its contract: its test is that of the definition. Assumes nothing.
-use Prim.Native.Nat.{ℕ}
 use mathlib.Core.Path.{_≡_, refl}
 use borrow.Author.Tests.{eq-eqb, ne-eqb}
 use Rattle.definitions.specs.declared.Answer.{Answer}

@@ -33,7 +33,9 @@ add-out : tie.Need-add-out Inv-loop μ-loop
 add-out c = omega arith
 
 slice-write-out-2 : tie.Need-slice-write-out-2 Inv-loop μ-loop
-slice-write-out-2 c = omega (arith, length-set (c .before .before .before .before .loop .out) (c .before .before .before .before .loop .k) (c .before .digit .result))
+slice-write-out-2 c =
+    let at-loop = c .before .before .before .before in
+    omega (arith, length-set (at-loop .loop .out) (at-loop .loop .k) (c .before .digit .result))
 
 add-i : tie.Need-add-i Inv-loop μ-loop
 add-i c = omega arith
@@ -46,10 +48,11 @@ loop-less c = omega arith
 
 loop-again : tie.Need-loop-again Inv-loop μ-loop
 loop-again c =
+    let at-loop = c .before .before .before .before in
     spelling-more
-    (c .before .before .before .before .loop .inv)
+    (at-loop .loop .inv)
     (c .before .before .before .loop-test .taken)
-    (c .before .before .before .before .before .before .before .pre)
+    (at-loop .before .before .before .pre)
     (c .before .digit .ensures)
     (c .digit2 .ensures)
 
@@ -57,7 +60,9 @@ same-length : tie.Need-same-length Inv-loop μ-loop
 same-length c = c .before .loop .inv .same
 
 returns : tie.Need-returns Inv-loop μ-loop
-returns c = (spelling-counts (c .before .loop .inv) (c .before .before .before .before .pre), spelling-all (c .before .loop .inv) (c .loop-test .left))
+returns c =
+    let at-start = c .before .before .before .before in
+    (spelling-counts (c .before .loop .inv) (at-start .pre), spelling-all (c .before .loop .inv) (c .loop-test .left))
 
 pub spell-spec : {M : Type 1} → statement M
 spell-spec =
