@@ -24,7 +24,7 @@ returns-2 c =
     let at-start = at-long .before .before .before .before .before in
     let a = at-start .args in
     calls-long (a .answer .now) (at-long .if1 .left) (at-done .infer .result) (at-put .put-answer .ensures) (a .output .now)
-    (infer-judged read-json standard (a .shape .now) (a .document .now)) (at-done .infer .ensures)
+    (infer-judged read-json standard (a .shape .now) (a .document .now)) (at-done .infer .ensures .0, at-done .infer .ensures .1)
 
 pub runvestol-infer-spec : {M : Type 1} → statement M
 runvestol-infer-spec =

@@ -23,7 +23,7 @@ returns-2 c =
     let at-start = at-long .before .before .before .before .before in
     let a = at-start .args in
     calls-long (a .answer .now) (at-long .if1 .left) (at-done .join .result) (at-put .put-answer .ensures) (a .output .now)
-    (join-judged standard (a .first .now) (a .second .now)) (at-done .join .ensures)
+    (join-judged standard (a .first .now) (a .second .now)) (at-done .join .ensures .0, at-done .join .ensures .1)
 
 pub runvestol-join-spec : {M : Type 1} → statement M
 runvestol-join-spec =

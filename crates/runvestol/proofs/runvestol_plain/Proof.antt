@@ -24,7 +24,7 @@ returns-2 c =
     let at-start = at-long .before .before .before .before in
     let a = at-start .args in
     calls-long (a .answer .now) (at-long .if1 .left) (at-done .plain .result) (at-put .put-answer .ensures) (a .output .now)
-    (plain-judged read-json standard (a .document .now)) (at-done .plain .ensures)
+    (plain-judged read-json standard (a .document .now)) (at-done .plain .ensures .0, at-done .plain .ensures .1)
 
 pub runvestol-plain-spec : {M : Type 1} → statement M
 runvestol-plain-spec =
