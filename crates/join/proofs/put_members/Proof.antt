@@ -31,20 +31,28 @@ add-to c =
     let w = at-start .pre .0 in
     omega (arith, c .size2 .ensures, stands-size (w .both .theirs), stands-within (w .both .theirs), at-start .good .1 .1 .1 .0 .0)
 
+-- where the members stand that are put
+puts
+    : (c : tie.After-size2)
+    → let after-size = c .before .before in
+    let s = after-size .before .before .before .before .args in
+    Putting (now (s .shapes)) (now (s .second)) (s .row) (s .other) (s .row + after-size .size .result) (c .before .members .result)
+    (s .other + c .size2 .result)
+puts c =
+    let after-size = c .before .before in
+    let s = after-size .before .before .before .before .args in
+    record {
+      end-is = ap (λ (i : ℕ). s .row + i) (after-size .size .ensures);
+      from-is = c .before .members .ensures;
+      to-is = ap (λ (i : ℕ). s .other + i) (c .size2 .ensures);
+    }
+
 sub-put-rows : tie.Need-sub-put-rows
 sub-put-rows c =
     let after-members = c .before .before in
     let s = after-members .before .before .before .before .before .args in
     let w = after-members .before .before .before .before .before .pre .0 in
-    let h
-    : Putting (now (s .shapes)) (now (s .second)) (s .row) (s .other) (s .row + after-members .before .size .result) (after-members .members .result)
-    (s .other + c .before .size2 .result)
-    =
-    record {
-      end-is = ap (λ (i : ℕ). s .row + i) (after-members .before .size .ensures);
-      from-is = after-members .members .ensures;
-      to-is = ap (λ (i : ℕ). s .other + i) (c .before .size2 .ensures);
-    } in
+    let h = puts (c .before) in
     put-members-room (w .ours) (w .theirs) (w .both) h .2
 
 put-rows-requires : tie.Need-put-rows-requires
@@ -52,15 +60,7 @@ put-rows-requires c κs =
     let after-members = c .before .before in
     let s = after-members .before .before .before .before .before .args in
     let w = after-members .before .before .before .before .before .pre .0 in
-    let h
-    : Putting (now (s .shapes)) (now (s .second)) (s .row) (s .other) (s .row + after-members .before .size .result) (after-members .members .result)
-    (s .other + c .before .size2 .result)
-    =
-    record {
-      end-is = ap (λ (i : ℕ). s .row + i) (after-members .before .size .ensures);
-      from-is = after-members .members .ensures;
-      to-is = ap (λ (i : ℕ). s .other + i) (c .before .size2 .ensures);
-    } in
+    let h = puts (c .before) in
     let m = put-members-room (w .ours) (w .theirs) (w .both) h in
     record {
       before = m .1;
@@ -77,15 +77,7 @@ returns c p m k a b v =
     let at-start = after-size .before .before .before .before in
     let s = at-start .args in
     let w = at-start .pre .0 in
-    let h
-    : Putting (now (s .shapes)) (now (s .second)) (s .row) (s .other) (s .row + after-size .size .result) (after-members .members .result)
-    (s .other + after-size2 .size2 .result)
-    =
-    record {
-      end-is = ap (λ (i : ℕ). s .row + i) (after-size .size .ensures);
-      from-is = after-members .members .ensures;
-      to-is = ap (λ (i : ℕ). s .other + i) (after-size2 .size2 .ensures);
-    } in
+    let h = puts after-size2 in
     put-members-full (at-start .pre .1 .0) (at-start .pre .1 .1) h a b v
     (full-of _ _ _ (s .row + after-size .size .result) _ _
     (Copied (now (s .second)) (after-members .members .result) (s .other + after-size2 .size2 .result - after-members .members .result))
@@ -99,15 +91,7 @@ grow-head-requires c κs =
     let after-size = after-members .before in
     let s = after-size .before .before .before .before .args in
     let w = after-size .before .before .before .before .pre .0 in
-    let h
-    : Putting (now (s .shapes)) (now (s .second)) (s .row) (s .other) (s .row + after-size .size .result) (after-members .members .result)
-    (s .other + after-size2 .size2 .result)
-    =
-    record {
-      end-is = ap (λ (i : ℕ). s .row + i) (after-size .size .ensures);
-      from-is = after-members .members .ensures;
-      to-is = ap (λ (i : ℕ). s .other + i) (after-size2 .size2 .ensures);
-    } in
+    let h = puts after-size2 in
     let q = grown-of (now (s .shapes)) (after-put-rows .put-rows .last .0) (s .used) (s .row + after-size .size .result) 0 _
     (Copied (now (s .second)) (after-members .members .result) (s .other + after-size2 .size2 .result - after-members .members .result))
     (c .before .before .words .given .1) (after-put-rows .put-rows .ensures) in
@@ -124,15 +108,7 @@ returns-2 c p m k a b v =
     let at-start = after-size .before .before .before .before in
     let s = at-start .args in
     let w = at-start .pre .0 in
-    let h
-    : Putting (now (s .shapes)) (now (s .second)) (s .row) (s .other) (s .row + after-size .size .result) (after-members .members .result)
-    (s .other + after-size2 .size2 .result)
-    =
-    record {
-      end-is = ap (λ (i : ℕ). s .row + i) (after-size .size .ensures);
-      from-is = after-members .members .ensures;
-      to-is = ap (λ (i : ℕ). s .other + i) (after-size2 .size2 .ensures);
-    } in
+    let h = puts after-size2 in
     let q = grown-of (now (s .shapes)) (after-put-rows .put-rows .last .0) (s .used) (s .row + after-size .size .result) 0 _
     (Copied (now (s .second)) (after-members .members .result) (s .other + after-size2 .size2 .result - after-members .members .result))
     (after-grow-head .before .before .before .words .given .1) (after-put-rows .put-rows .ensures) in

@@ -679,14 +679,7 @@ read-record-same-length-6 t c = read-record-returns-3 t c .pool-kept
 
 pub +read-list+read-record+read-value-spec : {M : Type 1} → statement M
 +read-list+read-record+read-value-spec =
-    close μ-read-list μ-read-record μ-read-value (λ t. read-list-lts.spec (
-      enter-reads.Asked,
-      enter-reads.Learnt,
-      read-value-below t,
-      read-value.Post,
-      go-on-reads.Asked,
-      go-on-reads.Learnt,
-    )
+    close μ-read-list μ-read-record μ-read-value (λ t. read-list-lts.spec (list-claims t)
     (read-list-at t)
     read-list.Post
     read-list-Inv-loop
@@ -708,16 +701,7 @@ pub +read-list+read-record+read-value-spec : {M : Type 1} → statement M
     (read-list-same-length-3 t)
     (read-list-same-length-4 t)
     (read-list-returns-2 t))
-    (λ t. read-record-lts.spec (
-      enter-reads.Asked,
-      enter-reads.Learnt,
-      read-name-reads.Asked,
-      read-name-reads.Learnt,
-      read-value-below t,
-      read-value.Post,
-      go-on-reads.Asked,
-      go-on-reads.Learnt,
-    )
+    (λ t. read-record-lts.spec (record-claims t)
     (read-record-at t)
     read-record.Post
     read-record-Inv-loop
@@ -747,20 +731,7 @@ pub +read-list+read-record+read-value-spec : {M : Type 1} → statement M
     (read-record-same-length-5 t)
     (read-record-same-length-6 t)
     (read-record-returns-3 t))
-    λ t. read-value-lts.spec (
-      skip-white-reads.Asked,
-      skip-white-reads.Learnt,
-      peek-reads.Asked,
-      peek-reads.Learnt,
-      is-full-reads.Asked,
-      is-full-reads.Learnt,
-      read-list-below t,
-      read-list.Post,
-      read-record-below t,
-      read-record.Post,
-      read-scalar-reads.Asked,
-      read-scalar-reads.Learnt,
-    )
+    λ t. read-value-lts.spec (value-claims t)
     (read-value-at t)
     read-value.Post
     (λ c κs. search needs) (λ c κs. search needs) (λ c κs. search needs)

@@ -155,24 +155,6 @@ read-form-read-element-requires t c κs =
       inner-ready (at-start .args .name) (at-start .args .c) (at-start .pre .1) (after-open-form .open-form .ensures) (after-kinds .kinds .given .1),
     )
 
-read-form-same-length : (t : ℕ) → read-form-lts.Need-same-length (read-form-claims t) (read-form-at t) read-form.Post
-read-form-same-length t c =
-    let after-read-element = c .before .before .before .before .before .before in
-    let after-kinds = after-read-element .before .before .before .before .before in
-    let after-open-form = after-kinds .before .before .before .before in
-    let at-start = after-open-form .before .before .before .before .before in
-    element-refused (at-start .args .name) (at-start .args .c) (at-start .pre .1) (after-open-form .open-form .ensures) (after-kinds .kinds .given .1)
-    (after-read-element .read-element .ensures) (c .enum-told .given .1) .sized .shapes-kept
-
-read-form-same-length-2 : (t : ℕ) → read-form-lts.Need-same-length-2 (read-form-claims t) (read-form-at t) read-form.Post
-read-form-same-length-2 t c =
-    let after-read-element = c .before .before .before .before .before .before in
-    let after-kinds = after-read-element .before .before .before .before .before in
-    let after-open-form = after-kinds .before .before .before .before in
-    let at-start = after-open-form .before .before .before .before .before in
-    element-refused (at-start .args .name) (at-start .args .c) (at-start .pre .1) (after-open-form .open-form .ensures) (after-kinds .kinds .given .1)
-    (after-read-element .read-element .ensures) (c .enum-told .given .1) .sized .pool-kept
-
 read-form-returns : (t : ℕ) → read-form-lts.Need-returns (read-form-claims t) (read-form-at t) read-form.Post
 read-form-returns t c =
     let after-read-element = c .before .before .before .before .before .before in
@@ -181,6 +163,12 @@ read-form-returns t c =
     let at-start = after-open-form .before .before .before .before .before in
     element-refused (at-start .args .name) (at-start .args .c) (at-start .pre .1) (after-open-form .open-form .ensures) (after-kinds .kinds .given .1)
     (after-read-element .read-element .ensures) (c .enum-told .given .1)
+
+read-form-same-length : (t : ℕ) → read-form-lts.Need-same-length (read-form-claims t) (read-form-at t) read-form.Post
+read-form-same-length t c = read-form-returns t c .sized .shapes-kept
+
+read-form-same-length-2 : (t : ℕ) → read-form-lts.Need-same-length-2 (read-form-claims t) (read-form-at t) read-form.Post
+read-form-same-length-2 t c = read-form-returns t c .sized .pool-kept
 
 read-form-sub-read-members : (t : ℕ) → read-form-lts.Need-sub-read-members (read-form-claims t) (read-form-at t) read-form.Post
 read-form-sub-read-members t c =
@@ -208,30 +196,6 @@ read-form-read-members-requires t c κs =
           (after-read-element .read-element .ensures) (c .before .before .before .e .given .1),
     )
 
-read-form-same-length-3 : (t : ℕ) → read-form-lts.Need-same-length-3 (read-form-claims t) (read-form-at t) read-form.Post
-read-form-same-length-3 t c =
-    let after-read-members = c .before .before .before .before .before .before in
-    let after-e = after-read-members .before .before .before .before in
-    let after-read-element = after-e .before .before .before .before .before .before in
-    let after-kinds = after-read-element .before .before .before .before .before in
-    let after-open-form = after-kinds .before .before .before .before in
-    let at-start = after-open-form .before .before .before .before .before in
-    members-refused (at-start .args .name) (at-start .args .c) (at-start .pre .1) (after-open-form .open-form .ensures) (after-kinds .kinds .given .1)
-    (after-read-element .read-element .ensures) (after-e .e .given .1) (after-read-members .read-members .ensures)
-    (c .enum-told2 .given .1) .sized .shapes-kept
-
-read-form-same-length-4 : (t : ℕ) → read-form-lts.Need-same-length-4 (read-form-claims t) (read-form-at t) read-form.Post
-read-form-same-length-4 t c =
-    let after-read-members = c .before .before .before .before .before .before in
-    let after-e = after-read-members .before .before .before .before in
-    let after-read-element = after-e .before .before .before .before .before .before in
-    let after-kinds = after-read-element .before .before .before .before .before in
-    let after-open-form = after-kinds .before .before .before .before in
-    let at-start = after-open-form .before .before .before .before .before in
-    members-refused (at-start .args .name) (at-start .args .c) (at-start .pre .1) (after-open-form .open-form .ensures) (after-kinds .kinds .given .1)
-    (after-read-element .read-element .ensures) (after-e .e .given .1) (after-read-members .read-members .ensures)
-    (c .enum-told2 .given .1) .sized .pool-kept
-
 read-form-returns-2 : (t : ℕ) → read-form-lts.Need-returns-2 (read-form-claims t) (read-form-at t) read-form.Post
 read-form-returns-2 t c =
     let after-read-members = c .before .before .before .before .before .before in
@@ -242,6 +206,12 @@ read-form-returns-2 t c =
     let at-start = after-open-form .before .before .before .before .before in
     members-refused (at-start .args .name) (at-start .args .c) (at-start .pre .1) (after-open-form .open-form .ensures) (after-kinds .kinds .given .1)
     (after-read-element .read-element .ensures) (after-e .e .given .1) (after-read-members .read-members .ensures) (c .enum-told2 .given .1)
+
+read-form-same-length-3 : (t : ℕ) → read-form-lts.Need-same-length-3 (read-form-claims t) (read-form-at t) read-form.Post
+read-form-same-length-3 t c = read-form-returns-2 t c .sized .shapes-kept
+
+read-form-same-length-4 : (t : ℕ) → read-form-lts.Need-same-length-4 (read-form-claims t) (read-form-at t) read-form.Post
+read-form-same-length-4 t c = read-form-returns-2 t c .sized .pool-kept
 
 read-form-mul-put-row : (t : ℕ) → read-form-lts.Need-mul-put-row (read-form-claims t) (read-form-at t) read-form.Post
 read-form-mul-put-row t c =
@@ -312,32 +282,6 @@ read-form-put-row-requires t c κs =
       ),
     )
 
-read-form-same-length-5 : (t : ℕ) → read-form-lts.Need-same-length-5 (read-form-claims t) (read-form-at t) read-form.Post
-read-form-same-length-5 t c =
-    let after-m = c .before .before .before .before .before .before .before .before in
-    let after-read-members = after-m .before .before .before .before .before .before in
-    let after-e = after-read-members .before .before .before .before in
-    let after-read-element = after-e .before .before .before .before .before .before in
-    let after-kinds = after-read-element .before .before .before .before .before in
-    let after-open-form = after-kinds .before .before .before .before in
-    let at-start = after-open-form .before .before .before .before .before in
-    form-read (at-start .args .name) (at-start .args .c) (at-start .pre .1) (after-open-form .open-form .ensures) (after-kinds .kinds .given .1)
-    (after-read-element .read-element .ensures) (after-e .e .given .1) (after-read-members .read-members .ensures) (after-m .m .given .1)
-    (c .before .before .put-row .ensures) .sized .shapes-kept
-
-read-form-same-length-6 : (t : ℕ) → read-form-lts.Need-same-length-6 (read-form-claims t) (read-form-at t) read-form.Post
-read-form-same-length-6 t c =
-    let after-m = c .before .before .before .before .before .before .before .before in
-    let after-read-members = after-m .before .before .before .before .before .before in
-    let after-e = after-read-members .before .before .before .before in
-    let after-read-element = after-e .before .before .before .before .before .before in
-    let after-kinds = after-read-element .before .before .before .before .before in
-    let after-open-form = after-kinds .before .before .before .before in
-    let at-start = after-open-form .before .before .before .before .before in
-    form-read (at-start .args .name) (at-start .args .c) (at-start .pre .1) (after-open-form .open-form .ensures) (after-kinds .kinds .given .1)
-    (after-read-element .read-element .ensures) (after-e .e .given .1) (after-read-members .read-members .ensures) (after-m .m .given .1)
-    (c .before .before .put-row .ensures) .sized .pool-kept
-
 read-form-returns-3 : (t : ℕ) → read-form-lts.Need-returns-3 (read-form-claims t) (read-form-at t) read-form.Post
 read-form-returns-3 t c =
     let after-m = c .before .before .before .before .before .before .before .before in
@@ -351,18 +295,20 @@ read-form-returns-3 t c =
     (after-read-element .read-element .ensures) (after-e .e .given .1) (after-read-members .read-members .ensures) (after-m .m .given .1)
     (c .before .before .put-row .ensures)
 
-read-form-same-length-7 : (t : ℕ) → read-form-lts.Need-same-length-7 (read-form-claims t) (read-form-at t) read-form.Post
-read-form-same-length-7 t c =
-    let after-open-form = c .before .before .before .before .before in
-    let at-start = after-open-form .before .before .before .before .before in
-    open-refused (at-start .args .name) (at-start .args .c) (at-start .pre .1) (after-open-form .open-form .ensures)
-    (c .before .number .given .1) .sized .pool-kept
+read-form-same-length-5 : (t : ℕ) → read-form-lts.Need-same-length-5 (read-form-claims t) (read-form-at t) read-form.Post
+read-form-same-length-5 t c = read-form-returns-3 t c .sized .shapes-kept
+
+read-form-same-length-6 : (t : ℕ) → read-form-lts.Need-same-length-6 (read-form-claims t) (read-form-at t) read-form.Post
+read-form-same-length-6 t c = read-form-returns-3 t c .sized .pool-kept
 
 read-form-returns-4 : (t : ℕ) → read-form-lts.Need-returns-4 (read-form-claims t) (read-form-at t) read-form.Post
 read-form-returns-4 t c =
     let after-open-form = c .before .before .before .before .before in
     let at-start = after-open-form .before .before .before .before .before in
     open-refused (at-start .args .name) (at-start .args .c) (at-start .pre .1) (after-open-form .open-form .ensures) (c .before .number .given .1)
+
+read-form-same-length-7 : (t : ℕ) → read-form-lts.Need-same-length-7 (read-form-claims t) (read-form-at t) read-form.Post
+read-form-same-length-7 t c = read-form-returns-4 t c .sized .pool-kept
 
 abbrev read-members-Inv-loop : read-members-lts.InvT-loop
 read-members-Inv-loop text shapes₀ pool₀ values left kinds turn₀ shapes pool turn =
@@ -399,36 +345,6 @@ read-members-read-form-requires t c κs =
           (at-start .pre .1),
     )
 
-read-members-same-length
-    : (t : ℕ) → read-members-lts.Need-same-length (read-members-claims t) (read-members-at t) read-members.Post read-members-Inv-loop read-members-μ-loop
-read-members-same-length t c =
-    let after-read-form = c .before .before .before .before .before .before in
-    let after-turn = after-read-form .before .before .before .before in
-    let at-loop = after-turn .before .before in
-    let at-start = at-loop .before .before .before .before .before .before .before .before in
-    member-refused (at-start .args .c) (after-turn .turn .given .0 .0)
-    (subst (λ (u : Turn).
-    Turn-answer (at-start .args .left) (at-start .args .values) (at-start .args .text .now) (at-start .args .shapes .now) (at-start .args .pool .now)
-    (at-loop .loop .shapes) (at-loop .loop .pool) (at-start .args .kinds) (at-start .args .c) u) (after-turn .turn .given .1)
-    (at-loop .loop .inv (at-start .args .c) (at-start .args .shapes .now) (at-start .args .pool .now)
-    (members-start (at-start .args .left) (at-start .args .c) (at-start .pre .1) (at-loop .before .before .before .next-member .ensures))))
-    (after-read-form .read-form .ensures) (c .enum-told .given .1) .sized .shapes-kept
-
-read-members-same-length-2
-    : (t : ℕ) → read-members-lts.Need-same-length-2 (read-members-claims t) (read-members-at t) read-members.Post read-members-Inv-loop read-members-μ-loop
-read-members-same-length-2 t c =
-    let after-read-form = c .before .before .before .before .before .before in
-    let after-turn = after-read-form .before .before .before .before in
-    let at-loop = after-turn .before .before in
-    let at-start = at-loop .before .before .before .before .before .before .before .before in
-    member-refused (at-start .args .c) (after-turn .turn .given .0 .0)
-    (subst (λ (u : Turn).
-    Turn-answer (at-start .args .left) (at-start .args .values) (at-start .args .text .now) (at-start .args .shapes .now) (at-start .args .pool .now)
-    (at-loop .loop .shapes) (at-loop .loop .pool) (at-start .args .kinds) (at-start .args .c) u) (after-turn .turn .given .1)
-    (at-loop .loop .inv (at-start .args .c) (at-start .args .shapes .now) (at-start .args .pool .now)
-    (members-start (at-start .args .left) (at-start .args .c) (at-start .pre .1) (at-loop .before .before .before .next-member .ensures))))
-    (after-read-form .read-form .ensures) (c .enum-told .given .1) .sized .pool-kept
-
 read-members-returns
     : (t : ℕ) → read-members-lts.Need-returns (read-members-claims t) (read-members-at t) read-members.Post read-members-Inv-loop read-members-μ-loop
 read-members-returns t c =
@@ -443,6 +359,14 @@ read-members-returns t c =
     (at-loop .loop .inv (at-start .args .c) (at-start .args .shapes .now) (at-start .args .pool .now)
     (members-start (at-start .args .left) (at-start .args .c) (at-start .pre .1) (at-loop .before .before .before .next-member .ensures))))
     (after-read-form .read-form .ensures) (c .enum-told .given .1)
+
+read-members-same-length
+    : (t : ℕ) → read-members-lts.Need-same-length (read-members-claims t) (read-members-at t) read-members.Post read-members-Inv-loop read-members-μ-loop
+read-members-same-length t c = read-members-returns t c .sized .shapes-kept
+
+read-members-same-length-2
+    : (t : ℕ) → read-members-lts.Need-same-length-2 (read-members-claims t) (read-members-at t) read-members.Post read-members-Inv-loop read-members-μ-loop
+read-members-same-length-2 t c = read-members-returns t c .sized .pool-kept
 
 read-members-behind-member-requires
     : (t : ℕ)
@@ -497,29 +421,6 @@ read-members-loop-again t c =
     (at-loop .loop .inv k ss ps h))
     (after-read-form .read-form .ensures) (after-r .r .given .1) (c .before .before .behind-member .ensures)
 
-read-members-same-length-3
-    : (t : ℕ) → read-members-lts.Need-same-length-3 (read-members-claims t) (read-members-at t) read-members.Post read-members-Inv-loop read-members-μ-loop
-read-members-same-length-3 t c =
-    let at-loop = c .before .before .before in
-    let at-start = at-loop .before .before .before .before .before .before .before .before in
-    subst (λ (u : Turn).
-    Turn-answer (at-start .args .left) (at-start .args .values) (at-start .args .text .now) (at-start .args .shapes .now) (at-start .args .pool .now)
-    (at-loop .loop .shapes) (at-loop .loop .pool) (at-start .args .kinds) (at-start .args .c) u) (c .before .turn2 .given .1)
-    (at-loop .loop .inv (at-start .args .c) (at-start .args .shapes .now) (at-start .args .pool .now)
-    (members-start (at-start .args .left) (at-start .args .c) (at-start .pre .1)
-    (at-loop .before .before .before .next-member .ensures))) .sized .shapes-kept
-
-read-members-same-length-4
-    : (t : ℕ) → read-members-lts.Need-same-length-4 (read-members-claims t) (read-members-at t) read-members.Post read-members-Inv-loop read-members-μ-loop
-read-members-same-length-4 t c =
-    let at-loop = c .before .before .before in
-    let at-start = at-loop .before .before .before .before .before .before .before .before in
-    subst (λ (u : Turn).
-    Turn-answer (at-start .args .left) (at-start .args .values) (at-start .args .text .now) (at-start .args .shapes .now) (at-start .args .pool .now)
-    (at-loop .loop .shapes) (at-loop .loop .pool) (at-start .args .kinds) (at-start .args .c) u) (c .before .turn2 .given .1)
-    (at-loop .loop .inv (at-start .args .c) (at-start .args .shapes .now) (at-start .args .pool .now)
-    (members-start (at-start .args .left) (at-start .args .c) (at-start .pre .1) (at-loop .before .before .before .next-member .ensures))) .sized .pool-kept
-
 read-members-returns-2
     : (t : ℕ) → read-members-lts.Need-returns-2 (read-members-claims t) (read-members-at t) read-members.Post read-members-Inv-loop read-members-μ-loop
 read-members-returns-2 t c =
@@ -531,14 +432,17 @@ read-members-returns-2 t c =
     (at-loop .loop .inv (at-start .args .c) (at-start .args .shapes .now) (at-start .args .pool .now)
     (members-start (at-start .args .left) (at-start .args .c) (at-start .pre .1) (at-loop .before .before .before .next-member .ensures)))
 
+read-members-same-length-3
+    : (t : ℕ) → read-members-lts.Need-same-length-3 (read-members-claims t) (read-members-at t) read-members.Post read-members-Inv-loop read-members-μ-loop
+read-members-same-length-3 t c = read-members-returns-2 t c .sized .shapes-kept
+
+read-members-same-length-4
+    : (t : ℕ) → read-members-lts.Need-same-length-4 (read-members-claims t) (read-members-at t) read-members.Post read-members-Inv-loop read-members-μ-loop
+read-members-same-length-4 t c = read-members-returns-2 t c .sized .pool-kept
+
 pub +read-element+read-form+read-members-spec : {M : Type 1} → statement M
 +read-element+read-form+read-members-spec =
-    close μ-read-element μ-read-form μ-read-members (λ t. read-element-lts.spec (
-      has-reads.Asked,
-      has-reads.Learnt,
-      read-form-below t,
-      read-form.Post,
-    )
+    close μ-read-element μ-read-form μ-read-members (λ t. read-element-lts.spec (read-element-claims t)
     (read-element-at t)
     read-element.Post
     (λ c κs. search needs)
@@ -547,16 +451,7 @@ pub +read-element+read-form+read-members-spec : {M : Type 1} → statement M
     (read-element-same-length-2 t)
     (read-element-returns t)
     (read-element-returns-2 t))
-    (λ t. read-form-lts.spec (
-      open-form-reads.Asked,
-      open-form-reads.Learnt,
-      read-element-below t,
-      read-element.Post,
-      read-members-below t,
-      read-members.Post,
-      put-row-reads.Asked,
-      put-row-reads.Learnt,
-    )
+    (λ t. read-form-lts.spec (read-form-claims t)
     (read-form-at t)
     read-form.Post
     (read-form-open-form-requires t)
@@ -584,14 +479,7 @@ pub +read-element+read-form+read-members-spec : {M : Type 1} → statement M
     (read-form-returns-3 t)
     (read-form-same-length-7 t)
     (read-form-returns-4 t))
-    λ t. read-members-lts.spec (
-      next-member-reads.Asked,
-      next-member-reads.Learnt,
-      read-form-below t,
-      read-form.Post,
-      behind-member-reads.Asked,
-      behind-member-reads.Learnt,
-    )
+    λ t. read-members-lts.spec (read-members-claims t)
     (read-members-at t)
     read-members.Post
     read-members-Inv-loop

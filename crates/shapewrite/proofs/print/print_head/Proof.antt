@@ -155,13 +155,13 @@ returns c =
     prints-head
     (at-start .args .kinds)
     (after-print .print .ensures)
-    (word-to 1 (bytes " null") (after-print-word .print-word .ensures) (omega arith) refl)
-    (word-to 2 (bytes " bool") (after-print-word2 .print-word2 .ensures) (omega arith) refl)
-    (word-to 4 (bytes " int") (after-print-word3 .print-word3 .ensures) (omega arith) refl)
-    (word-to 8 (bytes " dec") (after-print-word4 .print-word4 .ensures) (omega arith) refl)
-    (word-to 16 (bytes " text") (after-print-word5 .print-word5 .ensures) (omega arith) refl)
-    (word-to 32 (bytes " list") (after-print-word6 .print-word6 .ensures) (omega arith) refl)
-    (word-to 64 (bytes " rec") (c .before .before .print-word7 .ensures) (omega arith) refl)
+    (word-to 1 (bytes " null") (after-print-word .print-word .ensures) refl refl)
+    (word-to 2 (bytes " bool") (after-print-word2 .print-word2 .ensures) refl refl)
+    (word-to 4 (bytes " int") (after-print-word3 .print-word3 .ensures) refl refl)
+    (word-to 8 (bytes " dec") (after-print-word4 .print-word4 .ensures) refl refl)
+    (word-to 16 (bytes " text") (after-print-word5 .print-word5 .ensures) refl refl)
+    (word-to 32 (bytes " list") (after-print-word6 .print-word6 .ensures) refl refl)
+    (word-to 64 (bytes " rec") (c .before .before .print-word7 .ensures) refl refl)
 
 pub print-head-spec : {M : Type 1} → statement M
 print-head-spec =

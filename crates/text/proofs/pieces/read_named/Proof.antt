@@ -17,16 +17,18 @@ use Rattle.text.proofs.pieces.read_named.Tie as tie
 read-unicode-requires : tie.Need-read-unicode-requires
 read-unicode-requires c κs = let a = c .before .before .args in let p = c .before .before .pre in named-within (a .doc .now) (a .i) (p .0 .0) (p .1) (p .2)
 
-encoded-requires : tie.Need-encoded-requires
-encoded-requires c κs =
-    let after-read-unicode = c .before .before .before .before in
+-- the code that was read
+code
+    : (c : tie.After-value)
+    → let a = c .before .before .before .before .before .args in
+    Code-read (a .doc .now) (Inside.digits none 0 0) (a .i + 2) (c .value .given .0 .0) (c .value .given .0 .1 .0)
+code c =
+    let after-read-unicode = c .before .before in
     let a = after-read-unicode .before .before .before .args in
-    let p = after-read-unicode .before .before .before .pre in
-    let g = c .before .before .value .given in
-    let h
-    : Code-read (a .doc .now) (Inside.digits none 0 0) (a .i + 2) (g .0 .0) (g .0 .1 .0) =
-    subst (Reads-code (a .doc .now) (Inside.digits none 0 0) (a .i + 2)) (g .1) (after-read-unicode .read-unicode .ensures) in
-    h .valid
+    subst (Reads-code (a .doc .now) (Inside.digits none 0 0) (a .i + 2)) (c .value .given .1) (after-read-unicode .read-unicode .ensures)
+
+encoded-requires : tie.Need-encoded-requires
+encoded-requires c κs = code (c .before .before) .valid
 
 copy-requires : tie.Need-copy-requires
 copy-requires c κs =
@@ -34,10 +36,9 @@ copy-requires c κs =
     let after-read-unicode = after-encoded .before .before .before .before .before in
     let a = after-read-unicode .before .before .before .args in
     let p = after-read-unicode .before .before .before .pre in
-    let g = after-encoded .before .before .before .value .given in
-    let h
-    : Code-read (a .doc .now) (Inside.digits none 0 0) (a .i + 2) (g .0 .0) (g .0 .1 .0) =
-    subst (Reads-code (a .doc .now) (Inside.digits none 0 0) (a .i + 2)) (g .1) (after-read-unicode .read-unicode .ensures) in
+    let after-value = after-encoded .before .before .before in
+    let g = after-value .value .given in
+    let h = code after-value in
     let k = after-encoded .before .encoded-length in
     let m = h .within in
     let l = h .ahead in
@@ -51,10 +52,9 @@ add-t20 c =
     let after-read-unicode = after-encoded .before .before .before .before .before in
     let a = after-read-unicode .before .before .before .args in
     let p = after-read-unicode .before .before .before .pre in
-    let g = after-encoded .before .before .before .value .given in
-    let h
-    : Code-read (a .doc .now) (Inside.digits none 0 0) (a .i + 2) (g .0 .0) (g .0 .1 .0) =
-    subst (Reads-code (a .doc .now) (Inside.digits none 0 0) (a .i + 2)) (g .1) (after-read-unicode .read-unicode .ensures) in
+    let after-value = after-encoded .before .before .before in
+    let g = after-value .value .given in
+    let h = code after-value in
     let k = after-encoded .before .encoded-length in
     let m = h .within in
     let l = h .ahead in
@@ -68,10 +68,9 @@ returns c =
     let after-read-unicode = after-encoded .before .before .before .before .before in
     let a = after-read-unicode .before .before .before .args in
     let p = after-read-unicode .before .before .before .pre in
-    let g = after-encoded .before .before .before .value .given in
-    let h
-    : Code-read (a .doc .now) (Inside.digits none 0 0) (a .i + 2) (g .0 .0) (g .0 .1 .0) =
-    subst (Reads-code (a .doc .now) (Inside.digits none 0 0) (a .i + 2)) (g .1) (after-read-unicode .read-unicode .ensures) in
+    let after-value = after-encoded .before .before .before in
+    let g = after-value .value .given in
+    let h = code after-value in
     let k = after-encoded .before .encoded-length in
     let d = c .before .before .before .copy in
     subst

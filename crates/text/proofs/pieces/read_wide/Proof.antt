@@ -11,15 +11,23 @@ use native.Mathlib.Omega.{arith}
 use Rattle.text.proofs.pieces.read_wide.Statement.{statement}
 use Rattle.text.proofs.pieces.read_wide.Tie as tie
 
+-- the character that was read
+wide
+    : (c : tie.After-next)
+    → let a = c .before .before .before .before .before .args in
+    Wide-read (a .doc .now) Inside.chars (a .i) (c .next .given .0 .0)
+wide c =
+    let after-wide-end = c .before .before in
+    let a = after-wide-end .before .before .before .args in
+    subst (Reads-wide (a .doc .now) Inside.chars (a .i)) (c .next .given .1) (after-wide-end .wide-end .ensures)
+
 copy-requires : tie.Need-copy-requires
 copy-requires c κs =
     let after-wide-end = c .before .before .before .before in
     let a = after-wide-end .before .before .before .args in
     let p = after-wide-end .before .before .before .pre in
     let g = c .before .before .next .given in
-    let h
-    : Wide-read (a .doc .now) Inside.chars (a .i) (g .0 .0) =
-    subst (Reads-wide (a .doc .now) Inside.chars (a .i)) (g .1) (after-wide-end .wide-end .ensures) in
+    let h = wide (c .before .before) in
     let l = h .ahead in
     let m = h .within in
     (omega arith, m, room-for (a .doc .now) (a .i) (a .pool .now) (a .w) (a .n) (g .0 .0 - a .i) (p .0 .1) (omega arith))
@@ -30,9 +38,7 @@ sub-t13 c =
     let a = after-wide-end .before .before .before .args in
     let p = after-wide-end .before .before .before .pre in
     let g = c .before .before .before .before .before .next .given in
-    let h
-    : Wide-read (a .doc .now) Inside.chars (a .i) (g .0 .0) =
-    subst (Reads-wide (a .doc .now) Inside.chars (a .i)) (g .1) (after-wide-end .wide-end .ensures) in
+    let h = wide (c .before .before .before .before .before) in
     let l = h .ahead in omega arith
 
 add-t14 : tie.Need-add-t14
@@ -41,9 +47,7 @@ add-t14 c =
     let a = after-wide-end .before .before .before .args in
     let p = after-wide-end .before .before .before .pre in
     let g = c .before .before .before .before .before .next .given in
-    let h
-    : Wide-read (a .doc .now) Inside.chars (a .i) (g .0 .0) =
-    subst (Reads-wide (a .doc .now) Inside.chars (a .i)) (g .1) (after-wide-end .wide-end .ensures) in
+    let h = wide (c .before .before .before .before .before) in
     let m = h .within in
     let r = room-for (a .doc .now) (a .i) (a .pool .now) (a .w) (a .n) (g .0 .0 - a .i) (p .0 .1) (omega arith) in
     omega (arith, words-bytes (a .w) (a .n + (g .0 .0 - a .i)) _ r, after-wide-end .before .before .before .good)
@@ -54,9 +58,7 @@ sub-t15 c =
     let a = after-wide-end .before .before .before .args in
     let p = after-wide-end .before .before .before .pre in
     let g = c .before .before .before .before .before .next .given in
-    let h
-    : Wide-read (a .doc .now) Inside.chars (a .i) (g .0 .0) =
-    subst (Reads-wide (a .doc .now) Inside.chars (a .i)) (g .1) (after-wide-end .wide-end .ensures) in
+    let h = wide (c .before .before .before .before .before) in
     let l = h .ahead in omega arith
 
 returns : tie.Need-returns
@@ -66,9 +68,7 @@ returns c =
     let a = after-wide-end .before .before .before .args in
     let p = after-wide-end .before .before .before .pre in
     let g = after-copy .before .before .before .next .given in
-    let h
-    : Wide-read (a .doc .now) Inside.chars (a .i) (g .0 .0) =
-    subst (Reads-wide (a .doc .now) Inside.chars (a .i)) (g .1) (after-wide-end .wide-end .ensures) in
+    let h = wide (after-copy .before .before .before) in
     piece-wide (a .doc .now) (a .i) (a .pool .now) (after-copy .copy .last .1 .1 .1 .0) (a .w) (a .n) (g .0 .0) h (after-copy .copy .ensures)
 
 returns-2 : tie.Need-returns-2
