@@ -1,7 +1,7 @@
 // Rows of a shape opened and raised.
 ghost use mathlib.Core.Path.{_≡_};
-ghost use mathlib.Core.List.{List, _++_, _∷_};
-ghost use Prim.Native.Nat.{ℕ, _+_, _%_, _^_, _≤_, _<_};
+ghost use mathlib.Core.List.{_++_, _∷_};
+ghost use Prim.Native.Nat.{_+_, _%_, _^_, _≤_, _<_};
 ghost use lib.Bits.{bitOr};
 ghost use lib.ListN.{length, getD, take, drop};
 ghost use Rattle.shapes.specs.Shapes.{head-of, size-at};

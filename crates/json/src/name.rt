@@ -1,9 +1,9 @@
 // Names of members.
 ghost use mathlib.Core.Path.{_≡_};
 ghost use Prim.Native.Nat.{_+_, _*_, _≤_, _<_};
-ghost use lib.ListN.{length, take};
+ghost use lib.ListN.{length};
 ghost use Rattle.definitions.specs.Value.{Members, has-name};
-ghost use Rattle.pool.specs.Pool.{words, text-in};
+ghost use Rattle.pool.specs.Pool.{text-in};
 ghost use Rattle.json.specs.JsonParts.{Named-rows, Walkable, Name-ready, Reads-name, Colon-answer};
 use crate::reading::Cursor;
 use crate::space::peek;

@@ -1,9 +1,9 @@
 // Texts in a lent slice of 64-bit words: eight bytes to a word, the first in the highest place, so that words compare as their bytes do.
 ghost use mathlib.Core.Path.{_≡_};
 ghost use Prim.Native.Nat.{_-_, _*_, _/_, _%_, _<_, min};
-ghost use lib.ListN.{length, getD};
+ghost use lib.ListN.{length};
 ghost use Rattle.definitions.specs.Bytes.{order, same};
-ghost use Rattle.pool.specs.Pool.{Put, pool-bytes, text-in, ordering-of};
+ghost use Rattle.pool.specs.Pool.{Put, text-in, ordering-of};
 
 // How two texts stand in byte order.
 pub enum Comparison {

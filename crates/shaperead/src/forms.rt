@@ -1,5 +1,4 @@
 // Shapes, their elements and their members: the shape reader calls the readers of its parts, which call it back; the nesting left falls.
-ghost use Prim.Native.Nat.{_<_};
 ghost use Rattle.shaperead.specs.ShapeParts.{Ready, Reads-form, Reads-element, Reads-members};
 use crate::members::Turn;
 use crate::members::behind_member;

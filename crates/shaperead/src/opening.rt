@@ -1,6 +1,4 @@
 // How a shape begins: its bracket, the word `shape` and its kinds.
-ghost use Prim.Native.Nat.{_≤_};
-ghost use lib.ListN.{length};
 ghost use Rattle.shaperead.specs.ShapeParts.{Judges, Placed, Expects, Begins-shape, Opens-form};
 use crate::kinds::Kinds;
 use crate::kinds::read_kinds;

@@ -3,7 +3,7 @@ ghost use mathlib.Core.Path.{_≡_};
 ghost use mathlib.Core.List.{[], _∷_};
 ghost use Prim.Native.Nat.{min};
 ghost use Rattle.definitions.specs.Operations.{slices-short};
-ghost use Rattle.definitions.specs.WorkSlices.{form-words, name-words, value-words, text-words, plain-slices, infer-slices, join-slices};
+ghost use Rattle.definitions.specs.WorkSlices.{name-words, value-words, text-words, plain-slices, infer-slices, join-slices};
 ghost use Rattle.slices.specs.Small.{Small};
 use definitions::Limits;
 

@@ -1,7 +1,7 @@
 // Tokens of shape texts and readers: brackets, JSON texts, and words or numbers, with JSON white space between them.
 ghost use mathlib.Core.Path.{_≡_};
 ghost use Prim.Native.Nat.{_+_, _-_, _≤_, _<_};
-ghost use lib.ListN.{length, getD, take, drop};
+ghost use lib.ListN.{length};
 ghost use Rattle.definitions.specs.Bytes.{same};
 ghost use Rattle.pool.specs.Pool.{words};
 ghost use Rattle.tokens.specs.TokenRead.{Space-answer, Border-answer, Skips, Runs, Next, word-in, place-of};
