@@ -1,5 +1,6 @@
 // Each operation whole, on its texts: they are judged and read, a walk goes over the tables, and an end writes or says what
-// came of it. The work slices are long enough for these texts; that is asked of the caller, and nothing else.
+// came of it. Asked of the caller: work slices that are long enough for these texts, limits no larger than the paper's and, where
+// a table grows, one that is not too long to be measured.
 ghost use mathlib.Core.Path.{_≡_};
 ghost use Prim.Native.Nat.{_≤_};
 ghost use lib.ListN.{length};
