@@ -14,7 +14,7 @@ use Rattle.nodes.specs.Nodes.{Rows}
 use Rattle.json.specs.declared.reading.Cursor.{Cursor}
 use Rattle.json.specs.declared.reading.ValueRead.the-variants.{Done, Refused}
 use Rattle.json.specs.JsonParts.{Around, Moves, Reads}
-use Rattle.json.proofs.Table.{with-row, length-with-row, row-alone}
+use Rattle.nodes.specs.RowLaws.{with-row, length-with-row, row-alone}
 
 -- a refusal; the tables are as long as they were
 pub refuses

@@ -2,7 +2,6 @@ pub mod Scan
 pub mod Kept
 pub mod White
 pub mod Spelling
-pub mod Table
 pub mod Answers
 pub mod Scalars
 pub mod Literals

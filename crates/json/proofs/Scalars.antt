@@ -35,7 +35,7 @@ use Rattle.json.proofs.Kept.{scan-kept}
 use Rattle.json.proofs.Scan as Scan
 use Rattle.json.proofs.Scan.{byte-inside, byte-here, here, at-end, at-byte, value-begins}
 use Rattle.json.proofs.Scan.{value-full, number-begins, no-value, spell-on, spell-off, spell-end}
-use Rattle.json.proofs.Table.{with-row}
+use Rattle.nodes.specs.RowLaws.{with-row}
 use Rattle.json.proofs.Answers.{refuses, one-row}
 
 -- ---- refusal 6

@@ -17,7 +17,7 @@ use Rattle.json.specs.declared.reading.ValueRead.the-variants.{Refused}
 use Rattle.json.specs.JsonParts.{Skips, Token, Neither, Around, Placed, Moves, Reads, Bracket, Parts, no-parts, code-of, closing-of}
 use Rattle.json.specs.JsonParts.{start-of, next-of, behind-of, Before, count-of, whole-of, Open-parts, Closes, Behind-ready}
 use Rattle.json.proofs.Scan.{scan-broken}
-use Rattle.json.proofs.Table.{length-with-row, row-put}
+use Rattle.nodes.specs.RowLaws.{length-with-row, row-put}
 use Rattle.json.proofs.Bracketed.{comma, closes, closes-empty, first-part, behind-end, behind-broken, no-rows, whole-rows}
 use Rattle.json.proofs.Bracketed.{count-none, size-whole, code-whole, bits-whole, length-whole, length-none, parts-none}
 

@@ -5,3 +5,4 @@ pub mod Reading
 pub mod DigitRuns
 pub mod Counting
 pub mod Writing
+pub mod WordNumbers

@@ -5,3 +5,4 @@ pub mod NumberWrite
 pub mod NumberCode
 pub mod NumberLaws
 pub mod DecimalLaws
+pub mod NumberWord

@@ -13,6 +13,7 @@ mod decimal;
 mod digits;
 mod numeral;
 mod phase;
+pub mod word; // numbers that are whole words
 
 use numeral::CappedNumeral;
 use phase::NumberPhase;

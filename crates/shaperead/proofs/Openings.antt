@@ -1,19 +1,16 @@
 -- Answers for the bracket, the word and the kinds of a shape. Assumes nothing.
-use Prim.Native.Nat.{ℕ, suc, _+_, _-_, _≤_, _<_}
+use Prim.Native.Nat.{ℕ, suc, _+_, _-_, _≤_}
 use mathlib.Core.Path.{_≡_, refl, sym, ap, _∙_, subst}
-use mathlib.Core.Bool.{Bool, true, false}
+use mathlib.Core.Bool.{true, false}
 use mathlib.Core.List.{List, [], _∷_}
 use native.Mathlib.Omega.{arith}
-use borrow.Author.Tests.{lt-ltb, le-ltb, eqb-true, eqb-false}
 use denote.Enum.Declared.{tagOf}
 use types.Run.{OneOf}
-use lib.Dec.{ltb, eqb}
 use lib.ListN.{length, drop, length-drop}
 use lib.Seq.{length-take-le}
 use Rattle.definitions.specs.declared.Limits.{Limits}
 use Rattle.definitions.specs.Bytes.{Bytes, same}
 use Rattle.definitions.specs.Outcome.{refused}
-use Rattle.definitions.specs.Limits.{over}
 use Rattle.definitions.specs.Tokens.{opening, closing, quoted, word, broken, want-open}
 use Rattle.definitions.specs.Tokens as Tokens
 use Rattle.definitions.specs.ShapeText.{Around, shape-open, shape-word, want, depth, want-step}
@@ -22,6 +19,7 @@ use Rattle.laws.specs.Bools.{clash}
 use Rattle.tokens.specs.declared.Token.{Token}
 use Rattle.tokens.specs.declared.Token.the-variants.{Opening, Word}
 use Rattle.tokens.specs.TokenRead.{word-in, Found, Token-answer, Next, place-of}
+use Rattle.tokens.specs.Expecting.{Judges}
 use Rattle.tokens.proofs.Token as Token-type
 use Rattle.shaperead.specs.declared.reading.Cursor.{Cursor}
 use Rattle.shaperead.specs.declared.kinds.Kinds.{Kinds}
@@ -31,7 +29,7 @@ use Rattle.shaperead.specs.declared.opening.Expected.the-variants as Exp
 use Rattle.shaperead.specs.declared.opening.Begun.{Begun}
 use Rattle.shaperead.specs.declared.opening.Begun.the-variants as Begun-is
 use Rattle.shaperead.specs.declared.opening.Opened.the-variants as Opened-is
-use Rattle.shaperead.specs.ShapeParts.{reading, Limited, Judges, Placed, Kept, Expected-answer, Expects}
+use Rattle.shaperead.specs.ShapeParts.{reading, Limited, Placed, Kept, Expected-answer, Expects}
 use Rattle.shaperead.specs.ShapeParts.{Begun-answer, Begins-shape, Kinds-answer, Reads-kinds, Opens-form}
 use Rattle.shaperead.proofs.Steps.{shown, goes-on, opens-on, opens-full, misplaced-found, misplaced-read}
 use Rattle.shaperead.proofs.Steps.{no-opening, no-word, shape-bytes, only-shape, shape-goes}
@@ -112,31 +110,6 @@ module _ {text : Bytes} {at top : ℕ} {p₀ p : List ℕ} {r : Token} (x : Next
 
 -- ---- the bracket
 
-module _ {l : Limits} {o : Around} {values left : ℕ} (a : Limited l o values left) (n : ℕ) where
-  -- below the limit of values the nesting decides
-  full-nesting : n < values → eqb left 0 ≡ over l (suc n) (suc (depth o))
-  full-nesting h = rw (le-ltb (l .values) (suc n) (omega (arith, a .most))) (pick (eqb left 0) refl)
-    where
-      pick : (t : Bool) → eqb left 0 ≡ t → t ≡ ltb (l .nesting) (suc (depth o))
-      pick true e = sym (lt-ltb (l .nesting) (suc (depth o)) (omega (arith, eqb-true left 0 e, a .nests)))
-      pick false e =
-          sym
-          (le-ltb (l .nesting) (suc (depth o))
-          (let k : left ≡ 0 → ⊥ = eqb-false left 0 e in omega (arith, a .nests)))
-
-  full-values : values ≤ n → true ≡ over l (suc n) (suc (depth o))
-  full-values h = rw (lt-ltb (l .values) (suc n) (omega (arith, a .most)))
-
-pub judges-nesting : {values left begun : ℕ} → begun < values → Judges values left begun (eqb left 0)
-judges-nesting {left} {begun} h =
-    record {
-      judged = λ l o a. full-nesting a begun h;
-      within = λ e. (h, let k : left ≡ 0 → ⊥ = eqb-false left 0 e in omega arith);
-    }
-
-pub judges-values : {values begun : ℕ} (left : ℕ) → values ≤ begun → Judges values left begun true
-judges-values {begun} left h = record { judged = λ l o a. full-values a begun h; within = λ e. clash refl e }
-
 module _
     {text : Bytes} (values left : ℕ) (c : Cursor) {p₀ p : List ℕ} {r : Token} (x : Next text (c .at) p₀ p (c .top) r) where
   pub bracket-missing
@@ -157,7 +130,7 @@ module _
     unfolding want-step want-open
     bracket-full j =
         record {
-          answer = λ l o a. opens-full l (c .begun) (shape-open o) found-bracket refl (sym (j .judged l o a));
+          answer = λ l o a. opens-full l (c .begun) (shape-open o) found-bracket refl (sym (j .judged l (depth o) (a .most) (a .nests)));
           kept = next-kept x;
         }
 
@@ -169,7 +142,7 @@ module _
         : Judges values left (c .begun) false → (l : Limits) (o : Around) → Limited l o values left
         → reading l (c .begun) text (want (shape-open o)) (c .at) ≡ reading l (suc (c .begun)) text (want (shape-word o)) (at + 1)
     unfolding want-step want-open
-    bracket-read j l o a = opens-on l (c .begun) (shape-open o) found-bracket refl (sym (j .judged l o a))
+    bracket-read j l o a = opens-on l (c .begun) (shape-open o) found-bracket refl (sym (j .judged l (depth o) (a .most) (a .nests)))
 
     module _ {p′ : List ℕ} {y : Expected} (j : Judges values left (c .begun) false) (w : Expects text p p′ (at + 1) (c .top) shape-bytes y) where
       pub shape-begun : {end : ℕ} → y ≡ Expected-is.At end → Begins-shape text p₀ p′ values left c (Begun-is.Behind end)

@@ -24,6 +24,7 @@ use Rattle.pool.specs.PoolLaws.{bytes-words}
 use Rattle.tokens.specs.declared.Token.{Token}
 use Rattle.tokens.specs.declared.Token.the-variants.{Opening, Closing, Quoted, Word, Broken, End}
 use Rattle.tokens.specs.TokenRead.{word-in, Found, Token-answer, Next, place-of}
+use Rattle.tokens.specs.ReadingLaws as Laws
 use Rattle.tokens.proofs.Token as Token-type
 use Rattle.shaperead.specs.ShapeParts.{reading, Only, Placed as Ready-at}
 
@@ -59,28 +60,28 @@ module _ (l : Limits) (n : ℕ) {text : Bytes} {at : ℕ} where
   pub goes-on
       : (w : Want) {t : Tokens.Token} {place end : ℕ} {q : State} → Found text at t place end → want-step w t ≡ go q
       → reading l n text (want w) at ≡ reading l n text q end
-  unfolding step judge-step at-place
-  goes-on w {end} f e = found-step (want w) f ∙ rw e
+  unfolding reading step at-place
+  goes-on w f e = Laws.goes-on step finished l n (want w) f e
 
   -- the bracket of a shape
   pub opens-on
       : (w : Want) {t : Tokens.Token} {place end d : ℕ} {q : State} → Found text at t place end → want-step w t ≡ opens d q
       → over l (suc n) d ≡ false → reading l n text (want w) at ≡ reading l (suc n) text q end
-  unfolding step judge-step at-place
-  opens-on w f e h = found-step (want w) f ∙ rw e (rw (h, judge-step))
+  unfolding reading step at-place
+  opens-on w f e h = Laws.opens-on step finished l n (want w) f e h
 
   pub opens-full
       : (w : Want) {t : Tokens.Token} {place end d : ℕ} {q : State} → Found text at t place end → want-step w t ≡ opens d q
       → over l (suc n) d ≡ true → reading l n text (want w) at ≡ refused 8 place
-  unfolding step judge-step at-place
-  opens-full w f e h = found-step (want w) f ∙ rw e (rw (h, judge-step))
+  unfolding reading step at-place
+  opens-full w f e h = Laws.opens-full step finished l n (want w) f e h
 
   -- one that may not
   pub misplaced-found
       : (w : Want) {t : Tokens.Token} {place end : ℕ} → Found text at t place end → want-step w t ≡ misplaced
       → reading l n text (want w) at ≡ refused 7 place
-  unfolding step judge-step at-place
-  misplaced-found w f e = found-step (want w) f ∙ rw e
+  unfolding reading step at-place
+  misplaced-found w f e = Laws.misplaced-found step finished l n (want w) f e
 
   pub misplaced-read
       : (w : Want) {p₀ p : List ℕ} {top : ℕ} {r : Token} → Next text at p₀ p top r → want-step w (shown text p top r) ≡ misplaced

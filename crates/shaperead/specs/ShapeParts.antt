@@ -11,7 +11,6 @@ use Rattle.definitions.specs.declared.Limits.{Limits}
 use Rattle.definitions.specs.Bytes.{Bytes}
 use Rattle.definitions.specs.Outcome.{Outcome, refused}
 use Rattle.definitions.specs.Shape.{Kind, among, Shape, Element, no-list, Fields, no-fields, field, has-list}
-use Rattle.definitions.specs.Limits.{over}
 use Rattle.definitions.specs.Tokens.{read-tokens, misplaced}
 use Rattle.definitions.specs.Tokens as Tokens
 use Rattle.definitions.specs.ShapeText.{Parts, Around, as-element, as-member, Want, shape-open, kind-word, member-open, member-word, State, want}
@@ -46,11 +45,6 @@ reading l n text q at = read-tokens step finished l n (length text) q (tokens-fr
 pub record Limited (l : Limits) (o : Around) (values left : ℕ) : Type 0 where
   pub most : l .values ≡ values
   pub nests : depth o + left ≡ l .nesting
-
--- whether a shape that begins now is one too many or too deep
-pub record Judges (values left begun : ℕ) (r : Bool) : Type 0 where
-  pub judged : (l : Limits) (o : Around) → Limited l o values left → r ≡ over l (suc begun) (suc (depth o))
-  pub within : r ≡ false → (begun < values) × (0 < left)
 
 -- only this token may stand there
 abbrev pub Only : Want → Tokens.Token → Type 0

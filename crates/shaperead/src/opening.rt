@@ -1,16 +1,9 @@
 // How a shape begins: its bracket, the word `shape` and its kinds.
-ghost use Rattle.shaperead.specs.ShapeParts.{Judges, Placed, Expects, Begins-shape, Opens-form};
+ghost use Rattle.shaperead.specs.ShapeParts.{Placed, Expects, Begins-shape, Opens-form};
 use crate::kinds::Kinds;
 use crate::kinds::read_kinds;
 use crate::reading::Cursor;
 use tokens::Token;
-
-// Whether a shape that begins here is one too many or too deep: refusal 8.
-fn is_full(values: usize, left: usize, begun: usize) -> bool
-    ensures judged { λ r. ⌜ Judges values left begun r ⌝ }
-{
-    if begun < values { left == 0 } else { true }
-}
 
 pub enum Expected {
     // up to a place
@@ -54,7 +47,7 @@ fn begin(text: &[u8], pool: &mut [u64], values: usize, left: usize, c: Cursor) -
             place: tokens::place(t, text.len()),
         };
     };
-    if is_full(values, left, c.begun) {
+    if tokens::expect::is_full(values, left, c.begun) {
         return Begun::Refused {
             number: 8,
             place: at,

@@ -1,3 +1,4 @@
 pub mod Borders
 pub mod Lexing
 pub mod Words
+pub mod Expected

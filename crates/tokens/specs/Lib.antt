@@ -1,1 +1,3 @@
 pub mod TokenRead
+pub mod Expecting
+pub mod ReadingLaws

@@ -5,6 +5,9 @@ ghost use lib.ListN.{length};
 ghost use Rattle.definitions.specs.Bytes.{same};
 ghost use Rattle.pool.specs.Pool.{words};
 ghost use Rattle.tokens.specs.TokenRead.{Space-answer, Border-answer, Skips, Runs, Next, word-in, place-of};
+
+pub mod expect; // a token of one sort that must come
+
 use text::TextRead;
 
 pub enum Token {

@@ -2,7 +2,7 @@
 use borrow.Author.Needs.{needs}
 use Prim.Native.Nat.{ℕ, _-_, _*_}
 use mathlib.Core.Path.{refl, ap, _∙_}
-use Rattle.json.proofs.Table.{with-row}
+use Rattle.nodes.specs.RowLaws.{with-row}
 use Rattle.json.proofs.parts.close.Statement.{statement}
 use Rattle.json.proofs.parts.close.Tie as tie
 

@@ -12,7 +12,7 @@ use Rattle.number.specs.NumberRead.{number-in}
 use Rattle.number.specs.DecimalLaws.{plain-short}
 use Rattle.json.specs.declared.reading.ValueRead.the-variants.{Done}
 use Rattle.json.proofs.Scalars.{sign-small}
-use Rattle.json.proofs.Table.{with-row}
+use Rattle.nodes.specs.RowLaws.{with-row}
 use Rattle.json.proofs.scalar.put_number.Statement.{statement}
 use Rattle.json.proofs.scalar.put_number.Tie as tie
 

@@ -6,7 +6,7 @@ use mathlib.Core.Path.{ap, _∙_, subst}
 use native.Mathlib.Omega.{arith}
 use Rattle.json.specs.JsonParts.{Judges}
 use Rattle.json.proofs.Scalars.{literal-full, literal-broken, literal-read, literal-code}
-use Rattle.json.proofs.Table.{with-row}
+use Rattle.nodes.specs.RowLaws.{with-row}
 use Rattle.json.proofs.scalar.read_literal.Statement.{statement}
 use Rattle.json.proofs.scalar.read_literal.Tie as tie
 

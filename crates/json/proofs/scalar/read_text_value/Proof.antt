@@ -9,7 +9,7 @@ use Rattle.text.specs.TextRead.{Text-answer, Text-closed}
 use Rattle.text.specs.declared.TextRead.{TextRead}
 use Rattle.json.specs.JsonParts.{Judges}
 use Rattle.json.proofs.Scalars.{text-full, text-broken, text-read, text-room}
-use Rattle.json.proofs.Table.{with-row}
+use Rattle.nodes.specs.RowLaws.{with-row}
 use Rattle.json.proofs.scalar.read_text_value.Statement.{statement}
 use Rattle.json.proofs.scalar.read_text_value.Tie as tie
 

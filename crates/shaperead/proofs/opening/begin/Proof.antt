@@ -3,7 +3,7 @@ use borrow.Author.Needs.{needs}
 use native.Mathlib.Omega.{arith}
 use mathlib.Core.Path.{subst}
 use mathlib.Core.Bool.{Bool}
-use Rattle.shaperead.specs.ShapeParts.{Judges}
+use Rattle.tokens.specs.Expecting.{Judges}
 use Rattle.shaperead.proofs.Steps.{next-room}
 use Rattle.shaperead.proofs.Openings.{bracket-missing, bracket-full, bracket-room, shape-begun, shape-missing}
 use Rattle.shaperead.proofs.opening.begin.Statement.{statement}

@@ -1,4 +1,5 @@
--- A row that is put before the rows of its parts, and what the table then holds. Assumes nothing.
+-- Laws of a table of three words a row: a row that is put before the rows of its parts, and what the table then holds.
+-- Assumes nothing.
 use Prim.Native.Nat.{ℕ, suc, _+_, _-_, _*_, _≤_, _<_}
 use mathlib.Core.Path.{_≡_, sym, ap, ap₂, _∙_}
 use mathlib.Core.List.{List, [], _∷_, _++_, append-nil}
@@ -6,7 +7,7 @@ use native.Mathlib.Omega.{arith}
 use lib.ListN.{length, take, drop, length-append, length-drop}
 use lib.Seq.{take-append-add, take-append-le, take-add, take-take, drop-at, length-take-le}
 
--- the table with a row put at value b
+-- the table with a row put as number b
 abbrev pub with-row : List ℕ → (b h x m : ℕ) → List ℕ
 with-row ns b h x m = take (3 * b) ns ++ h ∷ x ∷ m ∷ drop (3 * b + 3) ns
 
@@ -19,7 +20,7 @@ module _ (ns : List ℕ) (b h x m : ℕ) (room : 3 * b + 3 ≤ length ns) where
       length-append (take (3 * b) ns) (h ∷ x ∷ m ∷ drop (3 * b + 3) ns)
       ∙ omega (arith, front-length, length-drop (3 * b + 3) ns)
 
-  -- behind the row stand the rows rs of its parts, up to value n
+  -- behind the row stand the rows rs of its parts, up to number n
   pub row-put
       : (ms rs : List ℕ) (n : ℕ) → b < n → 3 * b + 3 ≤ length ms → take (3 * n) ns ≡ take (3 * suc b) ms ++ rs
       → take (3 * n) (with-row ns b h x m) ≡ take (3 * b) ms ++ h ∷ x ∷ m ∷ rs

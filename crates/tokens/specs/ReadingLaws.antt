@@ -1,0 +1,122 @@
+-- How reading a text of forms goes over one token, by any grammar's steps. Assumes nothing.
+use Prim.Native.Nat.{ℕ, suc}
+use mathlib.Core.Path.{_≡_, refl, sym, ap, _∙_}
+use mathlib.Core.Bool.{true, false}
+use mathlib.Core.List.{List, [], _∷_}
+use mathlib.Core.Option.{Option, none}
+use lib.ListN.{length}
+use Rattle.definitions.specs.declared.Limits.{Limits}
+use Rattle.definitions.specs.Limits.{over}
+use Rattle.definitions.specs.Bytes.{Bytes}
+use Rattle.definitions.specs.Outcome.{Outcome, refused}
+use Rattle.definitions.specs.Tokens.{Token, opening, closing, quoted, word, broken, at-place, Placed, Step, misplaced, go, opens, want-open}
+use Rattle.definitions.specs.Tokens.{want-close, want-text, want-word, judge-step, or-end, read-tokens}
+use Rattle.tokens.specs.TokenRead.{tokens-from, Found}
+use Rattle.tokens.specs.Expecting.{Sort, an-opening, a-closing, a-text, a-word, sort, Lacks, another, none-left, Kept, More-at}
+
+pub kept-then : {p₀ p p′ : List ℕ} {w : ℕ} → Kept p₀ p w → Kept p p′ w → Kept p₀ p′ w
+kept-then k m = record { size = m .size ∙ k .size; front = m .front ∙ k .front }
+
+-- ---- one token
+
+-- reading from a place on that stands between tokens, where n forms that count have begun
+abbrev pub reads
+    : {Q A : Type 0} → (Q → Placed → Step Q) → (Q → Option A) → Limits → Bytes → (n : ℕ) → Q → ℕ → Outcome ℕ A
+reads step whole l text n q at = read-tokens step whole l n (length text) q (tokens-from text at)
+
+module _ {Q A : Type 0} (step : Q → Placed → Step Q) (whole : Q → Option A) (l : Limits) (n : ℕ) (text : Bytes) (at : ℕ) where
+  misplaced-next
+      : (q : Q) (place : ℕ) (t : Token) (ts : List Placed) → tokens-from text at ≡ at-place place t ∷ ts
+      → step q (at-place place t) ≡ misplaced → reads step whole l text n q at ≡ refused 7 place
+  unfolding read-tokens judge-step at-place
+  misplaced-next q place t ts e m = ap (λ (us : List Placed). read-tokens step whole l n (length text) q us) e ∙ rw m
+
+  -- no token, where the text may end
+  pub whole-text : (q : Q) → tokens-from text at ≡ [] → reads step whole l text n q at ≡ or-end (length text) (whole q)
+  unfolding read-tokens
+  whole-text q e = ap (λ (us : List Placed). read-tokens step whole l n (length text) q us) e
+
+module _ {Q A : Type 0} (step : Q → Placed → Step Q) (whole : Q → Option A) (l : Limits) (n : ℕ) {text : Bytes} {at : ℕ} where
+  found-step
+      : (q : Q) {t : Token} {place end : ℕ} → Found text at t place end
+      → reads step whole l text n q at ≡ judge-step l n place (step q (at-place place t)) (λ n′ q′. reads step whole l text n′ q′ end)
+  unfolding read-tokens at-place
+  found-step q f = ap (λ (ts : List Placed). read-tokens step whole l n (length text) q ts) (f .run)
+
+  -- one that may stand there
+  pub goes-on
+      : (q : Q) {t : Token} {place end : ℕ} {q′ : Q} → Found text at t place end → step q (at-place place t) ≡ go q′
+      → reads step whole l text n q at ≡ reads step whole l text n q′ end
+  unfolding judge-step
+  goes-on q f e = found-step q f ∙ rw e
+
+  -- the bracket of a form that counts
+  pub opens-on
+      : (q : Q) {t : Token} {place end d : ℕ} {q′ : Q} → Found text at t place end → step q (at-place place t) ≡ opens d q′
+      → over l (suc n) d ≡ false → reads step whole l text n q at ≡ reads step whole l text (suc n) q′ end
+  unfolding judge-step
+  opens-on q f e h = found-step q f ∙ rw e (rw (h, judge-step))
+
+  pub opens-full
+      : (q : Q) {t : Token} {place end d : ℕ} {q′ : Q} → Found text at t place end → step q (at-place place t) ≡ opens d q′
+      → over l (suc n) d ≡ true → reads step whole l text n q at ≡ refused 8 place
+  unfolding judge-step
+  opens-full q f e h = found-step q f ∙ rw e (rw (h, judge-step))
+
+  -- one that may not
+  pub misplaced-found
+      : (q : Q) {t : Token} {place end : ℕ} → Found text at t place end → step q (at-place place t) ≡ misplaced
+      → reads step whole l text n q at ≡ refused 7 place
+  unfolding judge-step
+  misplaced-found q f e = found-step q f ∙ rw e
+
+  -- none of the one sort that may
+  pub lacking
+      : (q : Q) (k : Sort) {place : ℕ} → Lacks k text at place → whole q ≡ none
+      → ((t : Token) (p : ℕ) → (sort t ≡ k → ⊥) → step q (at-place p t) ≡ misplaced) → reads step whole l text n q at ≡ refused 7 place
+  unfolding read-tokens or-end
+  lacking q k {place} (another t ts e h) w m = misplaced-next step whole l n text at q place t ts e (m t place h)
+  lacking q k (none-left e i) w m =
+      ap (λ (us : List Placed). read-tokens step whole l n (length text) q us) e
+      ∙ ap (or-end (length text)) w
+      ∙ ap (refused 7) (sym i)
+
+  -- any, behind the whole text
+  pub more-text
+      : (q : Q) {place : ℕ} → More-at text at place → ((t : Placed) → step q t ≡ misplaced) → reads step whole l text n q at ≡ refused 7 place
+  more-text q {place} x m = misplaced-next step whole l n text at q place (x .token) (x .others) (x .run) (m (at-place place (x .token)))
+
+-- ---- tokens of another sort
+
+module _ {Q : Type 0} where
+  pub no-opening : (t : Token) (s : Step Q) → (sort t ≡ an-opening → ⊥) → want-open t s ≡ misplaced
+  unfolding sort want-open
+  no-opening opening s h = absurd (h refl)
+  no-opening closing s h = refl
+  no-opening (quoted u) s h = refl
+  no-opening (word w) s h = refl
+  no-opening broken s h = refl
+
+  pub no-closing : (t : Token) (s : Step Q) → (sort t ≡ a-closing → ⊥) → want-close t s ≡ misplaced
+  unfolding sort want-close
+  no-closing opening s h = refl
+  no-closing closing s h = absurd (h refl)
+  no-closing (quoted u) s h = refl
+  no-closing (word w) s h = refl
+  no-closing broken s h = refl
+
+  pub no-text : (t : Token) (f : Bytes → Step Q) → (sort t ≡ a-text → ⊥) → want-text t f ≡ misplaced
+  unfolding sort want-text
+  no-text opening f h = refl
+  no-text closing f h = refl
+  no-text (quoted u) f h = absurd (h refl)
+  no-text (word w) f h = refl
+  no-text broken f h = refl
+
+  pub no-word : (t : Token) (f : Bytes → Step Q) → (sort t ≡ a-word → ⊥) → want-word t f ≡ misplaced
+  unfolding sort want-word
+  no-word opening f h = refl
+  no-word closing f h = refl
+  no-word (quoted u) f h = refl
+  no-word (word w) f h = absurd (h refl)
+  no-word broken f h = refl
