@@ -10,8 +10,8 @@ use Rattle.definitions.specs.ShapeText.{read-shape}
 use Rattle.definitions.specs.Operations.{Reading, Source, judge-both, stopped, refusal}
 use Rattle.definitions.specs.WorkSlices.{form-words, name-words, value-words, text-words}
 use Rattle.laws.specs.Judging.{first-stops, second-stops, both-pass}
-use Rattle.shaperead.specs.declared.ShapeRead.{ShapeRead}
-use Rattle.shaperead.specs.declared.ShapeRead.the-variants.{Read, Refused}
+use Rattle.shape_reader.specs.declared.ShapeRead.{ShapeRead}
+use Rattle.shape_reader.specs.declared.ShapeRead.the-variants.{Read, Refused}
 use Rattle.json.specs.declared.DocumentRead.{DocumentRead}
 use Rattle.json.specs.declared.DocumentRead.the-variants as document-read
 use Rattle.slices.specs.Long.{long-three}

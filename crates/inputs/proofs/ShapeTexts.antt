@@ -15,9 +15,9 @@ use Rattle.laws.specs.ShapeForms.{shape-accepted-to, shape-ascending}
 use Rattle.laws.specs.Judging.{text-long, text-reads, text-refused}
 use Rattle.shapes.specs.Shapes.{Shape-rows}
 use Rattle.shapes.specs.ShapesLaws.{shape-rows-grow}
-use Rattle.shaperead.specs.declared.ShapeRead.{ShapeRead}
-use Rattle.shaperead.specs.declared.ShapeRead.the-variants.{Read, Refused}
-use Rattle.shaperead.specs.ShapeReads.{Shape-answer, Reads-shape}
+use Rattle.shape_reader.specs.declared.ShapeRead.{ShapeRead}
+use Rattle.shape_reader.specs.declared.ShapeRead.the-variants.{Read, Refused}
+use Rattle.shape_reader.specs.ShapeReads.{Shape-answer, Reads-shape}
 use Rattle.inputs.specs.Inputs.{Shape-table, Shape-room, Shape-passes, Shape-outcome, Judges-shape, Judges-first}
 
 -- ---- a table

@@ -12,8 +12,8 @@ use Rattle.definitions.specs.ShapeText.{read-shape}
 use Rattle.definitions.specs.Operations.{Reading, passed, stopped, refusal, judge-text, judge-both, slices-short}
 use Rattle.definitions.specs.WorkSlices.{form-words, name-words, for-shape-document, for-two-shapes}
 use Rattle.shapes.specs.Shapes.{Shape-rows}
-use Rattle.shaperead.specs.declared.ShapeRead.{ShapeRead}
-use Rattle.shaperead.specs.declared.ShapeRead.the-variants as shape-read
+use Rattle.shape_reader.specs.declared.ShapeRead.{ShapeRead}
+use Rattle.shape_reader.specs.declared.ShapeRead.the-variants as shape-read
 use Rattle.documents.specs.Documents.{Value-table}
 use Rattle.slices.specs.Small.{Small}
 use Rattle.inputs.specs.declared.Texts.{Texts}

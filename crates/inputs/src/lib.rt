@@ -6,7 +6,7 @@ ghost use Rattle.inputs.specs.Inputs.{Shape-document-slices, Shape-docum
 use definitions::Format;
 use definitions::Limits;
 use json::DocumentRead;
-use shaperead::ShapeRead;
+use shape_reader::ShapeRead;
 
 // The texts were read, each into a table of which it took so many words, and took so many of the pool; or a text is refused.
 pub enum Texts {
@@ -39,7 +39,7 @@ fn read_shape(
             place: 0,
         };
     }
-    shaperead::read_shape(text, shapes, pool, top, limits)
+    shape_reader::read_shape(text, shapes, pool, top, limits)
 }
 
 // Judges and reads the first text: its names take no more of the pool than one text's can.

@@ -52,7 +52,7 @@ fn deliver_grown(
     let Joined::Grown { words: _ } = grown else {
         return answers::refusal(11, 0, 0); // more forms than the table has room for
     };
-    shapewrite::deliver(output, shapes, pool, limits)
+    shape_writer::deliver(output, shapes, pool, limits)
 }
 
 // Joins the shape of a document into a shape, and writes it.

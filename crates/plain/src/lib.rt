@@ -19,7 +19,7 @@ pub fn written_length(nodes: &[u64], at: usize) -> usize
 }
 
 // Writes a literal name.
-pub fn write_name(out: &mut [u8], at: usize, name: &[u8]) -> usize
+pub fn write_bytes(out: &mut [u8], at: usize, name: &[u8]) -> usize
     requires { ⌜ at + length (now name) ≤ length (now out) ⌝ }
     ensures written { λ r. ⌜ Writes (now (out .entry)) (now (out .exit)) at (now (name .entry)) r ⌝ }
 {
@@ -83,13 +83,13 @@ fn write_single(out: &mut [u8], at: usize, nodes: &[u64], row: usize, pool: &[u6
 {
     let kind = nodes::row_kind(nodes, row);
     if kind == nodes::NULL {
-        return write_name(out, at, &nodes::NULL_NAME);
+        return write_bytes(out, at, &nodes::NULL_NAME);
     }
     if kind == nodes::FALSE {
-        return write_name(out, at, &nodes::FALSE_NAME);
+        return write_bytes(out, at, &nodes::FALSE_NAME);
     }
     if kind == nodes::TRUE {
-        return write_name(out, at, &nodes::TRUE_NAME);
+        return write_bytes(out, at, &nodes::TRUE_NAME);
     }
     let payload = nodes::row_payload(nodes, row);
     if kind == nodes::NUMBER {

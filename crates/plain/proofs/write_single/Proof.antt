@@ -14,9 +14,9 @@ use Rattle.plain.proofs.write_single.Tie as tie
 
 -- ---- null
 
-write-name-requires : tie.Need-write-name-requires
+write-bytes-requires : tie.Need-write-bytes-requires
 unfolding null-name bytes
-write-name-requires c κs =
+write-bytes-requires c κs =
     let w = c .before .before .before .before .before .before .before .pre .0 in
     omega (
       arith,
@@ -28,13 +28,13 @@ returns : tie.Need-returns
 unfolding null-name bytes
 returns c v h =
     let then1 = c .before .before .before .before .before in
-    written-as (c .before .before .write-name .ensures) (plain-null v (kind-told h (then1 .before .row-kind .ensures) (then1 .if1 .taken)))
+    written-as (c .before .before .write-bytes .ensures) (plain-null v (kind-told h (then1 .before .row-kind .ensures) (then1 .if1 .taken)))
 
 -- ---- bools
 
-write-name-requires-2 : tie.Need-write-name-requires-2
+write-bytes-requires-2 : tie.Need-write-bytes-requires-2
 unfolding false-name bytes
-write-name-requires-2 c κs =
+write-bytes-requires-2 c κs =
     let after-row-kind = c .before .before .before .before in
     let w = after-row-kind .before .before .before .before .pre .0 in
     omega (arith, w .room, ap length (plain-false (w .value) (kind-told (w .holds) (after-row-kind .row-kind .ensures) (c .before .before .if2 .taken))))
@@ -43,11 +43,11 @@ returns-2 : tie.Need-returns-2
 unfolding false-name bytes
 returns-2 c v h =
     let then2 = c .before .before .before .before .before in
-    written-as (c .before .before .write-name2 .ensures) (plain-false v (kind-told h (then2 .before .before .row-kind .ensures) (then2 .if2 .taken)))
+    written-as (c .before .before .write-bytes2 .ensures) (plain-false v (kind-told h (then2 .before .before .row-kind .ensures) (then2 .if2 .taken)))
 
-write-name-requires-3 : tie.Need-write-name-requires-3
+write-bytes-requires-3 : tie.Need-write-bytes-requires-3
 unfolding true-name bytes
-write-name-requires-3 c κs =
+write-bytes-requires-3 c κs =
     let after-row-kind = c .before .before .before .before .before in
     let w = after-row-kind .before .before .before .before .pre .0 in
     omega (arith, w .room, ap length (plain-true (w .value) (kind-told (w .holds) (after-row-kind .row-kind .ensures) (c .before .before .if3 .taken))))
@@ -56,7 +56,7 @@ returns-3 : tie.Need-returns-3
 unfolding true-name bytes
 returns-3 c v h =
     let then3 = c .before .before .before .before .before in
-    written-as (c .before .before .write-name3 .ensures) (plain-true v (kind-told h (then3 .before .before .before .row-kind .ensures) (then3 .if3 .taken)))
+    written-as (c .before .before .write-bytes3 .ensures) (plain-true v (kind-told h (then3 .before .before .before .row-kind .ensures) (then3 .if3 .taken)))
 
 -- ---- numbers
 
@@ -126,15 +126,15 @@ write-single-spec =
     tie.close
     (tie.spec
     (λ c κs. search needs) (λ c. search needs)
-    write-name-requires
+    write-bytes-requires
     (λ c. search needs)
     returns
     (λ c. search needs)
-    write-name-requires-2
+    write-bytes-requires-2
     (λ c. search needs)
     returns-2
     (λ c. search needs)
-    write-name-requires-3
+    write-bytes-requires-3
     (λ c. search needs)
     returns-3
     (λ c κs. search needs) (λ c κs. search needs) (λ c κs. search needs)

@@ -1,0 +1,116 @@
+-- Answers for a whole shape text. Assumes nothing.
+use Prim.Native.Nat.{ℕ, _*_}
+use mathlib.Core.Path.{_≡_, refl, sym, ap, _∙_, subst}
+use mathlib.Core.List.{List, [], _∷_}
+use native.Mathlib.Omega.{arith}
+use denote.Enum.Declared.{tagOf}
+use types.Run.{OneOf}
+use lib.ListN.{length, take}
+use lib.Seq.{take-take}
+use Rattle.definitions.specs.declared.Limits.{Limits}
+use Rattle.definitions.specs.Bytes.{Bytes}
+use Rattle.definitions.specs.Outcome.{refused}
+use Rattle.definitions.specs.Tokens.{Placed, tokens, read-tokens, or-end}
+use Rattle.definitions.specs.ShapeText.{text-end, shape-open, want, whole, put, depth, step, finished, read-shape}
+use Rattle.shapes.specs.Shapes.{Shape-rows}
+use Rattle.shapes.specs.ShapesLaws.{length-shape-rows}
+use Rattle.tokens.specs.declared.Token.{Token}
+use Rattle.tokens.specs.declared.Token.the-variants.{End}
+use Rattle.tokens.specs.TokenRead.{tokens-from, Token-answer, Next, place-of}
+use Rattle.tokens.proofs.Token as Token-type
+use Rattle.shape_reader.specs.declared.reading.Cursor.{Cursor}
+use Rattle.shape_reader.specs.declared.reading.Part.{Part}
+use Rattle.shape_reader.specs.declared.reading.Part.the-variants.{Done, Refused}
+use Rattle.shape_reader.specs.declared.ShapeRead.the-variants as Shape-is
+use Rattle.shape_reader.specs.ShapeParts.{reading, Limited, Ready, Form-done, Form-answer, Reads-form}
+use Rattle.shape_reader.specs.ShapeReads.{Tables, Reads-shape}
+use Rattle.shape_reader.proofs.Steps.{whole-read}
+use Rattle.shape_reader.proofs.Going.{ready-then}
+
+-- where a text begins
+pub start-ready
+    : {text : Bytes} {s p : List ℕ} {top values : ℕ} → Tables text s p top values
+    → Ready text s p values (record { at = 0; begun = 0; top = top })
+start-ready t =
+    record {
+      placed = record { short = t .short; within = omega arith; texts = omega (arith, t .texts); small = omega (arith, t .small) };
+      rows = t .rows;
+      few = t .few;
+      limit = omega arith;
+    }
+
+-- the whole text is read from its first place on
+begins : (l : Limits) (text : Bytes) → read-shape l text ≡ reading l 0 text (want (shape-open text-end)) 0
+unfolding read-shape reading tokens tokens-from
+begins l text = refl
+
+limits-at-start : (l : Limits) → Limited l text-end (l .values) (l .nesting)
+unfolding depth
+limits-at-start l = record { most = refl; nests = omega arith }
+
+module _
+    {text : Bytes} {s p s′ p′ : List ℕ} {top : ℕ} (l : Limits) {r : Part} (t : Tables text s p top (l .values))
+    (x : Reads-form (l .nesting) (l .values) text s p s′ p′ 0 (record { at = 0; begun = 0; top = top }) r) where
+  pub text-refused
+      : {number place : ℕ} → r ≡ Refused number place → Reads-shape l text s p s′ p′ top (Shape-is.Refused number place)
+  text-refused {number} {place} e =
+      record {
+        answer =
+            begins l text
+            ∙ subst (Form-answer (l .nesting) (l .values) text s p s′ p′ 0 (record { at = 0; begun = 0; top = top })) e (x .answer) l text-end
+            (limits-at-start l);
+        shapes-kept = x .sized .shapes-kept;
+        pool-kept = x .sized .pool-kept;
+      }
+
+  module _ {to : Cursor} (e : r ≡ Done to) where
+    pub read-form : Form-done (l .nesting) (l .values) text s p s′ p′ 0 (record { at = 0; begun = 0; top = top }) to
+    read-form = subst (Form-answer (l .nesting) (l .values) text s p s′ p′ 0 (record { at = 0; begun = 0; top = top })) e (x .answer)
+
+    pub end-ready : Ready text s′ p′ (l .values) to
+    end-ready = ready-then (start-ready t) (read-form .goes) (x .sized)
+
+    to-end : read-shape l text ≡ reading l (to .begun) text (whole (read-form .form)) (to .at)
+    unfolding put
+    to-end = begins l text ∙ read-form .run l text-end (limits-at-start l)
+
+    module _ {p″ : List ℕ} {k : Token} (y : Next text (to .at) p′ p″ (to .top) k) where
+      pub more-text
+          : {place : ℕ} → OneOf (0 ∷ 1 ∷ 2 ∷ 3 ∷ 4 ∷ []) (tagOf Token-type.the-type k) → place ≡ place-of k (length text)
+          → Reads-shape l text s p s′ p″ top (Shape-is.Refused 7 place)
+      more-text h i =
+          record {
+            answer = to-end ∙ whole-read l (to .begun) (read-form .form) h y ∙ ap (refused 7) (sym i);
+            shapes-kept = x .sized .shapes-kept;
+            pool-kept = y .kept ∙ x .sized .pool-kept;
+          }
+
+      pub whole-text : k ≡ End → Reads-shape l text s p s′ p″ top (Shape-is.Read (2 * to .begun) (to .top))
+      unfolding reading read-tokens or-end finished
+      whole-text i =
+          let done = read-form in
+          let rows-are : take (2 * to .begun) s′ ≡ done .rows = done .goes .table in
+          record {
+            answer =
+                record {
+                  form = done .form;
+                  read =
+                      to-end
+                      ∙ ap (λ (ts : List Placed). read-tokens step finished l (to .begun) (length text) (whole (done .form)) ts)
+                      (subst (Token-answer text (to .at) p″ (to .top)) i (y .answer));
+                  held =
+                      subst (λ (q : List ℕ). Shape-rows q 0 (done .form) (take (2 * to .begun) s′)) (sym (y .front))
+                      (subst (λ (q : List ℕ). Shape-rows (take (to .top) p′) 0 (done .form) q) (sym rows-are) (done .held));
+                  counted = omega (arith, done .goes .counted, length-shape-rows (done .held));
+                  grows = done .goes .moves .grows;
+                  within = omega (arith, end-ready .placed .texts, end-ready .placed .within, y .kept);
+                  small = omega (arith, end-ready .placed .small, end-ready .placed .within);
+                  front =
+                      sym (take-take top (to .top) p″ (done .goes .moves .grows))
+                      ∙ ap (λ (q : List ℕ). take top q) (y .front)
+                      ∙ take-take top (to .top) p′ (done .goes .moves .grows)
+                      ∙ done .goes .front;
+                };
+            shapes-kept = x .sized .shapes-kept;
+            pool-kept = y .kept ∙ x .sized .pool-kept;
+          }

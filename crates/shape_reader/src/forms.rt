@@ -1,0 +1,98 @@
+// Shapes, their elements and their members: the shape reader calls the readers of its parts, which call it back; the nesting left falls.
+ghost use Rattle.shape_reader.specs.ShapeParts.{Ready, Reads-form, Reads-element, Reads-members};
+use crate::members::Turn;
+use crate::members::behind_member;
+use crate::members::next_member;
+use crate::opening::Opened;
+use crate::opening::open_form;
+use crate::reading::Cursor;
+use crate::reading::Part;
+use shapes::Shape;
+
+// Reads the element of a shape of these kinds, if it has one, with so much nesting left inside the shape.
+fn read_element(
+    text: &[u8],
+    shapes: &mut [u64],
+    pool: &mut [u64],
+    values: usize,
+    left: usize,
+    kinds: u64,
+    c: Cursor,
+) -> Part
+    requires { ⌜ Ready (now text) (now shapes) (now pool) values c ⌝ }
+    ensures read { λ r. ⌜ Reads-element left values (now (text .entry)) (now (shapes .entry)) (now (pool .entry)) (now (shapes .exit))
+        (now (pool .exit)) kinds c r ⌝ }
+{
+    if shapes::has(kinds, Shape::LIST) {
+        read_form(text, shapes, pool, values, left, c, 0)
+    } else {
+        Part::Done { to: c }
+    }
+}
+
+// Reads the members of a shape of these kinds and its closing bracket, with so much nesting left inside the shape.
+fn read_members(
+    text: &[u8],
+    shapes: &mut [u64],
+    pool: &mut [u64],
+    values: usize,
+    left: usize,
+    kinds: u64,
+    c: Cursor,
+) -> Part
+    requires { ⌜ Ready (now text) (now shapes) (now pool) values c ⌝ }
+    ensures read { λ r. ⌜ Reads-members left values (now (text .entry)) (now (shapes .entry)) (now (pool .entry)) (now (shapes .exit))
+        (now (pool .exit)) kinds c r ⌝ }
+{
+    let mut turn = next_member(text, pool, kinds, true, 0, c);
+    loop {
+        match turn {
+            Turn::More { from, name } => {
+                let r = read_form(text, shapes, pool, values, left, from, name);
+                let Part::Done { to } = r else {
+                    return r;
+                };
+                turn = behind_member(text, pool, kinds, name, to);
+            }
+            Turn::Stop { answer } => {
+                return answer;
+            }
+        }
+    }
+}
+
+// Reads a shape that must begin at c, with so much nesting left, and puts its row under this name.
+pub fn read_form(
+    text: &[u8],
+    shapes: &mut [u64],
+    pool: &mut [u64],
+    values: usize,
+    left: usize,
+    c: Cursor,
+    name: u64,
+) -> Part
+    requires { ⌜ Ready (now text) (now shapes) (now pool) values c ⌝ }
+    ensures read { λ r. ⌜ Reads-form left values (now (text .entry)) (now (shapes .entry)) (now (pool .entry)) (now (shapes .exit))
+        (now (pool .exit)) name c r ⌝ }
+{
+    match open_form(text, pool, values, left, c) {
+        Opened::Form { kinds, at } => {
+            let inner = Cursor {
+                at,
+                begun: c.begun + 1,
+                top: c.top,
+            };
+            let e = read_element(text, shapes, pool, values, left - 1, kinds, inner);
+            let Part::Done { to: behind } = e else {
+                return e;
+            };
+            let m = read_members(text, shapes, pool, values, left - 1, kinds, behind);
+            let Part::Done { to } = m else {
+                return m;
+            };
+            shapes::put_row(shapes, 2 * c.begun, kinds, 2 * (to.begun - c.begun), name);
+            Part::Done { to }
+        }
+        Opened::Refused { number, place } => Part::Refused { number, place },
+    }
+}

@@ -1,0 +1,107 @@
+-- What a writer of shapes asks and answers. Assumes nothing.
+use Prim.Native.Nat.{ℕ, _+_, _^_, _≤_, _<_}
+use mathlib.Core.Path.{_≡_}
+use mathlib.Core.Bool.{Bool}
+use mathlib.Core.List.{List, _++_}
+use lib.Dec.{ltb}
+use lib.ListN.{length}
+use Rattle.definitions.specs.declared.Limits.{Limits}
+use Rattle.definitions.specs.declared.Answer.{Answer}
+use Rattle.definitions.specs.Bytes.{Bytes, bytes}
+use Rattle.definitions.specs.Shape.{Shape, Fields, levels}
+use Rattle.definitions.specs.Plain.{plain-text}
+use Rattle.definitions.specs.ShapeText.{write, write-fields, write-shape}
+use Rattle.definitions.specs.Operations.{passed, stopped, refusal, to-write, shape-out, finish}
+use Rattle.plain.specs.Parts.{Holds-text}
+use Rattle.shapes.specs.Shapes.{has-bit, Stands}
+use Rattle.shapes.specs.Held.{Holds-shape, Holds-fields}
+use Rattle.shape_writer.specs.declared.Measured.{Measured}
+use Rattle.shape_writer.specs.declared.Measured.the-variants.{Over, Fits}
+use Rattle.shape_writer.specs.Prints.{Prints}
+use Rattle.shape_writer.specs.Layout.{word-of, label-text}
+
+-- ---- what a writer asks and answers
+
+-- a shape stands there, and the place behind its form is a number of 64 bits
+pub record Printable (shapes pool : List ℕ) (row at around : ℕ) : Type 0 where
+  pub shape : Shape
+  pub holds : Holds-shape shapes pool row shape
+  pub room : at + length (write shape around) < 2 ^ 64
+  pub deep : around + 1 < 2 ^ 64
+
+-- the form of the shape that stands there is printed from a place on
+abbrev pub Prints-form : (shapes pool : List ℕ) (row around : ℕ) (out out′ : Bytes) (at r : ℕ) → Type 0
+Prints-form shapes pool row around out out′ at r =
+    (s : Shape) → Holds-shape shapes pool row s → Prints out out′ at (write s around) r
+
+-- the length of its form
+abbrev pub Length-of-form : (shapes pool : List ℕ) (row around r : ℕ) → Type 0
+Length-of-form shapes pool row around r = (s : Shape) → Holds-shape shapes pool row s → r ≡ length (write s around)
+
+pub record Printable-fields (shapes pool : List ℕ) (row end at around : ℕ) : Type 0 where
+  pub fields : Fields
+  pub holds : Holds-fields shapes pool row end fields
+  pub room : at + length (write-fields fields around ++ bytes ")") < 2 ^ 64
+
+-- the members that stand there, and the bracket that closes their shape
+abbrev pub Prints-fields : (shapes pool : List ℕ) (row end around : ℕ) (out out′ : Bytes) (at r : ℕ) → Type 0
+Prints-fields shapes pool row end around out out′ at r =
+    (fs : Fields) → Holds-fields shapes pool row end fs → Prints out out′ at (write-fields fs around ++ bytes ")") r
+
+-- ---- words
+
+-- the word of a kind is printed where a set of kinds has it
+pub record Prints-word (kinds kind : ℕ) (word out out′ : Bytes) (at r : ℕ) : Type 0 where
+  pub printed : Prints out out′ at (word-of (has-bit kinds kind) word) r
+
+-- ---- names
+
+pub record Printable-name (pool : List ℕ) (k at : ℕ) : Type 0 where
+  pub text : Bytes
+  pub holds : Holds-text pool k text
+  pub room : at + length (plain-text text) < 2 ^ 64
+
+abbrev pub Prints-name : (pool : List ℕ) (k : ℕ) (out out′ : Bytes) (at r : ℕ) → Type 0
+Prints-name pool k out out′ at r = (t : Bytes) → Holds-text pool k t → Prints out out′ at (plain-text t) r
+
+pub record Printable-label (pool : List ℕ) (k at around : ℕ) : Type 0 where
+  pub text : Bytes
+  pub holds : Holds-text pool k text
+  pub room : at + length (label-text text around) < 2 ^ 64
+
+abbrev pub Prints-label : (pool : List ℕ) (k around : ℕ) (out out′ : Bytes) (at r : ℕ) → Type 0
+Prints-label pool k around out out′ at r = (t : Bytes) → Holds-text pool k t → Prints out out′ at (label-text t around) r
+
+-- ---- the end of an operation
+
+-- some shape stands at a row
+pub record Standing (shapes : List ℕ) (row : ℕ) : Type 0 where
+  pub used : List ℕ
+  pub name : ℕ
+  pub shape : Shape
+  pub stands : Stands shapes used row name shape
+
+-- whether the shape that stands there is nested deeper than so many levels
+abbrev pub Tells-deeper : (shapes : List ℕ) (row left : ℕ) (r : Bool) → Type 0
+Tells-deeper shapes row left r = (p : List ℕ) (m : ℕ) (s : Shape) → Stands shapes p row m s → r ≡ ltb left (levels s)
+
+-- some shape stands at the first row of a table that is not too long for its text to be measured
+pub record Deliverable (shapes pool : List ℕ) : Type 0 where
+  pub shape : Shape
+  pub holds : Holds-shape shapes pool 0 shape
+  pub small : length shapes ≤ 65536
+
+-- what judging refusal 11 comes to, and how long the text is
+abbrev pub Measures : (shapes pool : List ℕ) → Limits → Measured → Type 0
+Measures shapes pool l Over = (s : Shape) → Holds-shape shapes pool 0 s → shape-out l s ≡ stopped (refusal 11 0 0)
+Measures shapes pool l (Fits n) =
+    (s : Shape) → Holds-shape shapes pool 0 s
+    → (shape-out l s ≡ passed (to-write (write-shape s) 0)) × (n ≡ length (write-shape s))
+
+-- the answer of an operation that writes the shape that stands at the first row
+abbrev pub Delivers-answer : (shapes pool : List ℕ) → Limits → Bytes → Answer → Type 0
+Delivers-answer shapes pool l out r = (s : Shape) → Holds-shape shapes pool 0 s → r ≡ finish out (shape-out l s) .answer
+
+-- and its output
+abbrev pub Delivers-output : (shapes pool : List ℕ) → Limits → Bytes → Bytes → Type 0
+Delivers-output shapes pool l out out′ = (s : Shape) → Holds-shape shapes pool 0 s → out′ ≡ finish out (shape-out l s) .output
