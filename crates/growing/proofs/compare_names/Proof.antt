@@ -1,8 +1,8 @@
--- `infer::names::compare_names` meets its contract. Assumes nothing.
-use Rattle.infer.proofs.Scalars.{compared-as}
+-- `growing::compare_names` meets its contract. Assumes nothing.
+use Rattle.growing.proofs.Words.{compared-as}
 use borrow.Author.Needs.{needs}
-use Rattle.infer.proofs.names.compare_names.Statement.{statement}
-use Rattle.infer.proofs.names.compare_names.Tie as tie
+use Rattle.growing.proofs.compare_names.Statement.{statement}
+use Rattle.growing.proofs.compare_names.Tie as tie
 
 returns : tie.Need-returns
 returns c =

@@ -7,19 +7,17 @@ use mathlib.Core.List.{List, _∷_, _++_}
 use lib.Bits.{bitOr}
 use lib.ListN.{length, getD, take, drop}
 use lib.Seq.{getD-drop}
-use Rattle.definitions.specs.Value.{Value}
-use Rattle.definitions.specs.Shape.{Numeric, Shape, shape, Element, no-list, list-of, Record, no-rec, rec-of, Fields, no-fields}
+use Rattle.definitions.specs.Shape.{Shape, shape, Element, no-list, list-of, Record, no-rec, rec-of, Fields, no-fields}
 use Rattle.definitions.specs.Shape.{nothing, has-list, has-rec, element-of, record-of, only-null, only-list, only-rec, forms}
-use Rattle.definitions.specs.Join.{with-null, join, join-element, join-record, shape-of, numeric-of, join-fields, add-null}
-use Rattle.nodes.specs.Nodes.{kind-code}
+use Rattle.definitions.specs.Join.{with-null, join, join-element, join-record, join-fields, add-null}
 use Rattle.shapes.specs.Shapes.{head-of, head-word, bit, numeric-bits, kind-bits, size-at, Shape-rows, shape-rows, Element-rows, Record-rows, Stands}
 use Rattle.shapes.specs.ShapesLaws.{kind-bits-lt, union-bits, head-kinds, head-size, stands-kinds, stands-size}
 use Rattle.join.specs.Replacing.{Put}
 use Rattle.join.specs.ReplacingLaws.{Split, split-used, split-put, split-replaced, split-drop, stands-split}
-use Rattle.infer.specs.Infer.{with-bool, with-numeric, with-text, with-element, with-fields, infer-into}
-use Rattle.infer.specs.InferLaws.{null-is, bool-is, numeric-is, text-is, list-is, rec-is}
-use Rattle.infer.specs.InferForms.{forms-some}
-use Rattle.infer.proofs.Steps.{split-as}
+use Rattle.growing.specs.Growing.{with-element, with-fields}
+use Rattle.growing.specs.GrowingLaws.{null-is, list-is, rec-is}
+use Rattle.growing.specs.GrowingForms.{forms-some}
+use Rattle.growing.specs.StepLaws.{split-as}
 
 -- ---- the rows of a shape, apart
 
@@ -125,7 +123,7 @@ kept-put {used} {s} h i j =
       replaced = split-replaced w (split-as (sym (add-zero used)) refl (sym (add-zero (2 * forms s))) w) refl;
     }
 
--- ---- scalars
+-- ---- kinds alone
 
 -- a shape with more kinds and the same parts
 pub record Same-parts (s u : Shape) : Type 0 where
@@ -136,36 +134,6 @@ pub record Same-parts (s u : Shape) : Type 0 where
 pub null-parts : (s : Shape) → Same-parts s (with-null s)
 unfolding with-null element-of record-of forms
 null-parts (shape n b m t e r) = record { element = refl; fields = refl; counts = refl }
-
-bool-parts : (s : Shape) → Same-parts s (with-bool s)
-unfolding with-bool element-of record-of forms
-bool-parts (shape n b m t e r) = record { element = refl; fields = refl; counts = refl }
-
-numeric-parts : (k : Numeric) (s : Shape) → Same-parts s (with-numeric k s)
-unfolding with-numeric element-of record-of forms
-numeric-parts k (shape n b m t e r) = record { element = refl; fields = refl; counts = refl }
-
-text-parts : (s : Shape) → Same-parts s (with-text s)
-unfolding with-text element-of record-of forms
-text-parts (shape n b m t e r) = record { element = refl; fields = refl; counts = refl }
-
-pub scalar-parts : (v : Value) (s : Shape) → kind-code v < 5 → Same-parts s (infer-into v s)
-unfolding infer-into kind-code
-scalar-parts Value.null s h = null-parts s
-scalar-parts (Value.bool b) s h = bool-parts s
-scalar-parts (Value.number x) s h = numeric-parts (numeric-of x) s
-scalar-parts (Value.text t) s h = text-parts s
-scalar-parts (Value.list vs) s h = absurd (let z : ⊥ = omega arith in z)
-scalar-parts (Value.rec ms) s h = absurd (let z : ⊥ = omega arith in z)
-
-pub scalar-bits : (v : Value) (s : Shape) → kind-code v < 5 → bitOr (kind-bits s) (kind-bits (shape-of v)) ≡ kind-bits (infer-into v s)
-unfolding infer-into kind-code shape-of
-scalar-bits Value.null s h = union-bits s _ ∙ ap kind-bits (null-is s)
-scalar-bits (Value.bool b) s h = union-bits s _ ∙ ap kind-bits (bool-is s)
-scalar-bits (Value.number x) s h = union-bits s _ ∙ ap kind-bits (numeric-is (numeric-of x) s)
-scalar-bits (Value.text t) s h = union-bits s _ ∙ ap kind-bits (text-is s)
-scalar-bits (Value.list vs) s h = absurd (let z : ⊥ = omega arith in z)
-scalar-bits (Value.rec ms) s h = absurd (let z : ⊥ = omega arith in z)
 
 -- the first word in the place of a shape's, where only kinds are added
 pub kinds-put

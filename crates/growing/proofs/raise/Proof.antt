@@ -1,14 +1,14 @@
--- `infer::rows::raise` meets its contract. Assumes nothing.
+-- `growing::raise` meets its contract. Assumes nothing.
 use Prim.Native.Nat.{ℕ, _+_}
 use native.Mathlib.Omega.{arith}
 use mathlib.Core.Path.{ap, _∙_}
 use mathlib.Core.List.{_∷_, _++_}
 use denote.Ref.{now}
 use lib.ListN.{take, drop}
-use Rattle.infer.proofs.Scalars.{head-as}
+use Rattle.growing.proofs.Words.{head-as}
 use borrow.Author.Needs.{needs}
-use Rattle.infer.proofs.rows.raise.Statement.{statement}
-use Rattle.infer.proofs.rows.raise.Tie as tie
+use Rattle.growing.proofs.raise.Statement.{statement}
+use Rattle.growing.proofs.raise.Tie as tie
 
 put-head-requires : tie.Need-put-head-requires
 put-head-requires c κs =

@@ -1,11 +1,11 @@
--- `infer::rows::open_row` meets its contract. Assumes nothing.
+-- `growing::open_row` meets its contract. Assumes nothing.
 use native.Mathlib.Omega.{arith}
 use mathlib.Core.Path.{refl}
 use denote.Ref.{now}
-use Rattle.infer.proofs.Steps.{gap-filled}
+use Rattle.growing.specs.StepLaws.{gap-filled}
 use borrow.Author.Needs.{needs}
-use Rattle.infer.proofs.rows.open_row.Statement.{statement}
-use Rattle.infer.proofs.rows.open_row.Tie as tie
+use Rattle.growing.proofs.open_row.Statement.{statement}
+use Rattle.growing.proofs.open_row.Tie as tie
 
 same-length : tie.Need-same-length
 same-length c = search needs

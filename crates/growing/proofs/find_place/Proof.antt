@@ -1,10 +1,10 @@
--- `infer::names::find_place` meets its contract. The loop's invariant is `Walking`. Assumes nothing.
+-- `growing::find_place` meets its contract. The loop's invariant is `Walking`. Assumes nothing.
 use Prim.Native.Nat.{_-_}
 use native.Mathlib.Omega.{arith}
 use borrow.Author.Needs.{needs}
-use Rattle.infer.proofs.Places.{Walking, walk-begins, left-within, past-last, answer-less, answer-equal, walk-on}
-use Rattle.infer.proofs.names.find_place.Statement.{statement}
-use Rattle.infer.proofs.names.find_place.Tie as tie
+use Rattle.growing.proofs.Places.{Walking, walk-begins, left-within, past-last, answer-less, answer-equal, walk-on}
+use Rattle.growing.proofs.find_place.Statement.{statement}
+use Rattle.growing.proofs.find_place.Tie as tie
 
 abbrev Inv-loop : tie.InvT-loop
 Inv-loop shapes used first last pool name row₀ row = Walking shapes pool used first last name row

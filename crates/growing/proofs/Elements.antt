@@ -12,9 +12,9 @@ use Rattle.shapes.specs.ShapesLaws.{stands-kinds, stands-element, has-list-bit}
 use Rattle.join.specs.Replacing.{Put, Puts}
 use Rattle.join.specs.declared.Joined.{Joined}
 use Rattle.join.specs.declared.Joined.the-variants.{Grown, Full}
-use Rattle.infer.specs.Infer.{element-start}
-use Rattle.infer.specs.Inferring.{New-row}
-use Rattle.infer.proofs.Heads.{kept-put}
+use Rattle.growing.specs.Growing.{element-start}
+use Rattle.growing.specs.Rows.{New-row}
+use Rattle.growing.specs.HeadLaws.{kept-put}
 
 -- the rows of nothing, or of null alone, under any name word
 pub nothing-rows : {p : List ℕ} (m : ℕ) {rows : List ℕ} → rows ≡ head-of 0 2 ∷ m ∷ [] → Shape-rows p m nothing rows

@@ -8,6 +8,7 @@ use lib.ListN.{length, getD, drop, length-append}
 use lib.Seq.{drop-drop, drop-at}
 use Rattle.definitions.specs.Bytes.{Bytes, order}
 use Rattle.definitions.specs.Shape.{Shape, Fields, no-fields, field, forms}
+use Rattle.laws.specs.Fields.{ascending-rest}
 use Rattle.pool.specs.Pool.{text-in, ordering-of}
 use Rattle.pool.specs.declared.Comparison.{Comparison}
 use Rattle.pool.specs.declared.Comparison.the-variants.{Less, Equal, Greater}
@@ -16,9 +17,9 @@ use Rattle.nodes.specs.StandingLaws.{text-referred}
 use Rattle.plain.specs.Table.{Used}
 use Rattle.shapes.specs.Shapes.{size-at, Field-rows, no-field-rows, field-rows, Stands, Fields-stand}
 use Rattle.shapes.specs.ShapesLaws.{length-shape-rows, stands-name, stands-size, fields-first, fields-rest, Some-fields, some-fields, fields-left}
-use Rattle.infer.specs.Infer.{place}
-use Rattle.infer.specs.InferForms.{place-lt, place-gt, forms-some}
-use Rattle.infer.specs.Inferring.{Meets-fields, Around, Finds}
+use Rattle.growing.specs.Growing.{place}
+use Rattle.growing.specs.GrowingForms.{place-lt, place-gt, forms-some}
+use Rattle.growing.specs.Rows.{Meets-fields, Around, Finds}
 
 -- ---- where the walk stands
 
@@ -55,6 +56,7 @@ walk-begins shapes pool used first last name =
                 record {
                   around = λ hs. hs;
                   same = refl;
+                  ascends = λ h. h;
                   encodes = λ hs rows e. e;
                   counts = λ hs. omega arith;
                   places = λ st f. refl;
@@ -141,6 +143,7 @@ module _ {shapes : List ℕ} {first last : ℕ} {n : Bytes} {p : List ℕ} {fs :
                   record {
                     around = λ hs. a .around .around (field (a .name) (a .shape) hs);
                     same = a .around .same;
+                    ascends = λ h. ascending-rest (a .name) (a .shape) (a .rest) (a .around .ascends h);
                     encodes = λ hs rows x.
                         subst
                         (λ (l : List ℕ). Field-rows p (a .around .around (field (a .name) (a .shape) hs)) l)

@@ -1,13 +1,13 @@
--- `infer::rows::ready_element` meets its contract. Assumes nothing.
+-- `growing::ready_element` meets its contract. Assumes nothing.
 use Prim.Native.Nat.{ℕ}
 use native.Mathlib.Omega.{arith}
 use mathlib.Core.Path.{sym, ap, _∙_}
 use borrow.Author.Needs.{needs}
 use Rattle.shapes.specs.Shapes.{has-bit}
-use Rattle.infer.specs.InferForms.{forms-some}
-use Rattle.infer.proofs.Elements.{ready-listed, ready-opened}
-use Rattle.infer.proofs.rows.ready_element.Statement.{statement}
-use Rattle.infer.proofs.rows.ready_element.Tie as tie
+use Rattle.growing.specs.GrowingForms.{forms-some}
+use Rattle.growing.proofs.Elements.{ready-listed, ready-opened}
+use Rattle.growing.proofs.ready_element.Statement.{statement}
+use Rattle.growing.proofs.ready_element.Tie as tie
 
 returns : tie.Need-returns
 returns c p m s h i =
