@@ -119,6 +119,10 @@ pub mod ChainReaders
 pub mod Demand3
 pub mod WrittenShapes
 pub mod CauseRefuses
+pub mod RuleTells
+pub mod CheckRules
+pub mod CheckRulesKinds
+pub mod CheckRulesHold
 pub mod Counterexamples
 pub mod Statements
 pub mod Theorems
