@@ -11,12 +11,17 @@ use Rattle.definitions.specs.Shape.{Kind, Shape, Record, no-rec, rec-of, Fields
 use Rattle.definitions.specs.Reader.{Place, Conversion, Result, Pairs, no-pairs, pair}
 use Rattle.definitions.specs.Checking.{field-kinds, convert-kinds, convert-shape, list-kinds, if-kinds, wants, listed, field-shape}
 use Rattle.definitions.specs.Checking.{element-shape, cut-to, taken-out, check-place, check, check-pairs, check-reader}
-use Rattle.laws.specs.RuleTells.{Tells, gave, stopped, told, told-refused, tells-bind, tells-wants, bind-ok, bind-refused, wants-met, wants-unmet}
+use Rattle.laws.specs.RuleTells.{Tells, gave, stopped, told, told-refused, tells-map, tells-bind, tells-wants, bind-ok, bind-refused}
+use Rattle.laws.specs.RuleTells.{wants-met, wants-unmet}
 use Rattle.laws.specs.CheckRules.{Listed, is-listed, Unlisted, no-members, no-such-name, Converts, Place-checks, checks-it, checks-field}
-use Rattle.laws.specs.CheckRules.{Checks, checks-convert, checks-keep, checks-count, checks-each, checks-when, checks-if, checks-literal, checks-pack}
-use Rattle.laws.specs.CheckRules.{Pairs-check, checks-no-pairs, checks-pair, Place-refuses, field-part, field-kind, field-name, Refuses, convert-part}
-use Rattle.laws.specs.CheckRules.{convert-kind, keep-part, count-part, count-kind, each-part, each-second-part, each-kind, when-part, when-second-part}
-use Rattle.laws.specs.CheckRules.{when-third-part, if-part, if-second-part, if-third-part, if-kind, pack-part, Pairs-refuse, this-pair, later-pair}
+use Rattle.laws.specs.CheckRules.{Checks, checks-convert, checks-keep, checks-count, checks-each, checks-when, checks-if}
+use Rattle.laws.specs.CheckRules.{checks-literal, checks-pack}
+use Rattle.laws.specs.CheckRules.{Pairs-check, checks-no-pairs, checks-pair, Place-refuses, field-part, field-kind, field-name}
+use Rattle.laws.specs.CheckRules.{Refuses, convert-part}
+use Rattle.laws.specs.CheckRules.{convert-kind, keep-part, count-part, count-kind, each-part, each-second-part, each-kind, when-part}
+use Rattle.laws.specs.CheckRules.{when-second-part}
+use Rattle.laws.specs.CheckRules.{when-third-part, if-part, if-second-part, if-third-part, if-kind, pack-part, Pairs-refuse}
+use Rattle.laws.specs.CheckRules.{this-pair, later-pair}
 use Rattle.laws.specs.CheckRulesKinds.{converts, converts-as, element-is, element-as, means, cuts, cuts-as, takes, takes-as}
 
 -- ---- what checking comes to is what the rules say
@@ -44,12 +49,6 @@ place-tells (Place.field at n p) env =
     tells-bind (place-tells p env) (λ m q x. field-part x) λ s d.
     tells-wants at field-kinds s (λ w. field-kind d w) λ w. listed-tells at n d w (record-of s) refl
 
-keep-tells
-    : {env : List Shape} (at : ℕ) {p : Place} {o : Outcome ℕ Shape} → Place-tells env p o
-    → Tells (Checks env (Result.keep at p)) (Refuses env (Result.keep at p)) o
-keep-tells at (gave d) = gave (checks-keep d)
-keep-tells at (stopped x) = stopped (keep-part x)
-
 mutual
   unfolding check list-kinds if-kinds
 
@@ -57,7 +56,7 @@ mutual
   tells (Result.convert at c p) env =
       tells-bind (place-tells p env) (λ m q x. convert-part x) λ s d.
       tells-wants at (convert-kinds c) s (λ w. convert-kind d (converts c) w) λ w. gave (checks-convert d (converts c) w)
-  tells (Result.keep at p) env = keep-tells at (place-tells p env)
+  tells (Result.keep at p) env = tells-map (λ m q x. keep-part x) (λ s d. checks-keep d) (place-tells p env)
   tells (Result.count at p) env =
       tells-bind (place-tells p env) (λ m q x. count-part x) λ s d.
       tells-wants at list-kinds s (λ w. count-kind d w) λ w. gave (checks-count d w)

@@ -123,6 +123,9 @@ pub mod RuleTells
 pub mod CheckRules
 pub mod CheckRulesKinds
 pub mod CheckRulesHold
+pub mod RunRules
+pub mod RunRulesKinds
+pub mod RunRulesHold
 pub mod Counterexamples
 pub mod Statements
 pub mod Theorems

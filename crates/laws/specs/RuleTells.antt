@@ -25,6 +25,12 @@ module _ {A : Type 0} {G : A → Type 0} {R : ℕ → ℕ → Type 0} where
   pub told-refused : {o : Outcome ℕ A} {n p : ℕ} → Tells G R o → o ≡ refused n p → R n p
   told-refused t e = tells-refused (subst (Tells G R) e t)
 
+pub tells-map
+    : {A : Type 0} {G H : A → Type 0} {R S : ℕ → ℕ → Type 0} {o : Outcome ℕ A} → ((n p : ℕ) → R n p → S n p)
+    → ((a : A) → G a → H a) → Tells G R o → Tells H S o
+tells-map stop on (gave {a} g) = gave (on a g)
+tells-map stop on (stopped {n} {p} r) = stopped (stop n p r)
+
 -- "a part that is refused stops the form that holds it"
 pub tells-bind
     : {A B : Type 0} {G : A → Type 0} {R S : ℕ → ℕ → Type 0} {H : B → Type 0} {o : Outcome ℕ A} {f : A → Outcome ℕ B}
