@@ -1,7 +1,8 @@
-// Checking a reader against a shape.
+// Checking a reader against a shape: which form is refused with 9 or 10, or which kinds its result has.
 pub mod bindings;
 pub mod kinds;
 pub mod places;
+pub mod simple; // forms without results inside
 
 // What checking a result comes to.
 pub enum Checked {
