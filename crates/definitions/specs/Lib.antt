@@ -22,3 +22,4 @@ pub mod WorkSlices
 pub mod Evaluate
 pub mod Samples
 pub mod MoreSamples
+pub mod RuleSamples

@@ -11,7 +11,7 @@ use Rattle.definitions.specs.Value.{Value}
 use Rattle.definitions.specs.Reader.{Place, Conversion, to-int, to-dec, to-bool, to-text, Result, Pairs, no-pairs, pair}
 use Rattle.laws.specs.FormGrammar.{place-forms, result-forms, pairs-forms}
 use Rattle.nodes.specs.NodesLaws.{refers-grow}
-use Rattle.forms.specs.Forms.{place-code, conversion-code, literal-code, form-code, form-operand, form-at, Head, Form-head, Place-head}
+use Rattle.forms.specs.Forms.{place-code, place-at, conversion-code, literal-code, form-code, form-operand, form-at, Head, Form-head, Place-head}
 use Rattle.forms.specs.Forms.{Literal-payload, null-payload, yes-payload, no-payload, number-payload, text-payload, slot, Place-rows, it-row}
 use Rattle.forms.specs.Forms.{field-rows, Form-rows, convert-rows, keep-rows, count-rows, each-rows, when-rows, choose-rows, literal-row}
 use Rattle.forms.specs.Forms.{pack-rows, Pair-rows, no-pair-rows, pair-rows, Place-stands, Form-stands, size-at}
@@ -233,6 +233,10 @@ module _ {t p : List ℕ} {row d : ℕ} {q : Place} (s : Place-stands t p row d 
   pub place-stands-code : getD t row 0 % 32 ≡ place-code q
   place-stands-code =
       ap (λ (h : ℕ). h % 32) place-first ∙ head-code (place-begins (s .encoded) .headed) (place-code-lt q)
+
+  pub place-stands-at : getD t row 0 / 2048 % 65536 ≡ place-at q
+  place-stands-at =
+      ap (λ (h : ℕ). h / 2048 % 65536) place-first ∙ head-at (place-begins (s .encoded) .headed) (place-code-lt q)
 
   pub place-stands-size : size-at t row ≡ 3 * place-forms q
   unfolding size-at

@@ -7,19 +7,21 @@ use mathlib.Core.List.{List, _∷_, _++_}
 use lib.Bits.{bitOr}
 use lib.ListN.{length, getD, take, drop}
 use Rattle.definitions.specs.Value.{Value, Items, Members}
-use Rattle.definitions.specs.Shape.{Shape, forms}
-use Rattle.definitions.specs.Join.{shape-of}
+use Rattle.definitions.specs.Shape.{Numeric, Shape, shape, element-of, record-of, forms}
+use Rattle.definitions.specs.Join.{shape-of, numeric-of}
 use Rattle.nodes.specs.Nodes.{kind-code}
 use Rattle.nodes.specs.Standing.{Value-stands}
 use Rattle.plain.specs.Table.{Bounded-numbers}
 use Rattle.shapes.specs.Shapes.{head-of, kind-bits, size-at, Shape-rows}
-use Rattle.shapes.specs.ShapesLaws.{stands-row}
+use Rattle.shapes.specs.ShapesLaws.{union-bits, stands-row}
 use Rattle.join.specs.Replacing.{Put, Becomes}
 use Rattle.join.specs.declared.Joined.{Joined}
-use Rattle.infer.specs.Infer.{infer-into}
-use Rattle.infer.specs.InferLaws.{infer-is}
-use Rattle.infer.specs.Inferring.{Room, Meets, Infers, Joins}
-use Rattle.infer.proofs.Heads.{scalar-parts, scalar-bits, raise-fits, kinds-put}
+use Rattle.growing.specs.Rows.{Room}
+use Rattle.growing.specs.GrowingLaws.{null-is}
+use Rattle.infer.specs.Infer.{with-bool, with-numeric, with-text, infer-into}
+use Rattle.infer.specs.InferLaws.{bool-is, numeric-is, text-is, infer-is}
+use Rattle.infer.specs.Inferring.{Meets, Infers, Joins}
+use Rattle.growing.specs.HeadLaws.{Same-parts, null-parts, raise-fits, kinds-put}
 
 pub scalar-code : (v : Value) {k : ℕ} → kind-code v ≡ k → (k ≡ 5 → ⊥) → (k ≡ 6 → ⊥) → kind-code v < 5
 unfolding kind-code
@@ -50,6 +52,38 @@ a-record (Value.number x) e = absurd (let z : ⊥ = omega arith in z)
 a-record (Value.text t) e = absurd (let z : ⊥ = omega arith in z)
 a-record (Value.list vs) e = absurd (let z : ⊥ = omega arith in z)
 a-record (Value.rec ms) e = (ms, refl)
+
+-- ---- kinds alone
+
+bool-parts : (s : Shape) → Same-parts s (with-bool s)
+unfolding with-bool element-of record-of forms
+bool-parts (shape n b m t e r) = record { element = refl; fields = refl; counts = refl }
+
+numeric-parts : (k : Numeric) (s : Shape) → Same-parts s (with-numeric k s)
+unfolding with-numeric element-of record-of forms
+numeric-parts k (shape n b m t e r) = record { element = refl; fields = refl; counts = refl }
+
+text-parts : (s : Shape) → Same-parts s (with-text s)
+unfolding with-text element-of record-of forms
+text-parts (shape n b m t e r) = record { element = refl; fields = refl; counts = refl }
+
+scalar-parts : (v : Value) (s : Shape) → kind-code v < 5 → Same-parts s (infer-into v s)
+unfolding infer-into kind-code
+scalar-parts Value.null s h = null-parts s
+scalar-parts (Value.bool b) s h = bool-parts s
+scalar-parts (Value.number x) s h = numeric-parts (numeric-of x) s
+scalar-parts (Value.text t) s h = text-parts s
+scalar-parts (Value.list vs) s h = absurd (let z : ⊥ = omega arith in z)
+scalar-parts (Value.rec ms) s h = absurd (let z : ⊥ = omega arith in z)
+
+scalar-bits : (v : Value) (s : Shape) → kind-code v < 5 → bitOr (kind-bits s) (kind-bits (shape-of v)) ≡ kind-bits (infer-into v s)
+unfolding infer-into kind-code shape-of
+scalar-bits Value.null s h = union-bits s _ ∙ ap kind-bits (null-is s)
+scalar-bits (Value.bool b) s h = union-bits s _ ∙ ap kind-bits (bool-is s)
+scalar-bits (Value.number x) s h = union-bits s _ ∙ ap kind-bits (numeric-is (numeric-of x) s)
+scalar-bits (Value.text t) s h = union-bits s _ ∙ ap kind-bits (text-is s)
+scalar-bits (Value.list vs) s h = absurd (let z : ⊥ = omega arith in z)
+scalar-bits (Value.rec ms) s h = absurd (let z : ⊥ = omega arith in z)
 
 module _
     {shapes nodes pool : List ℕ} {used row at : ℕ} {p : List ℕ} {m : ℕ} {s : Shape} {k : ℕ} {v : Value} {kinds : ℕ}

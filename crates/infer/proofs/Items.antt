@@ -16,11 +16,12 @@ use Rattle.join.specs.Replacing.{Put, Over, Becomes}
 use Rattle.join.specs.ReplacingLaws.{Split, split-used, stands-split, split-stands, replaced-split}
 use Rattle.join.specs.declared.Joined.{Joined}
 use Rattle.join.specs.declared.Joined.the-variants.{Grown, Full}
+use Rattle.growing.specs.Rows.{Room}
+use Rattle.growing.specs.StepLaws.{replaced-then}
+use Rattle.growing.specs.HeadLaws.{kept-put}
 use Rattle.infer.specs.Infer.{infer-into, infer-items}
 use Rattle.infer.specs.InferForms.{forms-infer-items}
-use Rattle.infer.specs.Inferring.{Room, Meets, Inferable, Infers, Meets-items, Items-inferable, Infers-items}
-use Rattle.infer.proofs.Steps.{replaced-then}
-use Rattle.infer.proofs.Heads.{kept-put}
+use Rattle.infer.specs.Inferring.{Meets, Inferable, Infers, Meets-items, Items-inferable, Infers-items}
 
 pub record Items-going
     (shapes₀ nodes : List ℕ) (used row end : ℕ) (p : List ℕ) (m : ℕ) (s : Shape) (vs : Items) (shapes : List ℕ) (i grown : ℕ) : Type 0 where

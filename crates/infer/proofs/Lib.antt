@@ -1,8 +1,4 @@
-pub mod Steps
 pub mod Scalars
-pub mod Heads
-pub mod Places
-pub mod Elements
 pub mod Nulling
 pub mod Into
 pub mod Items

@@ -1,24 +1,20 @@
 -- The kinds of values that hold no others, from the words of their row. Assumes nothing.
-use Prim.Native.Nat.{ℕ, Ordering, _+_, _/_, _%_, _<_}
+use Prim.Native.Nat.{ℕ, _%_, _<_}
 use native.Mathlib.Omega.{arith}
-use mathlib.Core.Path.{_≡_, refl, sym, ap, ap₂, _∙_}
+use mathlib.Core.Path.{_≡_, refl, sym, ap, _∙_}
 use mathlib.Core.Bool.{Bool, true, false}
 use mathlib.Core.List.{List}
-use lib.Bits.{bitOr}
 use lib.ListN.{getD}
-use Rattle.definitions.specs.Bytes.{order}
 use Rattle.definitions.specs.Number.{Number, is-int, most-scale}
 use Rattle.definitions.specs.Value.{Value}
-use Rattle.definitions.specs.Shape.{Numeric, int-only, int-and-dec, nothing, has-list, has-rec, only-null, only-bool, only-numeric, only-text}
+use Rattle.definitions.specs.Shape.{Numeric, int-only, int-and-dec, has-list, has-rec, only-null, only-bool, only-numeric, only-text}
 use Rattle.definitions.specs.Join.{numeric-of, shape-of}
-use Rattle.pool.specs.Pool.{text-in}
 use Rattle.nodes.specs.Nodes.{kind-code, head-word}
 use Rattle.nodes.specs.Standing.{Value-stands}
 use Rattle.nodes.specs.StandingLaws.{value-head}
 use Rattle.plain.specs.Table.{Bounded-numbers}
 use Rattle.plain.specs.HeadLaws.{head-kind}
-use Rattle.shapes.specs.Shapes.{head-of, bit, numeric-bits, kind-bits}
-use Rattle.infer.specs.Infer.{member-start}
+use Rattle.shapes.specs.Shapes.{bit, numeric-bits, kind-bits}
 
 -- the kind that a row's first word tells
 pub kind-told
@@ -79,31 +75,3 @@ bits-number (Value.number x) h b e f g =
 bits-number (Value.text t) h b e f g = absurd (let z : ⊥ = omega arith in z)
 bits-number (Value.list vs) h b e f g = absurd (let z : ⊥ = omega arith in z)
 bits-number (Value.rec ms) h b e f g = absurd (let z : ⊥ = omega arith in z)
-
--- ---- the start of a member
-
-pub start-null : {had : Bool} → had ≡ true → 1 ≡ kind-bits (member-start had)
-unfolding member-start kind-bits bit numeric-bits has-list has-rec only-null
-start-null {had = true} e = refl
-start-null {had = false} e = let z : _≡_ {A = ℕ} 0 1 = ap bit e in absurd (let y : ⊥ = omega arith in y)
-
-pub start-nothing : {had : Bool} → had ≡ false → 0 ≡ kind-bits (member-start had)
-unfolding member-start kind-bits bit numeric-bits has-list has-rec nothing
-start-nothing {had = true} e = let z : _≡_ {A = ℕ} 1 0 = ap bit e in absurd (let y : ⊥ = omega arith in y)
-start-nothing {had = false} e = refl
-
--- ---- words as parts of others
-
-pub compared-as
-    : (pool : List ℕ) (a b : ℕ) {o : Ordering} {w n v m : ℕ} → w ≡ a % 65536 → n ≡ a / 65536 → v ≡ b % 65536 → m ≡ b / 65536
-    → o ≡ order (text-in pool w n) (text-in pool v m)
-    → o ≡ order (text-in pool (a % 65536) (a / 65536)) (text-in pool (b % 65536) (b / 65536))
-compared-as pool a b {o} {w} {n} {v} {m} e f g h c =
-    c
-    ∙ ap₂ (λ (x y : ℕ). order (text-in pool x y) (text-in pool v m)) e f
-    ∙ ap₂ (λ (x y : ℕ). order (text-in pool (a % 65536) (a / 65536)) (text-in pool x y)) g h
-
-pub head-as
-    : {all k k′ n n′ : ℕ} (kinds words : ℕ) → all ≡ bitOr k kinds → k ≡ k′ → n ≡ n′
-    → head-of all (n + words) ≡ head-of (bitOr k′ kinds) (n′ + words)
-head-as kinds words a e f = ap₂ (λ (x y : ℕ). head-of x (y + words)) (a ∙ ap (λ (x : ℕ). bitOr x kinds) e) f

@@ -18,11 +18,13 @@ use Rattle.join.specs.Replacing.{Put, Over}
 use Rattle.join.specs.ReplacingLaws.{Split, split-fields, replaced-split}
 use Rattle.join.specs.declared.Joined.{Joined}
 use Rattle.join.specs.declared.Joined.the-variants.{Grown, Full}
-use Rattle.infer.specs.Infer.{member-start, place, infer-into, infer-members}
+use Rattle.growing.specs.Growing.{member-start, place}
+use Rattle.growing.specs.Rows.{Room, Fields-become}
+use Rattle.growing.specs.StepLaws.{replaced-then, fields-split}
+use Rattle.growing.specs.NullLaws.{nulls-none}
+use Rattle.infer.specs.Infer.{infer-into, infer-members}
 use Rattle.infer.specs.InferForms.{forms-infer-members}
-use Rattle.infer.specs.Inferring.{Room, Fields-become, Meets-member, Member-inferable, Infers-member, Meets-members, Members-inferable, Infers-members}
-use Rattle.infer.proofs.Steps.{replaced-then, fields-split}
-use Rattle.infer.proofs.Nulling.{nulls-none}
+use Rattle.infer.specs.Inferring.{Meets-member, Member-inferable, Infers-member, Meets-members, Members-inferable, Infers-members}
 
 pub record Members-going
     (shapes₀ nodes : List ℕ) (used first end : ℕ) (had : Bool) (p : List ℕ) (fs : Fields) (ms : Members) (shapes : List ℕ) (i grown : ℕ) : Type 0 where

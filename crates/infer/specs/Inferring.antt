@@ -1,32 +1,22 @@
 -- What joining a value into a table's shape asks and answers, for the whole and for its parts. Assumes nothing.
-use Prim.Native.Nat.{ℕ, Ordering·eq, _+_, _*_, _^_, _≤_, _<_}
+use Prim.Native.Nat.{ℕ, _+_, _*_, _≤_}
 use mathlib.Core.Path.{_≡_}
-use mathlib.Core.Bool.{Bool, true, false}
-use mathlib.Core.List.{List, [], _∷_, _++_}
-use lib.ListN.{length, drop}
-use Rattle.definitions.specs.Bytes.{Bytes, order}
+use mathlib.Core.Bool.{Bool, true}
+use mathlib.Core.List.{List}
+use Rattle.definitions.specs.Bytes.{Bytes}
 use Rattle.definitions.specs.Value.{Value, Items, Members, has-name}
-use Rattle.definitions.specs.Shape.{Shape, Fields, field, ascending, forms, forms-fields}
+use Rattle.definitions.specs.Shape.{Shape, Fields, ascending, forms}
 use Rattle.definitions.specs.Join.{join, shape-of}
 use Rattle.laws.specs.Distinct.{distinct}
 use Rattle.nodes.specs.Nodes.{Refers}
 use Rattle.nodes.specs.Standing.{Value-stands, Items-stand, Members-stand}
 use Rattle.plain.specs.Table.{Bounded-numbers, Bounded-items, Bounded-members, Used}
-use Rattle.shapes.specs.Shapes.{head-of, Shape-rows, Field-rows, Stands, Fields-stand}
-use Rattle.join.specs.Replacing.{Put, Puts, Becomes}
+use Rattle.shapes.specs.Shapes.{Stands}
+use Rattle.join.specs.Replacing.{Becomes}
 use Rattle.join.specs.declared.Joined.{Joined}
-use Rattle.infer.specs.Infer.{member-start, place, null-if-lacked, null-others, infer-into, infer-items, infer-members}
-
--- ---- a table
-
--- so many words of a table are used, and sizes up to its length fit into a row's first word
-pub record Room (shapes : List ℕ) (used : ℕ) : Type 0 where
-  pub enough : used ≤ length shapes
-  pub small : length shapes < 2 ^ 56
-
--- the row of a shape of these kinds that has no parts
-abbrev pub New-row : (kinds name : ℕ) → List ℕ → Type 0
-New-row kinds name rows = rows ≡ head-of kinds 2 ∷ name ∷ []
+use Rattle.growing.specs.Growing.{member-start, place}
+use Rattle.growing.specs.Rows.{Meets-fields, Fields-become}
+use Rattle.infer.specs.Infer.{infer-into, infer-items, infer-members}
 
 -- ---- a value into a shape
 
@@ -81,23 +71,6 @@ Infers-items shapes nodes pool shapes′ used row at end r =
 
 -- ---- members into members
 
--- members fs stand in the table from a first row up to a last
-pub record Meets-fields (shapes pool : List ℕ) (used first last : ℕ) (p : List ℕ) (fs : Fields) : Type 0 where
-  pub pooled : Used pool p
-  pub stand : Fields-stand shapes p first last fs
-  pub begins : first ≤ last
-  pub within : last ≤ used
-
-pub record Fields-held (shapes pool : List ℕ) (used first last : ℕ) : Type 0 where
-  pub part : List ℕ
-  pub fields : Fields
-  pub meets : Meets-fields shapes pool used first last part fields
-
--- the members fs become gs
-abbrev pub Fields-become : (shapes shapes′ p : List ℕ) (used first : ℕ) (fs gs : Fields) → Joined → Type 0
-Fields-become shapes shapes′ p used first fs gs =
-    Puts shapes shapes′ used first (2 * forms-fields fs) (2 * forms-fields gs) (Field-rows p gs)
-
 pub record Meets-member
     (shapes nodes pool : List ℕ) (used first last at : ℕ) (p : List ℕ) (fs : Fields) (n : Bytes) (k : ℕ) (v : Value) : Type 0 where
   pub fields : Meets-fields shapes pool used first last p fs
@@ -135,56 +108,10 @@ Infers-members shapes nodes pool shapes′ used first last at end had r =
     (p : List ℕ) (fs : Fields) (ms : Members) → Meets-members shapes nodes pool used first last at end p fs ms
     → Fields-become shapes shapes′ p used first fs (infer-members ms (member-start had) fs) r
 
--- ---- null for the members that a record lacks
+-- ---- the names of a record's members
 
--- a member n of a shape, and members of a record
-pub record Meets-listed
-    (shapes nodes pool : List ℕ) (used row at end : ℕ) (p : List ℕ) (n : Bytes) (k : ℕ) (s : Shape) (ms : Members) : Type 0 where
-  pub pooled : Used pool p
-  pub refers : Refers p n k
-  pub stands : Stands shapes p row k s
-  pub within : row + 2 * forms s ≤ used
-  pub held : Members-stand nodes p at end ms
-
-pub record Listed-held (shapes nodes pool : List ℕ) (used row at end : ℕ) : Type 0 where
-  pub part : List ℕ
-  pub label : Bytes
-  pub word : ℕ
-  pub old : Shape
+-- the members of a record stand in the node table, and `there` tells which names they have
+pub record Members-there (nodes : List ℕ) (at end : ℕ) (p : List ℕ) (there : Bytes → Bool) : Type 0 where
   pub members : Members
-  pub meets : Meets-listed shapes nodes pool used row at end part label word old members
-
-abbrev pub Nulls-listed : (shapes nodes pool shapes′ : List ℕ) (used row at end : ℕ) → Type 0
-Nulls-listed shapes nodes pool shapes′ used row at end =
-    (p : List ℕ) (n : Bytes) (k : ℕ) (s : Shape) (ms : Members) → Meets-listed shapes nodes pool used row at end p n k s ms
-    → Put shapes shapes′ used 0 row (2 * forms s) (Shape-rows p k (null-if-lacked (has-name n ms) s))
-
-abbrev pub Nulls : (shapes nodes pool shapes′ : List ℕ) (used first last at end : ℕ) (had : Bool) → Type 0
-Nulls shapes nodes pool shapes′ used first last at end had =
-    (p : List ℕ) (fs : Fields) (ms : Members) → Meets-members shapes nodes pool used first last at end p fs ms
-    → Put shapes shapes′ used 0 first (2 * forms-fields fs) (Field-rows p (null-others had ms fs))
-
--- ---- the place of a name among members
-
--- the members fs up to some of them: what stands around those, before them the rows front
-pub record Around (n : Bytes) (p : List ℕ) (fs back : Fields) (front : List ℕ) : Type 0 where
-  pub around : Fields → Fields
-  pub same : fs ≡ around back
-  pub encodes : (hs : Fields) (rows : List ℕ) → Field-rows p hs rows → Field-rows p (around hs) (front ++ rows)
-  pub counts : (hs : Fields) → 2 * forms-fields (around hs) ≡ length front + 2 * forms-fields hs
-  pub places : (st : Shape) (f : Shape → Shape) → place n st f fs ≡ around (place n st f back)
-
--- whether the first of these members has the name; a name that is not listed has its place before them
-abbrev pub Listed : (n : Bytes) (back : Fields) → Bool → Type 0
-Listed n back true = (m : Bytes) × (b : Shape) × (gs : Fields) × (back ≡ field m b gs) × (order n m ≡ Ordering·eq)
-Listed n back false = (st : Shape) (f : Shape → Shape) → place n st f back ≡ field n (f st) back
-
--- the place of the name n among the members fs: the row of the first of them that does not stand before it
-pub record Finds (shapes : List ℕ) (first last : ℕ) (n : Bytes) (p : List ℕ) (fs : Fields) (row : ℕ) (listed : Bool) : Type 0 where
-  pub front : List ℕ
-  pub back : Fields
-  pub around : Around n p fs back front
-  pub before : drop first shapes ≡ front ++ drop row shapes
-  pub reached : row ≡ first + length front
-  pub stand : Fields-stand shapes p row last back
-  pub case : Listed n back listed
+  pub held : Members-stand nodes p at end members
+  pub tells : (n : Bytes) → has-name n members ≡ there n

@@ -2,4 +2,3 @@ pub mod Infer
 pub mod InferLaws
 pub mod InferForms
 pub mod Inferring
-pub mod Readying

@@ -9,7 +9,6 @@ ghost use Rattle.nodes.specs.Nodes.{kind-code};
 ghost use Rattle.nodes.specs.Standing.{Value-stands};
 ghost use Rattle.plain.specs.Table.{Bounded-numbers};
 ghost use Rattle.shapes.specs.Shapes.{kind-bits};
-ghost use Rattle.infer.specs.Infer.{member-start};
 use shapes::Shape;
 
 // The kinds of a number: a decimal has int and dec.
@@ -39,11 +38,4 @@ pub fn scalar_kinds(nodes: &[u64], at: usize) -> Shape
         return Shape::TEXT;
     }
     Shape::BOOL
-}
-
-// The kinds of a new member before its value is joined into it.
-pub fn start_kinds(had: bool) -> Shape
-    ensures told { λ r. ⌜ r .kinds ≡ kind-bits (member-start had) ⌝ }
-{
-    if had { Shape::NULL } else { Shape::NOTHING }
 }

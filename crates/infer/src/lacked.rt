@@ -1,7 +1,7 @@
 // Null for the members of a shape that a record lacks.
 ghost use mathlib.Core.Bool.{true};
-ghost use Rattle.infer.specs.Inferring.{Room, Members-inferable, Nulls, Listed-held, Nulls-listed};
-use crate::rows::raise;
+ghost use Rattle.growing.specs.Rows.{Room, Listed-held, Nulls-listed, Nullable, Nulls};
+ghost use Rattle.infer.specs.Inferring.{Members-there};
 use shapes::Shape;
 
 // Adds null to the member at a row, if the record lacks its name.
@@ -14,14 +14,15 @@ fn null_member(
     end: usize,
     pool: &[u64],
 )
-    requires { ⌜ Listed-held (now shapes) (now nodes) (now pool) used row at end ⌝ }
+    requires { ⌜ Listed-held (Members-there (now nodes) at end) (now shapes) (now pool) used row ⌝ }
     requires room { ⌜ Room (now shapes) used ⌝ }
-    ensures nulled { λ _. ⌜ Nulls-listed (now (shapes .entry)) (now (nodes .entry)) (now (pool .entry)) (now (shapes .exit)) used row at end ⌝ }
+    ensures nulled { λ _. ⌜ Nulls-listed (Members-there (now (nodes .entry)) at end) (now (shapes .entry)) (now (pool .entry))
+        (now (shapes .exit)) used row ⌝ }
 {
     if nodes::has_member(nodes, at, end, pool, shapes::name(shapes, row)) {
         return;
     }
-    raise(shapes, row, Shape::NULL, 0);
+    growing::raise(shapes, row, Shape::NULL, 0);
 }
 
 // Adds null to the members that the record lacks.
@@ -35,9 +36,10 @@ fn null_lacked(
     end: usize,
     pool: &[u64],
 )
-    requires { ⌜ Members-inferable (now shapes) (now nodes) (now pool) used first last at end ⌝ }
+    requires { ⌜ Nullable (Members-there (now nodes) at end) (now shapes) (now pool) used first last ⌝ }
     requires room { ⌜ Room (now shapes) used ⌝ }
-    ensures nulled { λ _. ⌜ Nulls (now (shapes .entry)) (now (nodes .entry)) (now (pool .entry)) (now (shapes .exit)) used first last at end true ⌝ }
+    ensures nulled { λ _. ⌜ Nulls (Members-there (now (nodes .entry)) at end) (now (shapes .entry)) (now (pool .entry)) (now (shapes .exit))
+        used first last true ⌝ }
 {
     let mut row = first;
     while row < last {
@@ -58,9 +60,10 @@ pub fn null_others(
     pool: &[u64],
     had: bool,
 )
-    requires { ⌜ Members-inferable (now shapes) (now nodes) (now pool) used first last at end ⌝ }
+    requires { ⌜ Nullable (Members-there (now nodes) at end) (now shapes) (now pool) used first last ⌝ }
     requires room { ⌜ Room (now shapes) used ⌝ }
-    ensures nulled { λ _. ⌜ Nulls (now (shapes .entry)) (now (nodes .entry)) (now (pool .entry)) (now (shapes .exit)) used first last at end had ⌝ }
+    ensures nulled { λ _. ⌜ Nulls (Members-there (now (nodes .entry)) at end) (now (shapes .entry)) (now (pool .entry)) (now (shapes .exit))
+        used first last had ⌝ }
 {
     if had {
         null_lacked(shapes, used, first, last, nodes, at, end, pool);

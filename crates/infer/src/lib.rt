@@ -3,15 +3,14 @@
 ghost use Prim.Native.Nat.{_%_};
 ghost use mathlib.Core.Path.{_≡_};
 ghost use lib.ListN.{getD};
-ghost use Rattle.infer.specs.Inferring.{Room, Inferable, Infers, Joins, Items-inferable, Infers-items};
+ghost use Rattle.growing.specs.Rows.{Room};
+ghost use Rattle.infer.specs.Inferring.{Inferable, Infers, Joins, Items-inferable, Infers-items};
 ghost use Rattle.infer.specs.Inferring.{Member-inferable, Infers-member, Members-inferable, Infers-members};
 use join::Joined;
 use shapes::Shape;
 
 mod kinds;
 mod lacked;
-mod names;
-mod rows;
 
 // Joins the elements whose rows stand in the node table from one row up to another into the element at a row.
 fn infer_items(
@@ -56,13 +55,13 @@ fn infer_list(
     ensures inferred { λ r. ⌜ Infers (now (shapes .entry)) (now (nodes .entry)) (now (pool .entry)) (now (shapes .exit)) used row at r ⌝ }
 {
     let end = at + nodes::row_size(nodes, at);
-    match rows::ready_element(shapes, used, row) {
+    match growing::ready_element(shapes, used, row) {
         Joined::Full => Joined::Full,
         Joined::Grown { words: opened } => {
             match infer_items(shapes, used + opened, row + 2, nodes, at + 3, end, pool) {
                 Joined::Full => Joined::Full,
                 Joined::Grown { words } => {
-                    rows::raise(shapes, row, Shape::LIST, opened + words);
+                    growing::raise(shapes, row, Shape::LIST, opened + words);
                     Joined::Grown {
                         words: opened + words,
                     }
@@ -89,11 +88,11 @@ fn infer_member(
     ensures inferred { λ r. ⌜ Infers-member (now (shapes .entry)) (now (nodes .entry)) (now (pool .entry)) (now (shapes .exit)) used first last at had r ⌝ }
 {
     let name = nodes::row_name(nodes, at);
-    let place = names::find_place(shapes, used, first, last, pool, name);
+    let place = growing::find_place(shapes, used, first, last, pool, name);
     if place.listed {
         return infer_into(shapes, used, place.row, nodes, at, pool);
     }
-    match rows::open_row(shapes, used, place.row, kinds::start_kinds(had), name) {
+    match growing::open_row(shapes, used, place.row, growing::start_kinds(had), name) {
         Joined::Full => Joined::Full,
         Joined::Grown { words: opened } => {
             match infer_into(shapes, used + opened, place.row, nodes, at, pool) {
@@ -178,7 +177,7 @@ fn infer_record(
                 pool,
                 had,
             );
-            rows::raise(shapes, row, Shape::REC, words);
+            growing::raise(shapes, row, Shape::REC, words);
             Joined::Grown { words }
         }
     }
@@ -204,7 +203,7 @@ fn infer_into(
     if kind == nodes::RECORD {
         return infer_record(shapes, used, row, nodes, at, pool);
     }
-    rows::raise(shapes, row, kinds::scalar_kinds(nodes, at), 0);
+    growing::raise(shapes, row, kinds::scalar_kinds(nodes, at), 0);
     Joined::Grown { words: 0 }
 }
 

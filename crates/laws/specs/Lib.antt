@@ -119,6 +119,13 @@ pub mod ChainReaders
 pub mod Demand3
 pub mod WrittenShapes
 pub mod CauseRefuses
+pub mod RuleTells
+pub mod CheckRules
+pub mod CheckRulesKinds
+pub mod CheckRulesHold
+pub mod RunRules
+pub mod RunRulesKinds
+pub mod RunRulesHold
 pub mod Counterexamples
 pub mod Statements
 pub mod Theorems

@@ -1,12 +1,13 @@
 -- The promises of `definitions`, each tied to its demand (document 00). Everything that a reader has to believe of the
 -- theorems stands here and in what these statements name: `definitions`, the grammars (Rfc3629, Rfc8259, TokenGrammar, FormGrammar), the
--- causes (Causes, FormCauses), trees and what fits (Tree), values of the paper (Distinct, Good, Readers) and the chain of
--- calls (Chain). They hold for every set of limits where no range is named. Theorems proves them. Assumes nothing.
+-- causes (Causes, FormCauses), the rules of checking and running (CheckRules, RunRules), trees and what fits (Tree), values of the
+-- paper (Distinct, Good, Readers) and the chain of calls (Chain). They hold for every set of limits where no range is named.
+-- Theorems proves them. Assumes nothing.
 use Prim.Native.Nat.{ℕ, _≤_}
 use mathlib.Core.Path.{_≡_}
-use mathlib.Core.Logic.{_↔_}
+use mathlib.Core.Logic.{_⊎_, _↔_}
 use mathlib.Core.Bool.{true}
-use mathlib.Core.List.{List, []}
+use mathlib.Core.List.{List, [], _∷_}
 use lib.ListN.{length, take}
 use Rattle.definitions.specs.declared.Limits.{Limits}
 use Rattle.definitions.specs.Limits.{standard}
@@ -34,6 +35,8 @@ use Rattle.laws.specs.FormCauses.{Shape-cause, Reader-cause}
 use Rattle.laws.specs.FormGrammar.{Shape-form, Result-form, result-forms, result-levels}
 use Rattle.laws.specs.Good.{Good-value, Good-shape}
 use Rattle.laws.specs.Readers.{scoped, proper, Safe}
+use Rattle.laws.specs.CheckRules.{Checks, Refuses}
+use Rattle.laws.specs.RunRules.{Runs, Stuck, Out-of-steps}
 use Rattle.laws.specs.Chain.{Call, Proper-source, In-range, Demand-3}
 
 -- ---- documents: demand 2, "Documents are read as RFC 8259 and RFC 3629 define them"
@@ -180,6 +183,29 @@ pub record Sizes-grow : Type 0 where
   pub in-bytes
       : (s t : Shape) → ascending s ≡ true → ascending t ≡ true → below s t ≡ true
       → length (write-shape s) ≤ length (write-shape t)
+
+-- ---- checking: demand 2, "checking .. give just the answers that document 01 defines", and demand 1 of 9 and 10
+
+-- checking gives a shape exactly where the paper's rules do, and is refused exactly where they refuse, with their number at
+-- their place
+pub record Checking-by-the-rules : Type 0 where
+  pub gives : (r : Result) (s t : Shape) → (check-reader r s ≡ ok t) ↔ Checks (s ∷ []) r t
+  pub refuses : (r : Result) (s : Shape) (n p : ℕ) → (check-reader r s ≡ refused n p) ↔ Refuses (s ∷ []) r n p
+  pub numbers : (r : Result) (s : Shape) (n p : ℕ) → check-reader r s ≡ refused n p → (n ≡ 9) ⊎ (n ≡ 10)
+
+-- ---- running: demand 2, "running give just the answers that document 01 defines, steps counted", and demand 1 of 12 and 13
+
+-- running gives a value in so many steps exactly where the paper's rules do, is stuck exactly where they are, and runs out of
+-- steps exactly where they do; it knows no other refusal
+pub record Running-by-the-rules : Type 0 where
+  pub gives
+      : (r : Result) (l : Limits) (v : Value) (x : Ran Value)
+      → (run-reader r l v ≡ ok x) ↔ Runs l (v ∷ []) 0 r (x .result) (x .steps)
+  pub stuck : (r : Result) (l : Limits) (v : Value) (p : ℕ) → (run-reader r l v ≡ refused 12 p) ↔ Stuck l (v ∷ []) 0 r p
+  pub out-of-steps
+      : (r : Result) (l : Limits) (v : Value) (p : ℕ) → (run-reader r l v ≡ refused 13 p) ↔ Out-of-steps l (v ∷ []) 0 r p
+  pub numbers : (r : Result) (l : Limits) (v : Value) (n p : ℕ) → run-reader r l v ≡ refused n p → (n ≡ 12) ⊎ (n ≡ 13)
+  pub within-the-limit : (r : Result) (l : Limits) (v : Value) (x : Ran Value) → run-reader r l v ≡ ok x → x .steps ≤ l .steps
 
 -- ---- soundness: demand 3, "the reader never gets stuck on it: it gives a value that its own result shape admits, or
 -- meets the step .. limit"

@@ -21,11 +21,13 @@ use Rattle.laws.specs.ReaderCauses.{reader-refused}
 use Rattle.laws.specs.ReaderFacts.{reader-proper}
 use Rattle.laws.specs.RoundLaws.{plain-reads-back, plain-idempotent, plain-not-longer, json-read-good, reader-read-good}
 use Rattle.laws.specs.RoundLaws.{run-good, shape-reads-back, shape-idempotent, shape-read-good, shape-of-good}
-use Rattle.laws.specs.RunLaws.{run-distinct}
+use Rattle.laws.specs.RunLaws.{run-distinct, run-refusals, run-steps-bounded}
 use Rattle.laws.specs.OrderLaws.{below-refl, below-trans, below-antisym}
 use Rattle.laws.specs.JoinLaws.{join-ascending, join-upper-left, join-upper-right, join-least}
 use Rattle.laws.specs.AdmitsLaws.{admits-below, below-admits}
 use Rattle.laws.specs.SizeLaws.{forms-mono, levels-mono, write-mono}
+use Rattle.laws.specs.CheckRulesHold.{checks-exactly, refuses-exactly, check-refusals}
+use Rattle.laws.specs.RunRulesHold.{runs-exactly, stuck-exactly, out-exactly}
 use Rattle.laws.specs.Soundness.{sound}
 use Rattle.laws.specs.Causes.{Cause, cause-3, cause-4, cause-5, cause-6}
 use Rattle.laws.specs.Chain.{Proper-source, In-range}
@@ -35,7 +37,8 @@ use Rattle.laws.specs.Statements.{Tokens-by-the-grammar, Shapes-refused-
 use Rattle.laws.specs.Statements.{Readers-by-the-grammar, Readers-refused-for-cause, Readers-refused-for-the-least, Documents-read-back}
 use Rattle.laws.specs.Statements.{Results-read-back, Values-read-back, Shapes-read-back, Read-shapes-read-back, Written-shapes-read-back}
 use Rattle.laws.specs.Statements.{Refusals-keep-the-output, Partial-order, Least-upper-bound, Admits-is-below, Sizes-grow}
-use Rattle.laws.specs.Statements.{Checked-readers-are-safe, Demand-3-from-every-source, Demand-3-for-documents, Standard-in-range}
+use Rattle.laws.specs.Statements.{Checking-by-the-rules, Running-by-the-rules, Checked-readers-are-safe, Demand-3-from-every-source}
+use Rattle.laws.specs.Statements.{Demand-3-for-documents, Standard-in-range}
 
 -- ---- reading
 
@@ -121,6 +124,23 @@ admits-is-below s v d a = (admits-below s v d a, below-admits s v d a)
 
 pub sizes-grow : Sizes-grow
 sizes-grow = record { in-forms = forms-mono; in-nesting = levels-mono; in-bytes = write-mono }
+
+-- ---- checking
+
+pub checking-by-the-rules : Checking-by-the-rules
+checking-by-the-rules = record { gives = checks-exactly; refuses = refuses-exactly; numbers = check-refusals }
+
+-- ---- running
+
+pub running-by-the-rules : Running-by-the-rules
+running-by-the-rules =
+    record {
+      gives = runs-exactly;
+      stuck = stuck-exactly;
+      out-of-steps = out-exactly;
+      numbers = run-refusals;
+      within-the-limit = run-steps-bounded;
+    }
 
 -- ---- soundness and demand 3
 

@@ -8,7 +8,8 @@ use borrow.Author.Needs.{needs}
 use lib.ListN.{length}
 use Rattle.nodes.specs.StandingLaws.{size-some, value-size, value-within}
 use Rattle.shapes.specs.ShapesLaws.{kind-bits-lt, stands-row, stands-size, stands-within}
-use Rattle.infer.specs.Infer.{member-start}
+use Rattle.growing.specs.Growing.{member-start}
+use Rattle.growing.specs.RecordLaws.{record-first}
 use Rattle.infer.proofs.Scalars.{kind-told}
 use Rattle.infer.proofs.Into.{scalar-code, scalar-fits, scalar-put}
 use Rattle.infer.proofs.Items.{Items-loop, items-begin, items-inferable, items-size, items-room, items-full, items-loop-on, items-grown, items-end}
@@ -17,7 +18,7 @@ use Rattle.infer.proofs.Members.{listed-inferable, listed-answer, new-i
 use Rattle.infer.proofs.Members.{new-inferable, new-room-then, new-full-then, new-answer, new-grown}
 use Rattle.infer.proofs.Walk.{Members-loop, members-begin, members-inferable, members-size}
 use Rattle.infer.proofs.Walk.{members-room, members-full, members-loop-on, members-grown, members-end}
-use Rattle.infer.proofs.Records.{record-inferable, record-full, record-nulls, record-room, record-grown, record-raise-fits, record-answer, record-first}
+use Rattle.infer.proofs.Records.{record-inferable, record-full, record-nulls, record-room, record-grown, record-raise-fits, record-answer}
 use borrow.Fn.Kinds.{In}
 use borrow.Fn.PlainCycle.{Measures, is, falls, and}
 use Rattle.infer.proofs.infer_into.Reads as infer-into
@@ -39,12 +40,12 @@ use Rattle.infer.proofs.infer_record.Reads as infer-record
 use Rattle.infer.proofs.infer_record.Kinds as infer-record-kinds
 use Rattle.infer.proofs.+infer_into+infer_items+infer_list+infer_member+infer_members+infer_record.Lts-infer_record as infer-record-lts
 use Rattle.infer.proofs.kinds.scalar_kinds.Reads as scalar-kinds-reads
-use Rattle.infer.proofs.kinds.start_kinds.Reads as start-kinds-reads
+use Rattle.growing.proofs.start_kinds.Reads as start-kinds-reads
 use Rattle.infer.proofs.lacked.null_others.Reads as null-others-reads
-use Rattle.infer.proofs.names.find_place.Reads as find-place-reads
-use Rattle.infer.proofs.rows.open_row.Reads as open-row-reads
-use Rattle.infer.proofs.rows.raise.Reads as raise-reads
-use Rattle.infer.proofs.rows.ready_element.Reads as ready-element-reads
+use Rattle.growing.proofs.find_place.Reads as find-place-reads
+use Rattle.growing.proofs.open_row.Reads as open-row-reads
+use Rattle.growing.proofs.raise.Reads as raise-reads
+use Rattle.growing.proofs.ready_element.Reads as ready-element-reads
 use Rattle.nodes.proofs.row_kind.Reads as row-kind-reads
 use Rattle.nodes.proofs.row_name.Reads as row-name-reads
 use Rattle.nodes.proofs.row_size.Reads as row-size-reads
@@ -783,7 +784,7 @@ infer-record-members-requires : (t : ℕ) → infer-record-lts.Need-members-requ
 infer-record-members-requires t c κs =
     let at-start = c .before .before .before .before .before .before .before .before in
     let w = at-start .pre .1 .0 in
-    record-first (w .meets) (at-start .pre .1 .1 .0)
+    record-first (w .meets .stands) (w .meets .within) (at-start .pre .1 .1 .0)
 
 infer-record-add-last : (t : ℕ) → infer-record-lts.Need-add-last (infer-record-claims t) (infer-record-at t) infer-record.Post
 infer-record-add-last t c =

@@ -2,18 +2,19 @@
 use Prim.Native.Nat.{_-_}
 use native.Mathlib.Omega.{arith}
 use borrow.Author.Needs.{needs}
-use Rattle.infer.proofs.Nulling.{Nulls-loop, loop-begins, loop-listed, loop-step, loop-on, loop-ends}
+use Rattle.infer.specs.Inferring.{Members-there}
+use Rattle.growing.specs.NullLaws.{Nulls-loop, loop-begins, loop-listed, loop-step, loop-on, loop-ends}
 use Rattle.infer.proofs.lacked.null_lacked.Statement.{statement}
 use Rattle.infer.proofs.lacked.null_lacked.Tie as tie
 
 abbrev Inv-loop : tie.InvT-loop
-Inv-loop shapes₀ used first last nodes at end pool row₀ shapes row = Nulls-loop shapes₀ nodes pool used first last at end shapes row
+Inv-loop shapes₀ used first last nodes at end pool row₀ shapes row = Nulls-loop (Members-there nodes at end) shapes₀ pool used first last shapes row
 
 abbrev μ-loop : tie.MeasureT-loop
 μ-loop shapes₀ used first last nodes at end pool row₀ shapes row = last - row
 
 loop-holds : tie.Need-loop-holds Inv-loop μ-loop
-loop-holds c = loop-begins _ _ _ _ _ _ _ _ (c .before .before .before .pre .1 .enough)
+loop-holds c = loop-begins _ _ _ _ _ _ (c .before .before .before .pre .1 .enough)
 
 null-member-requires : tie.Need-null-member-requires Inv-loop μ-loop
 null-member-requires c κs =
@@ -32,7 +33,7 @@ add-row c =
     let at-start = after-null-member .before .before .before .before .before .before .before in
     let w = loop-step (after-null-member .before .before .before .loop .inv) (after-null-member .before .before .loop-test .taken)
     (after-null-member .null-member .ensures) (c .size .ensures) (at-start .pre .0) in
-    omega (arith, w .0, at-start .pre .0 .meets .fields .within, at-start .pre .1 .enough, at-start .pre .1 .small)
+    omega (arith, w .0, at-start .pre .0 .meets .within, at-start .pre .1 .enough, at-start .pre .1 .small)
 
 loop-less : tie.Need-loop-less Inv-loop μ-loop
 loop-less c =

@@ -1,0 +1,4 @@
+pub mod KindTests
+pub mod Elements
+pub mod Members
+pub mod PlaceWalk

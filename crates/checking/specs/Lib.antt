@@ -1,0 +1,5 @@
+pub mod KindSets
+pub mod Bindings
+pub mod BindingsLaws
+pub mod WantsLaws
+pub mod CheckContracts

@@ -1,0 +1,98 @@
+-- Rows of check and run at rules that no sample of the sheet reaches, proved by evaluation. Assumes nothing.
+use Prim.Native.Nat.{ℕ}
+use Prim.Native.String.{String}
+use mathlib.Core.Path.{_≡_, refl}
+use mathlib.Core.Bool.{false}
+use mathlib.Core.List.{[], _++_}
+use lib.ListN.{length, drop, replicate}
+use Rattle.definitions.specs.declared.Limits.{Limits}
+use Rattle.definitions.specs.Limits.{standard}
+use Rattle.definitions.specs.Bytes.{Bytes, bytes}
+use Rattle.definitions.specs.Json.{read-json}
+use Rattle.definitions.specs.Operations.{Done, refusal, written, check-operation, run-operation}
+use Rattle.definitions.specs.Evaluate.{evaluate}
+
+abbrev room : Bytes
+room = replicate 300 0xA5
+
+abbrev check : String → String → Done
+check reader shape = check-operation [] [] standard (bytes reader) (bytes shape) room
+
+abbrev run : Limits → String → String → Done
+run l reader document = run-operation read-json [] [] l (bytes reader) (bytes document) room
+
+abbrev writes : String → (steps : ℕ) → Done
+writes t n = record { answer = written (length (bytes t)) n false; output = bytes t ++ drop (length (bytes t)) room }
+
+abbrev refuses : (number place : ℕ) → Done
+refuses n p = record { answer = refusal n 1 p; output = room }
+
+-- ---- checking
+
+-- "at one form 9 before 10": null is no rec, and lists no a
+nine-before-ten : check "(keep (field \"a\" (it 0)))" "(shape null)" ≡ refuses 9 6
+unfolding evaluate
+nine-before-ten = refl
+
+name-not-listed : check "(keep (field \"b\" (it 0)))" "(shape rec (member \"a\" (shape int)))" ≡ refuses 10 6
+unfolding evaluate
+name-not-listed = refl
+
+-- a part that is refused stops the form before its own kinds are judged: the list of `each` is none here
+part-before-form : check "(each (it 0) (int (it 1)))" "(shape text)" ≡ refuses 9 13
+unfolding evaluate
+part-before-form = refl
+
+-- both branches are checked, and their join is the result
+both-branches : check "(when null (it 0) (num 0) (text (it 0)))" "(shape null text)" ≡ writes "(shape int text)\n" 0
+unfolding evaluate
+both-branches = refl
+
+-- ---- running
+
+-- "int: no decimal; num: int or decimal"
+int-is-an-int : run standard "(when int (it 0) (yes) (no))" "4" ≡ writes "true" 3
+unfolding evaluate
+int-is-an-int = refl
+
+decimal-is-no-int : run standard "(when int (it 0) (yes) (no))" "4.5" ≡ writes "false" 3
+unfolding evaluate
+decimal-is-no-int = refl
+
+decimal-is-a-num : run standard "(when num (it 0) (yes) (no))" "4.5" ≡ writes "true" 3
+unfolding evaluate
+decimal-is-a-num = refl
+
+-- a fraction makes a decimal, a zero one too
+zero-fraction-is-no-int : run standard "(when int (it 0) (yes) (no))" "4.0" ≡ writes "false" 3
+unfolding evaluate
+zero-fraction-is-no-int = refl
+
+-- `each` is stuck behind P and before any R
+each-before-its-result : run standard "(each (it 0) (int (it 1)))" "\"t\"" ≡ refuses 12 0
+unfolding evaluate
+each-before-its-result = refl
+
+-- ---- 13, at the fewest steps that request Q-6 allows
+
+abbrev few-steps : Limits
+few-steps = record { bytes = 16384; values = 512; nesting = 32; steps = 256 }
+
+-- on a list of two: 254 steps in six loops, one in the other, of 2 in the innermost; one for `pack`, one for each `none`
+steps-256
+    : run few-steps
+    "(pack \"a\" (each (it 0) (each (it 1) (each (it 2) (each (it 3) (each (it 4) (each (it 5) (keep (it 0)))))))) \"b\" (none))"
+    "[0,0]"
+    .answer
+    ≡ written 268 256 false
+unfolding evaluate
+steps-256 = refl
+
+-- the step past the limit is refused at the form that would count it, the last one
+steps-257
+    : run few-steps
+    "(pack \"a\" (each (it 0) (each (it 1) (each (it 2) (each (it 3) (each (it 4) (each (it 5) (keep (it 0)))))))) \"b\" (none) \"c\" (none))"
+    "[0,0]"
+    ≡ refuses 13 123
+unfolding evaluate
+steps-257 = refl

@@ -1,0 +1,10 @@
+pub mod Growing
+pub mod GrowingForms
+pub mod GrowingLaws
+pub mod Rows
+pub mod StepLaws
+pub mod HeadLaws
+pub mod NullLaws
+pub mod MemberLaws
+pub mod ElementLaws
+pub mod RecordLaws
