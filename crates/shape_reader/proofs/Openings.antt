@@ -16,6 +16,7 @@ use Rattle.definitions.specs.Tokens as Tokens
 use Rattle.definitions.specs.ShapeText.{Around, shape-open, shape-word, want, depth, want-step}
 use Rattle.laws.specs.Names.{same-eq, eq-same}
 use Rattle.laws.specs.Bools.{clash}
+use Rattle.shapes.specs.declared.Shape as Kind-set
 use Rattle.tokens.specs.declared.Token.{Token}
 use Rattle.tokens.specs.declared.Token.the-variants.{Opening, Word}
 use Rattle.tokens.specs.TokenRead.{word-in, Found, Token-answer, Next, place-of}
@@ -184,7 +185,7 @@ module _ {text : Bytes} {values left : ℕ} (c : Cursor) {p₀ p : List ℕ} {b 
 
     module _ {p′ : List ℕ} {k : Kinds} (z : Reads-kinds text p p′ at (c .top) k) where
       pub form-open
-          : {kinds to : ℕ} → k ≡ Kinds-are.Read kinds to → Opens-form text p₀ p′ values left c (Opened-is.Form kinds to)
+          : {kinds : Kind-set.Shape} {to : ℕ} → k ≡ Kinds-are.Read kinds to → Opens-form text p₀ p′ values left c (Opened-is.Form kinds to)
       form-open f =
           let y = subst (Begun-answer text values left c) e (x .answer) in
           let ks = subst (Kinds-answer text at) f (z .answer) in

@@ -10,6 +10,7 @@ use Rattle.definitions.specs.declared.Limits.{Limits}
 use Rattle.definitions.specs.Bytes.{Bytes}
 use Rattle.definitions.specs.Shape.{Kind, among, Element, no-list, no-rec, rec-of, Fields, no-fields, field, has-list, has-rec}
 use Rattle.definitions.specs.ShapeText.{Around, shape-open, want, fields-onto, record-from, build}
+use Rattle.shapes.specs.declared.Shape as Kind-set
 use Rattle.shapes.specs.Shapes.{kind-bits, has-bit, head-word, head-of, Shape-rows, shape-rows, Element-rows, Record-rows, no-record-rows, record-rows}
 use Rattle.shapes.specs.ShapesLaws.{element-rows-grow, length-shape-rows}
 use Rattle.shape_reader.specs.declared.reading.Cursor.{Cursor}
@@ -80,8 +81,8 @@ module _
         sized = record { shapes-kept = refl; pool-kept = y .kept .size };
       }
 
-  module _ {kinds at : ℕ} (e : x ≡ Opened-is.Form kinds at) where
-    pub opens : Opens text values left c kinds at
+  module _ {set : Kind-set.Shape} {at : ℕ} (e : x ≡ Opened-is.Form set at) where
+    pub opens : Opens text values left c (set .kinds) at
     opens = subst (Opened-answer text values left c) e (y .answer)
 
     pub inner-ready : Ready text s p values (record { at = at; begun = c .begun + 1; top = c .top })
@@ -103,26 +104,27 @@ module _
         (sym (add-one (c .begun)))
 
     module _ {s′ p′ : List ℕ} {r : Part}
-        (z : Reads-element (left - 1) values text s p s′ p′ kinds (record { at = at; begun = c .begun + 1; top = c .top }) r) where
+        (z : Reads-element (left - 1) values text s p s′ p′ (set .kinds) (record { at = at; begun = c .begun + 1; top = c .top }) r) where
       pub element-refused : {number place : ℕ} → r ≡ Refused number place → Reads-form left values text s p₀ s′ p′ name c r
       element-refused {number} {place} i =
           subst (Reads-form left values text s p₀ s′ p′ name c) (sym i)
           (record {
             answer = λ l o a.
                 to-inner l o a
-                ∙ subst (Element-answer (left - 1) values text s p s′ p′ kinds (record { at = at; begun = c .begun + 1; top = c .top })) i (z .answer) l o
+                ∙ subst (Element-answer (left - 1) values text s p s′ p′ (set .kinds)
+                (record { at = at; begun = c .begun + 1; top = c .top })) i (z .answer) l o
                 (nested-left (opens .nested) a) (opens .listed) (opens .held);
             sized = record { shapes-kept = z .sized .shapes-kept; pool-kept = z .sized .pool-kept ∙ y .kept .size };
           })
 
       module _ {mid : Cursor} (i : r ≡ Done mid) where
-        element : Element-done (left - 1) values text s p s′ p′ kinds (record { at = at; begun = c .begun + 1; top = c .top }) mid
-        element = subst (Element-answer (left - 1) values text s p s′ p′ kinds (record { at = at; begun = c .begun + 1; top = c .top })) i (z .answer)
+        element : Element-done (left - 1) values text s p s′ p′ (set .kinds) (record { at = at; begun = c .begun + 1; top = c .top }) mid
+        element = subst (Element-answer (left - 1) values text s p s′ p′ (set .kinds) (record { at = at; begun = c .begun + 1; top = c .top })) i (z .answer)
 
         pub members-ready : Ready text s′ p′ values mid
         members-ready = ready-then inner-ready (element .goes) (z .sized)
 
-        module _ {s″ p″ : List ℕ} {r′ : Part} (w : Reads-members (left - 1) values text s′ p′ s″ p″ kinds mid r′) where
+        module _ {s″ p″ : List ℕ} {r′ : Part} (w : Reads-members (left - 1) values text s′ p′ s″ p″ (set .kinds) mid r′) where
           pub members-refused : {number place : ℕ} → r′ ≡ Refused number place → Reads-form left values text s p₀ s″ p″ name c r′
           members-refused {number} {place} j =
               subst (Reads-form left values text s p₀ s″ p″ name c) (sym j)
@@ -130,7 +132,7 @@ module _
                 answer = λ l o a.
                     to-inner l o a
                     ∙ element .run l o (nested-left (opens .nested) a) (opens .listed) (opens .held)
-                    ∙ subst (Members-answer (left - 1) values text s′ p′ s″ p″ kinds mid) j (w .answer) l o
+                    ∙ subst (Members-answer (left - 1) values text s′ p′ s″ p″ (set .kinds) mid) j (w .answer) l o
                     (nested-left (opens .nested) a) (opens .listed) (opens .held) (element .element);
                 sized =
                     record {
@@ -140,14 +142,14 @@ module _
               })
 
           module _ {to : Cursor} (j : r′ ≡ Done to) where
-            members : Members-done (left - 1) values text s′ p′ s″ p″ kinds mid to
-            members = subst (Members-answer (left - 1) values text s′ p′ s″ p″ kinds mid) j (w .answer)
+            members : Members-done (left - 1) values text s′ p′ s″ p″ (set .kinds) mid to
+            members = subst (Members-answer (left - 1) values text s′ p′ s″ p″ (set .kinds) mid) j (w .answer)
 
             both : Goes values text s p s″ p″ (record { at = at; begun = c .begun + 1; top = c .top }) to (element .rows ++ members .read .rows)
             both = goes-then (element .goes) (members .read .goes)
 
             -- bounds for the row
-            pub row-bounds : (c .begun < to .begun) × (to .begun ≤ 32768) × (kinds < 128) × (2 * c .begun + 2 ≤ length s″)
+            pub row-bounds : (c .begun < to .begun) × (to .begun ≤ 32768) × (set .kinds < 128) × (2 * c .begun + 2 ≤ length s″)
             row-bounds = (
               omega (arith, both .counted),
               omega (arith, both .limit, r₀ .few),
@@ -167,7 +169,7 @@ module _
                 (built-record (element .element) (opens .held) (members .read .held) (members .read .bare))
 
             head-is
-                : head-word (build (parts (opens .listed) (element .element) (members .fields))) ≡ head-of kinds (2 * (to .begun - c .begun))
+                : head-word (build (parts (opens .listed) (element .element) (members .fields))) ≡ head-of (set .kinds) (2 * (to .begun - c .begun))
             unfolding head-word
             head-is =
                 let bits = built-kinds (element .element) (members .fields) (opens .held) (element .is-list) in
@@ -175,7 +177,7 @@ module _
                 omega (arith, bits, counted, both .counted)
 
             pub form-read
-                : {s‴ : List ℕ} → s‴ ≡ with-row s″ (c .begun) (head-of kinds (2 * (to .begun - c .begun))) name
+                : {s‴ : List ℕ} → s‴ ≡ with-row s″ (c .begun) (head-of (set .kinds) (2 * (to .begun - c .begun))) name
                 → Reads-form left values text s p₀ s‴ p″ name c (Done to)
             form-read {s‴} g =
                 let room : 2 * c .begun + 2 ≤ length s″ = row-bounds .3 in
@@ -196,7 +198,7 @@ module _
                             record {
                               table =
                                   ap (λ (q : List ℕ). take (2 * to .begun) q) g
-                                  ∙ row-put s″ (c .begun) (head-of kinds (2 * (to .begun - c .begun))) name room s (element .rows ++ members .read .rows)
+                                  ∙ row-put s″ (c .begun) (head-of (set .kinds) (2 * (to .begun - c .begun))) name room s (element .rows ++ members .read .rows)
                                   (to .begun) (row-bounds .0) (omega (arith, room, w .sized .shapes-kept, z .sized .shapes-kept))
                                   (both .table
                                   ∙ ap (λ (n : ℕ). take (2 * n) s ++ (element .rows ++ members .read .rows)) (add-one (c .begun)))
@@ -217,7 +219,7 @@ module _
                       record {
                         shapes-kept =
                             ap length g
-                            ∙ length-with-row s″ (c .begun) (head-of kinds (2 * (to .begun - c .begun))) name room
+                            ∙ length-with-row s″ (c .begun) (head-of (set .kinds) (2 * (to .begun - c .begun))) name room
                             ∙ w .sized .shapes-kept
                             ∙ z .sized .shapes-kept;
                         pool-kept = w .sized .pool-kept ∙ z .sized .pool-kept ∙ y .kept .size;

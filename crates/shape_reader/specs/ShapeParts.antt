@@ -157,7 +157,7 @@ pub record Kinds-read (text : Bytes) (at kinds to : ℕ) : Type 0 where
 
 -- the kinds, or refusal 7
 abbrev pub Kinds-answer : Bytes → ℕ → Kinds → Type 0
-Kinds-answer text at (Kinds-are.Read kinds to) = Kinds-read text at kinds to
+Kinds-answer text at (Kinds-are.Read kinds to) = Kinds-read text at (kinds .kinds) to
 Kinds-answer text at (Kinds-are.Refused place) =
     (l : Limits) (n : ℕ) (o : Around) → reading l n text (want (kind-word no-parts o)) at ≡ refused 7 place
 
@@ -183,7 +183,7 @@ pub record Opens (text : Bytes) (values left : ℕ) (c : Cursor) (kinds at : ℕ
 
 -- a shape up to its kinds, or a refusal
 abbrev pub Opened-answer : Bytes → (values left : ℕ) → Cursor → Opened → Type 0
-Opened-answer text values left c (Opened-is.Form kinds at) = Opens text values left c kinds at
+Opened-answer text values left c (Opened-is.Form kinds at) = Opens text values left c (kinds .kinds) at
 Opened-answer text values left c (Opened-is.Refused number place) = Form-refused text values left c number place
 
 -- the answer r where a shape must begin, and the pool p′ that was p

@@ -16,12 +16,12 @@ fn read_element(
     pool: &mut [u64],
     values: usize,
     left: usize,
-    kinds: u64,
+    kinds: Shape,
     c: Cursor,
 ) -> Part
     requires { ⌜ Ready (now text) (now shapes) (now pool) values c ⌝ }
     ensures read { λ r. ⌜ Reads-element left values (now (text .entry)) (now (shapes .entry)) (now (pool .entry)) (now (shapes .exit))
-        (now (pool .exit)) kinds c r ⌝ }
+        (now (pool .exit)) (kinds .kinds) c r ⌝ }
 {
     if shapes::has(kinds, Shape::LIST) {
         read_form(text, shapes, pool, values, left, c, 0)
@@ -37,12 +37,12 @@ fn read_members(
     pool: &mut [u64],
     values: usize,
     left: usize,
-    kinds: u64,
+    kinds: Shape,
     c: Cursor,
 ) -> Part
     requires { ⌜ Ready (now text) (now shapes) (now pool) values c ⌝ }
     ensures read { λ r. ⌜ Reads-members left values (now (text .entry)) (now (shapes .entry)) (now (pool .entry)) (now (shapes .exit))
-        (now (pool .exit)) kinds c r ⌝ }
+        (now (pool .exit)) (kinds .kinds) c r ⌝ }
 {
     let mut turn = next_member(text, pool, kinds, true, 0, c);
     loop {

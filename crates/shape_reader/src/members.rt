@@ -114,13 +114,13 @@ fn member_shape(
 pub fn next_member(
     text: &[u8],
     pool: &mut [u64],
-    kinds: u64,
+    kinds: Shape,
     first: bool,
     latest: u64,
     c: Cursor,
 ) -> Turn
     requires { ⌜ Placed (now text) (now pool) (c .at) (c .top) ⌝ }
-    ensures read { λ r. ⌜ Turns member-open first latest (now (text .entry)) (now (pool .entry)) (now (pool .exit)) kinds c r ⌝ }
+    ensures read { λ r. ⌜ Turns member-open first latest (now (text .entry)) (now (pool .entry)) (now (pool .exit)) (kinds .kinds) c r ⌝ }
 {
     let t = tokens::next(text, c.at, pool, c.top);
     if let Token::Closing { at } = t {
@@ -144,9 +144,9 @@ pub fn next_member(
 }
 
 // Goes on behind the shape of the member of the name `latest`.
-pub fn behind_member(text: &[u8], pool: &mut [u64], kinds: u64, latest: u64, c: Cursor) -> Turn
+pub fn behind_member(text: &[u8], pool: &mut [u64], kinds: Shape, latest: u64, c: Cursor) -> Turn
     requires { ⌜ Placed (now text) (now pool) (c .at) (c .top) ⌝ }
-    ensures read { λ r. ⌜ Turns member-close false latest (now (text .entry)) (now (pool .entry)) (now (pool .exit)) kinds c r ⌝ }
+    ensures read { λ r. ⌜ Turns member-close false latest (now (text .entry)) (now (pool .entry)) (now (pool .exit)) (kinds .kinds) c r ⌝ }
 {
     let t = tokens::next(text, c.at, pool, c.top);
     let Token::Closing { at } = t else {

@@ -3,6 +3,7 @@ ghost use Rattle.shape_reader.specs.ShapeParts.{Placed, Expects, Begins-
 use crate::kinds::Kinds;
 use crate::kinds::read_kinds;
 use crate::reading::Cursor;
+use shapes::Shape;
 use tokens::Token;
 
 pub enum Expected {
@@ -61,7 +62,7 @@ fn begin(text: &[u8], pool: &mut [u64], values: usize, left: usize, c: Cursor) -
 
 pub enum Opened {
     // of these kinds, up to a place behind them
-    Form { kinds: u64, at: usize },
+    Form { kinds: Shape, at: usize },
     Refused { number: u64, place: usize },
 }
 

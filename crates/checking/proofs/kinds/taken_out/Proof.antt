@@ -33,8 +33,9 @@ sub-result-2 c = search needs
 
 returns-3 : tie.Need-returns-3
 returns-3 c =
-    let at-start = c .before .before .before in
-    int-out (at-start .args .kinds) (at-start .args .test) (c .before .before .if1 .left) (sym (c .before .has .ensures) ∙ c .if2 .left)
+    let at-start = c .before .before .before .before in
+    int-out (at-start .args .kinds) (at-start .args .test) (c .before .before .before .if1 .left)
+    (sym (c .before .before .has .ensures) ∙ c .before .if2 .left)
 
 pub taken-out-spec : {M : Type 1} → statement M
 taken-out-spec =

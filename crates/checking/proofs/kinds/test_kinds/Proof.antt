@@ -9,7 +9,7 @@ use Rattle.checking.proofs.kinds.test_kinds.Reads as reads
 use Rattle.checking.proofs.kinds.test_kinds.Lts as lts
 
 returns : tie.Need-returns
-returns c = (λ k e. num-flags k (sym (c .if1 .taken) ∙ e), omega arith)
+returns c = (λ k e. num-flags k (sym (c .before .before .if1 .taken) ∙ e), omega arith)
 
 shl-result : tie.Need-shl-result
 shl-result c = search needs

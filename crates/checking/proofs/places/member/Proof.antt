@@ -8,9 +8,7 @@ use Rattle.checking.proofs.places.member.Tie as tie
 use Rattle.checking.proofs.places.member.Reads as reads
 use Rattle.checking.proofs.places.member.Lts as lts
 use Rattle.checking.proofs.kinds.within.Reads as within-reads
-use Rattle.nodes.proofs.text_bytes.Reads as text-bytes-reads
-use Rattle.nodes.proofs.text_word.Reads as text-word-reads
-use Rattle.shapes.proofs.find_member.Reads as find-member-reads
+use Rattle.shapes.proofs.find_named.Reads as find-named-reads
 use Rattle.shapes.proofs.has.Reads as has-reads
 use Rattle.shapes.proofs.kinds.Reads as kinds-reads
 use Rattle.shapes.proofs.members.Reads as members-reads
@@ -51,15 +49,9 @@ add-end c =
     let at-start = c .before .before .before .before .before .before .before .before in
     omega (arith, row-ends (at-start .pre .meets .bound), c .size .ensures, at-start .good)
 
-text-word-requires : tie.Need-text-word-requires
-text-word-requires c κs = search needs
-
-text-bytes-requires : tie.Need-text-bytes-requires
-text-bytes-requires c κs = search needs
-
-find-member-requires : tie.Need-find-member-requires
-find-member-requires c κs =
-    let at-size = c .before .before in
+find-named-requires : tie.Need-find-named-requires
+find-named-requires c κs =
+    let at-size = c in
     let at-members = at-size .before in
     let at-has = at-members .before .before in
     let at-within = at-has .before .before in
@@ -77,16 +69,14 @@ enum-told c = search needs
 returns-3 : tie.Need-returns-3
 returns-3 c =
     let at-find = c .before .before in
-    let at-bytes = at-find .before in
-    let at-word = at-bytes .before in
-    let at-size = at-word .before in
+    let at-size = at-find .before in
     let at-members = at-size .before in
     let at-has = at-members .before .before in
     let at-within = at-has .before .before in
     let at-start = at-within .before .before .before in
     member-missing (at-start .args .shapes .now) (at-start .args .pool .now) (at-start .args .row) (at-start .args .kinds) (at-start .args .name)
     (at-start .args .place) (at-within .within .ensures) (not-not (at-within .within .result) (at-has .before .if1 .left)) (at-has .has .ensures) (not-not (at-has .has .result) (at-members .before .if2 .left))
-    (at-members .members .ensures) (at-size .size .ensures) (at-word .text-word .ensures) (at-bytes .text-bytes .ensures) (at-find .find-member .ensures)
+    (at-members .members .ensures) (at-size .size .ensures) (at-find .find-named .ensures)
     (c .enum-told .given .1)
 
 kinds-requires : tie.Need-kinds-requires
@@ -95,16 +85,14 @@ kinds-requires c κs = search needs
 returns-4 : tie.Need-returns-4
 returns-4 c =
     let at-find = c .before .before .before .before in
-    let at-bytes = at-find .before in
-    let at-word = at-bytes .before in
-    let at-size = at-word .before in
+    let at-size = at-find .before in
     let at-members = at-size .before in
     let at-has = at-members .before .before in
     let at-within = at-has .before .before in
     let at-start = at-within .before .before .before in
     member-found (at-start .args .shapes .now) (at-start .args .pool .now) (at-start .args .row) (at-start .args .kinds) (at-start .args .name)
     (at-start .args .place) (at-within .within .ensures) (not-not (at-within .within .result) (at-has .before .if1 .left)) (at-has .has .ensures) (not-not (at-has .has .result) (at-members .before .if2 .left))
-    (at-members .members .ensures) (at-size .size .ensures) (at-word .text-word .ensures) (at-bytes .text-bytes .ensures) (at-find .find-member .ensures)
+    (at-members .members .ensures) (at-size .size .ensures) (at-find .find-named .ensures)
     (c .before .before .r .given .1) (c .kinds .ensures)
 
 pub member-spec : {M : Type 1} → statement M
@@ -118,9 +106,7 @@ member-spec =
     members-requires
     size-requires
     add-end
-    text-word-requires
-    text-bytes-requires
-    find-member-requires
+    find-named-requires
     enum-known-r
     enum-told
     returns-3
