@@ -126,6 +126,12 @@ pub mod CheckRulesHold
 pub mod RunRules
 pub mod RunRulesKinds
 pub mod RunRulesHold
+pub mod AnswerWords
+pub mod AnswerWordsRead
+pub mod CallLaws
+pub mod HostChain
+pub mod HostDemand3
 pub mod Counterexamples
+pub mod HostCounterexamples
 pub mod Statements
 pub mod Theorems

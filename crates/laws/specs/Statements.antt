@@ -1,15 +1,16 @@
 -- The promises of `definitions`, each tied to its demand (document 00). Everything that a reader has to believe of the
 -- theorems stands here and in what these statements name: `definitions`, the grammars (Rfc3629, Rfc8259, TokenGrammar, FormGrammar), the
 -- causes (Causes, FormCauses), the rules of checking and running (CheckRules, RunRules), trees and what fits (Tree), values of the
--- paper (Distinct, Good, Readers) and the chain of calls (Chain). They hold for every set of limits where no range is named.
+-- paper (Distinct, Good, Readers) and the chain of calls (Chain, AnswerWords, HostChain). They hold for every set of limits where no range is named.
 -- Theorems proves them. Assumes nothing.
-use Prim.Native.Nat.{ℕ, _≤_}
+use Prim.Native.Nat.{ℕ, _≤_, _<_}
 use mathlib.Core.Path.{_≡_}
 use mathlib.Core.Logic.{_⊎_, _↔_}
-use mathlib.Core.Bool.{true}
-use mathlib.Core.List.{List, [], _∷_}
-use lib.ListN.{length, take}
+use mathlib.Core.Bool.{Bool, true}
+use mathlib.Core.List.{List, [], _∷_, _++_}
+use lib.ListN.{length, take, drop}
 use Rattle.definitions.specs.declared.Limits.{Limits}
+use Rattle.definitions.specs.declared.Answer.{Answer}
 use Rattle.definitions.specs.Limits.{standard}
 use Rattle.definitions.specs.Bytes.{Bytes}
 use Rattle.definitions.specs.Outcome.{ok, refused}
@@ -25,7 +26,8 @@ use Rattle.definitions.specs.ShapeText.{read-shape, write-shape}
 use Rattle.definitions.specs.Reader.{Result, read-reader}
 use Rattle.definitions.specs.Checking.{check-reader}
 use Rattle.definitions.specs.Running.{Ran, run-reader}
-use Rattle.definitions.specs.Operations.{Done, Source, Judged, Text-out, finish, infer-operation, join-operation, check-operation}
+use Rattle.definitions.specs.Operations.{Done, Source, Judged, prelude, Text-out, finish, say, infer-operation, join-operation, check-operation}
+use Rattle.definitions.specs.Calls.{answer-words, answered, call, quiet, buffer-published, buffer-lent}
 use Rattle.laws.specs.Distinct.{distinct}
 use Rattle.laws.specs.Tree.{Tree, meaning, Fits}
 use Rattle.laws.specs.Rfc8259.{JSON-text}
@@ -38,6 +40,8 @@ use Rattle.laws.specs.Readers.{scoped, proper, Safe}
 use Rattle.laws.specs.CheckRules.{Checks, Refuses}
 use Rattle.laws.specs.RunRules.{Runs, Stuck, Out-of-steps}
 use Rattle.laws.specs.Chain.{Call, Proper-source, In-range, Demand-3}
+use Rattle.laws.specs.AnswerWords.{In-word, Words-of}
+use Rattle.laws.specs.HostChain.{Infer-call, Demand-3-over-calls}
 
 -- ---- documents: demand 2, "Documents are read as RFC 8259 and RFC 3629 define them"
 
@@ -229,6 +233,45 @@ Demand-3-from-every-source = (source : Source) → Proper-source source → Dema
 -- and so for JSON documents
 abbrev pub Demand-3-for-documents : Type 0
 Demand-3-for-documents = Demand-3-from read-json
+
+-- ---- demand 3 over C calls
+
+-- a call is its operation behind the prelude, whatever is judged of its texts: under 40 bytes of answer buffer it is 1 and nothing is
+-- written; else the number is returned, and text, place, length, steps and yes are put into the buffer
+pub record Calls-are-operations : Type 0 where
+  pub writes-short
+      : (buffer output : Bytes) (j : Judged Text-out) → length buffer < 40
+      → call buffer (finish output (prelude buffer-published (buffer-lent buffer) j)) ≡ record { number = 1; answer = buffer; output = output }
+  pub writes-long
+      : (buffer output : Bytes) (j : Judged Text-out) → 40 ≤ length buffer
+      → call buffer (finish output (prelude buffer-published (buffer-lent buffer) j))
+      ≡ record {
+        number = finish output j .answer .number;
+        answer = answer-words (finish output j .answer) ++ drop 40 buffer;
+        output = finish output j .output;
+      }
+  pub says-short
+      : (buffer : Bytes) (j : Judged Bool) → length buffer < 40
+      → call buffer (quiet (say (prelude buffer-published (buffer-lent buffer) j))) ≡ record { number = 1; answer = buffer; output = [] }
+  pub says-long
+      : (buffer : Bytes) (j : Judged Bool) → 40 ≤ length buffer
+      → call buffer (quiet (say (prelude buffer-published (buffer-lent buffer) j)))
+      ≡ record { number = say j .number; answer = answer-words (say j) ++ drop 40 buffer; output = [] }
+
+-- what a call put into a buffer of 40 bytes or more is read from it, where the numbers fit into words
+abbrev pub Answers-read-back : Type 0
+Answers-read-back =
+    (buffer : Bytes) (a : Answer) → 40 ≤ length buffer → In-word (a .text) → In-word (a .place) → In-word (a .length) → In-word (a .steps)
+    → Words-of (answered buffer a) a
+
+-- for every source that keeps to what is asked of one, every set of limits in range and every list of infer calls as a host makes them
+abbrev pub Demand-3-of-calls-from-every-source : Type 0
+Demand-3-of-calls-from-every-source =
+    (source : Source) → Proper-source source → (l : Limits) → In-range l → (list : List Infer-call) → Demand-3-over-calls source l list
+
+-- and so for JSON documents
+abbrev pub Demand-3-of-calls : Type 0
+Demand-3-of-calls = (l : Limits) → In-range l → (list : List Infer-call) → Demand-3-over-calls read-json l list
 
 -- the paper's own limits are in range
 abbrev pub Standard-in-range : Type 0

@@ -32,6 +32,9 @@ use Rattle.laws.specs.Soundness.{sound}
 use Rattle.laws.specs.Causes.{Cause, cause-3, cause-4, cause-5, cause-6}
 use Rattle.laws.specs.Chain.{Proper-source, In-range}
 use Rattle.laws.specs.Demand3.{demand-3}
+use Rattle.laws.specs.CallLaws.{writes-short, writes-long, says-short, says-long}
+use Rattle.laws.specs.AnswerWordsRead.{words-read-back}
+use Rattle.laws.specs.HostDemand3.{demand-3-over-calls}
 use Rattle.laws.specs.Statements.{Documents-by-the-RFC, Documents-refused-for-cause, Documents-refused-for-the-least}
 use Rattle.laws.specs.Statements.{Tokens-by-the-grammar, Shapes-refused-for-cause, Shapes-refused-for-the-least, Shapes-by-the-grammar}
 use Rattle.laws.specs.Statements.{Readers-by-the-grammar, Readers-refused-for-cause, Readers-refused-for-the-least, Documents-read-back}
@@ -39,6 +42,7 @@ use Rattle.laws.specs.Statements.{Results-read-back, Values-read-back, S
 use Rattle.laws.specs.Statements.{Refusals-keep-the-output, Partial-order, Least-upper-bound, Admits-is-below, Sizes-grow}
 use Rattle.laws.specs.Statements.{Checking-by-the-rules, Running-by-the-rules, Checked-readers-are-safe, Demand-3-from-every-source}
 use Rattle.laws.specs.Statements.{Demand-3-for-documents, Standard-in-range}
+use Rattle.laws.specs.Statements.{Calls-are-operations, Answers-read-back, Demand-3-of-calls-from-every-source, Demand-3-of-calls}
 
 -- ---- reading
 
@@ -167,6 +171,21 @@ json-proper =
 
 pub demand-3-for-documents : Demand-3-for-documents
 demand-3-for-documents = demand-3 read-json json-proper
+
+-- ---- demand 3 over C calls
+
+pub calls-are-operations : Calls-are-operations
+calls-are-operations =
+    record { writes-short = writes-short; writes-long = writes-long; says-short = says-short; says-long = says-long }
+
+pub answers-read-back : Answers-read-back
+answers-read-back = words-read-back
+
+pub demand-3-of-calls-from-every-source : Demand-3-of-calls-from-every-source
+demand-3-of-calls-from-every-source = demand-3-over-calls
+
+pub demand-3-of-calls : Demand-3-of-calls
+demand-3-of-calls = demand-3-over-calls read-json json-proper
 
 pub standard-in-range : Standard-in-range
 unfolding standard

@@ -1,0 +1,174 @@
+-- That demand 3 over C calls says something: with a hypothesis left out or weakened by one it is false. Every name says what
+-- would go wrong. Assumes nothing.
+use Prim.Native.Nat.{ℕ, suc, _≤_}
+use native.Mathlib.Omega.{arith}
+use mathlib.Core.Path.{_≡_, refl, sym, ap, _∙_, subst}
+use mathlib.Core.Bool.{Bool, true, false, false≢true}
+use mathlib.Core.List.{List, [], _∷_, map}
+use lib.Dec.{lit≤}
+use lib.ListN.{length, replicate}
+use Rattle.definitions.specs.declared.Limits.{Limits}
+use Rattle.definitions.specs.Limits.{standard}
+use Rattle.definitions.specs.Bytes.{Bytes, bytes}
+use Rattle.definitions.specs.Outcome.{Outcome, ok, refused}
+use Rattle.definitions.specs.Value.{Value, no-members, member}
+use Rattle.definitions.specs.Json.{read-json}
+use Rattle.definitions.specs.Shape.{Shape, only-null, only-numeric, int-only, rec-of, field, no-fields, only-rec}
+use Rattle.definitions.specs.Admits.{admits}
+use Rattle.definitions.specs.ShapeText.{read-shape}
+use Rattle.definitions.specs.Operations.{Source}
+use Rattle.definitions.specs.Calls.{check-call, run-call}
+use Rattle.definitions.specs.Evaluate.{evaluate}
+use Rattle.laws.specs.Distinct.{distinct}
+use Rattle.laws.specs.Chain.{Each, each-none, each-one, Reordered, swap-first, start, Reads}
+use Rattle.laws.specs.AnswerWords.{from-little-endian, word-at}
+use Rattle.laws.specs.HostChain.{Infer-call, handed-on, calls, accepts, kept-text, reached-text, accepted-samples}
+
+-- ---- calls that serve below
+
+-- an output of so many bytes and an answer buffer of so many
+lent : (output answer : ℕ) → Bytes → Infer-call
+lent n k d = record { sample = d; output = replicate n 0; answer = replicate k 0 }
+
+-- more than one
+two-left : List Bytes → Bool
+two-left [] = false
+two-left (x ∷ []) = false
+two-left (x ∷ y ∷ zs) = true
+
+-- one outcome is not two
+clash : {A : Type 0} {o : Outcome ℕ A} {a : A} {n p : ℕ} → o ≡ refused n p → o ≡ ok a → ⊥
+clash {A} {o} {a} {n} {p} e f = subst Is-ok (sym f ∙ e) tt
+  where
+    Is-ok : Outcome ℕ A → Type 0
+    Is-ok (ok x) = Unit {0}
+    Is-ok (refused m q) = ⊥
+
+-- ---- long enough buffers
+
+-- in another order, with an answer buffer of 39 bytes, a sample is refused
+pub short-answer-loses-a-sample
+    : ((list others : List Infer-call)
+    → Reordered (accepted-samples read-json standard list start) (map (λ c. c .sample) others)
+    → Each (λ c. (39 ≤ length (c .answer)) × (length (reached-text read-json standard list start) ≤ length (c .output))) others
+    → accepted-samples read-json standard others start ≡ map (λ c. c .sample) others)
+    → ⊥
+unfolding evaluate start from-little-endian word-at handed-on calls accepts kept-text reached-text accepted-samples lent two-left
+short-answer-loses-a-sample h =
+    false≢true
+    (ap two-left
+    (h (lent 30 40 (bytes "1") ∷ lent 30 40 (bytes "2.5") ∷ []) (lent 30 40 (bytes "2.5") ∷ lent 30 39 (bytes "1") ∷ []) swap-first
+    (each-one (lit≤ tt, lit≤ tt) (each-one (lit≤ tt, lit≤ tt) each-none))))
+
+-- in another order, with an output one byte shorter than the 16 bytes of the text reached, a sample is refused
+pub short-output-loses-a-sample
+    : ((list others : List Infer-call)
+    → Reordered (accepted-samples read-json standard list start) (map (λ c. c .sample) others)
+    → Each (λ c. (40 ≤ length (c .answer)) × (length (reached-text read-json standard list start) ≤ suc (length (c .output)))) others
+    → accepted-samples read-json standard others start ≡ map (λ c. c .sample) others)
+    → ⊥
+unfolding evaluate start from-little-endian word-at handed-on calls accepts kept-text reached-text accepted-samples lent two-left
+short-output-loses-a-sample h =
+    false≢true
+    (ap two-left
+    (h (lent 30 40 (bytes "1") ∷ lent 30 40 (bytes "2.5") ∷ []) (lent 30 40 (bytes "2.5") ∷ lent 15 40 (bytes "1") ∷ []) swap-first
+    (each-one (lit≤ tt, lit≤ tt) (each-one (lit≤ tt, lit≤ tt) each-none))))
+
+-- ---- limits in range
+
+-- limits that the text of nothing does not keep
+tiny : Limits
+tiny = record { bytes = 7; values = 512; nesting = 32; steps = 65536 }
+
+pub tiny-limits-lose-the-start : ((l : Limits) (list : List Infer-call) → length (reached-text read-json l list start) ≤ l .bytes) → ⊥
+unfolding evaluate start reached-text tiny
+tiny-limits-lose-the-start h = let k : _≤_ 8 7 = h tiny [] in absurd (let z : ⊥ = omega arith in z)
+
+-- ---- sources
+
+-- every document is refused with the number 0
+zero-source : Source
+zero-source l document = refused 0 0
+
+pub unnumbered-refusal-loses-the-shape
+    : ((source : Source) → ((l : Limits) (document : Bytes) (v : Value) → source l document ≡ ok v → distinct v ≡ true)
+    → (list : List Infer-call) → (s : Shape) × (read-shape standard (reached-text source standard list start) ≡ ok s))
+    → ⊥
+unfolding evaluate start from-little-endian word-at handed-on calls accepts kept-text reached-text lent zero-source
+unnumbered-refusal-loses-the-shape h =
+    clash {n = 7} {p = 0} refl (h zero-source (λ l d v e. absurd (clash refl e)) (lent 30 40 [] ∷ []) .1)
+
+-- every document is a record with the name a twice, the second time a text
+twice : Value
+twice =
+    Value.rec
+    (member (bytes "a") (Value.number (record { negative = false; coefficient = 1; scale = 0 })) (member (bytes "a") (Value.text []) no-members))
+
+twice-source : Source
+twice-source l document = ok twice
+
+with-a : Shape
+with-a = only-rec (rec-of (field (bytes "a") (only-numeric int-only) no-fields))
+
+pub repeated-name-is-not-admitted
+    : ((source : Source) (list : List Infer-call) (s : Shape) (v : Value) (d : Bytes)
+    → read-shape standard (reached-text source standard list start) ≡ ok s
+    → accepted-samples source standard list start ≡ d ∷ [] → source standard d ≡ ok v → admits s v ≡ true)
+    → ⊥
+unfolding evaluate start from-little-endian word-at handed-on calls accepts kept-text reached-text accepted-samples lent twice-source twice with-a
+repeated-name-is-not-admitted h = false≢true (h twice-source (lent 60 40 [] ∷ []) with-a twice [] refl refl refl)
+
+-- every document is a record with one name, which is no UTF-8
+odd-source : Source
+odd-source l document = ok (Value.rec (member (0xFF ∷ []) Value.null no-members))
+
+odd-distinct : (l : Limits) (document : Bytes) (v : Value) → odd-source l document ≡ ok v → distinct v ≡ true
+unfolding evaluate odd-source distinct
+odd-distinct l document v e = subst Distinct-ok e refl
+  where
+    Distinct-ok : Outcome ℕ Value → Type 0
+    Distinct-ok (ok x) = distinct x ≡ true
+    Distinct-ok (refused n p) = Unit {0}
+
+pub name-that-is-no-utf8-loses-the-shape
+    : ((source : Source) → ((l : Limits) (document : Bytes) (v : Value) → source l document ≡ ok v → distinct v ≡ true)
+    → (list : List Infer-call) → (s : Shape) × (read-shape standard (reached-text source standard list start) ≡ ok s))
+    → ⊥
+unfolding evaluate start from-little-endian word-at handed-on calls accepts kept-text reached-text lent odd-source
+name-that-is-no-utf8-loses-the-shape h = clash {n = 7} {p = 20} refl (h odd-source odd-distinct (lent 60 40 [] ∷ []) .1)
+
+-- ---- a reader that passed, a document that is read and admitted
+
+reads-null : Reads read-json standard (bytes "null") Value.null
+unfolding evaluate
+reads-null = record { short-enough = lit≤ tt; value = refl }
+
+-- without the check a reader gets stuck on a document that the shape reached admits
+pub unchecked-reader-gets-stuck
+    : ((list : List Infer-call) (s : Shape) (reader document output answer : Bytes) (v : Value)
+    → read-shape standard (reached-text read-json standard list start) ≡ ok s → Reads read-json standard document v → admits s v ≡ true
+    → run-call read-json standard reader document output answer .number ≡ 12 → ⊥)
+    → ⊥
+unfolding evaluate start from-little-endian word-at handed-on calls accepts kept-text reached-text lent
+unchecked-reader-gets-stuck h =
+    h (lent 30 40 (bytes "null") ∷ []) only-null (bytes "(int (it 0))") (bytes "null") [] (replicate 40 0) Value.null refl reads-null refl refl
+
+-- a reader that passed gets stuck on a document that the shape reached does not admit
+pub document-not-admitted-gets-stuck
+    : ((list : List Infer-call) (reader document output answer : Bytes) (v : Value)
+    → check-call standard reader (reached-text read-json standard list start) output answer .number ≡ 0
+    → Reads read-json standard document v → run-call read-json standard reader document output answer .number ≡ 12 → ⊥)
+    → ⊥
+unfolding evaluate start from-little-endian word-at handed-on calls accepts kept-text reached-text lent
+document-not-admitted-gets-stuck h =
+    h (lent 30 40 (bytes "1") ∷ []) (bytes "(int (it 0))") (bytes "null") (replicate 30 0) (replicate 40 0) Value.null refl reads-null refl
+
+-- on a document that is not read, run is refused with a number that is none of the five
+pub unread-document-is-refused
+    : ((list : List Infer-call) (reader document output answer : Bytes)
+    → check-call standard reader (reached-text read-json standard list start) output answer .number ≡ 0
+    → run-call read-json standard reader document output answer .number ≡ 3 → ⊥)
+    → ⊥
+unfolding evaluate start from-little-endian word-at handed-on calls accepts kept-text reached-text lent
+unread-document-is-refused h =
+    h (lent 30 40 (bytes "1") ∷ []) (bytes "(int (it 0))") (bytes "nul") (replicate 30 0) (replicate 40 0) refl refl
