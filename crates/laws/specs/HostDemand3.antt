@@ -174,7 +174,7 @@ module _ (source : Source) (l : Limits) (range : In-range l) where
       → Passes source buffer-published buffer-published l shape reader (buffer-lent answer) output text
       → Passes-call source l shape reader (check-call l reader text output answer)
   unfolding check-call run-call call handed-on
-  passes-call shape reader text output answer e p =
+  passes-call w reader text output answer e p =
       let (r, s, u, q) = check-passed buffer-published (buffer-lent answer) l reader text output e in
       record {
         result = p .result;

@@ -128,6 +128,11 @@ pub mod RunRulesKinds
 pub mod RunRulesHold
 pub mod AnswerWords
 pub mod AnswerWordsRead
+pub mod OperationCauses
+pub mod OperationCausesFirst
+pub mod OperationCausesParts
+pub mod OperationCausesHold
+pub mod WrittenDocuments
 pub mod CallLaws
 pub mod HostChain
 pub mod HostDemand3

@@ -279,10 +279,13 @@ pub runs-exactly
 unfolding run-reader
 runs-exactly r l v x = (told (run-tells l r (v ∷ []) 0), run-gives l r)
 
-pub stuck-exactly : (r : Result) (l : Limits) (v : Value) (p : ℕ) → (run-reader r l v ≡ refused 12 p) ↔ Stuck l (v ∷ []) 0 r p
+pub halts-exactly
+    : (r : Result) (l : Limits) (v : Value) (n p : ℕ) → (run-reader r l v ≡ refused n p) ↔ Halts l (v ∷ []) 0 r n p
 unfolding run-reader
-stuck-exactly r l v p = (told-refused (run-tells l r (v ∷ []) 0), run-halts l r)
+halts-exactly r l v n p = (told-refused (run-tells l r (v ∷ []) 0), run-halts l r)
+
+pub stuck-exactly : (r : Result) (l : Limits) (v : Value) (p : ℕ) → (run-reader r l v ≡ refused 12 p) ↔ Stuck l (v ∷ []) 0 r p
+stuck-exactly r l v p = halts-exactly r l v 12 p
 
 pub out-exactly : (r : Result) (l : Limits) (v : Value) (p : ℕ) → (run-reader r l v ≡ refused 13 p) ↔ Out-of-steps l (v ∷ []) 0 r p
-unfolding run-reader
-out-exactly r l v p = (told-refused (run-tells l r (v ∷ []) 0), run-halts l r)
+out-exactly r l v p = halts-exactly r l v 13 p

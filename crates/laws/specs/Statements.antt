@@ -1,6 +1,6 @@
 -- The promises of `definitions`, each tied to its demand (document 00). Everything that a reader has to believe of the
 -- theorems stands here and in what these statements name: `definitions`, the grammars (Rfc3629, Rfc8259, TokenGrammar, FormGrammar), the
--- causes (Causes, FormCauses), the rules of checking and running (CheckRules, RunRules), trees and what fits (Tree), values of the
+-- causes (Causes, FormCauses, OperationCauses), the rules of checking and running (CheckRules, RunRules), trees and what fits (Tree), values of the
 -- paper (Distinct, Good, Readers) and the chain of calls (Chain, AnswerWords, HostChain). They hold for every set of limits where no range is named.
 -- Theorems proves them. Assumes nothing.
 use Prim.Native.Nat.{ℕ, _≤_, _<_}
@@ -26,8 +26,10 @@ use Rattle.definitions.specs.ShapeText.{read-shape, write-shape}
 use Rattle.definitions.specs.Reader.{Result, read-reader}
 use Rattle.definitions.specs.Checking.{check-reader}
 use Rattle.definitions.specs.Running.{Ran, run-reader}
-use Rattle.definitions.specs.Operations.{Done, Source, Judged, prelude, Text-out, finish, say, infer-operation, join-operation, check-operation}
-use Rattle.definitions.specs.Calls.{answer-words, answered, call, quiet, buffer-published, buffer-lent}
+use Rattle.definitions.specs.Operations.{Done, Source, Judged, prelude, Text-out, finish, say, plain-operation, infer-operation, join-operation}
+use Rattle.definitions.specs.Operations.{below-operation, admits-operation, check-operation, run-operation}
+use Rattle.definitions.specs.Calls.{answer-words, answered, call, quiet, buffer-published, buffer-lent, plain-call, infer-call, join-call}
+use Rattle.definitions.specs.Calls.{check-call, run-call}
 use Rattle.laws.specs.Distinct.{distinct}
 use Rattle.laws.specs.Tree.{Tree, meaning, Fits}
 use Rattle.laws.specs.Rfc8259.{JSON-text}
@@ -40,6 +42,8 @@ use Rattle.laws.specs.Readers.{scoped, proper, Safe}
 use Rattle.laws.specs.CheckRules.{Checks, Refuses}
 use Rattle.laws.specs.RunRules.{Runs, Stuck, Out-of-steps}
 use Rattle.laws.specs.Chain.{Call, Proper-source, In-range, Demand-3}
+use Rattle.laws.specs.OperationCauses.{Refused-with-the-first, Plain-cause, Infer-cause, Join-cause, Below-cause, Admits-cause}
+use Rattle.laws.specs.OperationCauses.{Check-cause, Run-cause}
 use Rattle.laws.specs.AnswerWords.{In-word, Words-of}
 use Rattle.laws.specs.HostChain.{Infer-call, Demand-3-over-calls}
 
@@ -146,12 +150,79 @@ pub record Written-shapes-read-back : Type 0 where
       → (r : Result) × (s : Shape) × (u : Shape) × (read-reader l reader ≡ ok r) × (read-shape l shape ≡ ok s)
       × (check-reader r s ≡ ok u) × (read-shape l (wrote (check-operation published lent l reader shape output)) ≡ ok u)
 
+-- what plain writes reads back as the document's value, what run writes as the value that it gave, in the steps answered
+pub record Written-documents-read-back : Type 0 where
+  pub by-plain
+      : (published lent : List ℕ) (l : Limits) (document output : Bytes)
+      → plain-operation read-json published lent l document output .answer .number ≡ 0
+      → (v : Value) × (read-json l document ≡ ok v)
+      × (read-json l (wrote (plain-operation read-json published lent l document output)) ≡ ok v)
+  pub by-run
+      : (published lent : List ℕ) (l : Limits) → In-range l → (reader document output : Bytes)
+      → run-operation read-json published lent l reader document output .answer .number ≡ 0
+      → (r : Result) × (v : Value) × (x : Ran Value) × (read-reader l reader ≡ ok r) × (read-json l document ≡ ok v) × (run-reader r l v ≡ ok x)
+      × (run-operation read-json published lent l reader document output .answer .steps ≡ x .steps)
+      × (read-json l (wrote (run-operation read-json published lent l reader document output)) ≡ ok (x .result))
+
 -- ---- demand 1, "no refusal changes a byte of the output buffer"
 
 -- whatever was judged: every operation that writes ends in `finish`
 abbrev pub Refusals-keep-the-output : Type 0
 Refusals-keep-the-output =
     (output : Bytes) (j : Judged Text-out) → (finish output j .answer .number ≡ 0 → ⊥) → finish output j .output ≡ output
+
+-- and so every C call that writes
+pub record Calls-keep-the-output : Type 0 where
+  pub by-plain
+      : (l : Limits) (source : Source) (document output buffer : Bytes) → (plain-call source l document output buffer .number ≡ 0 → ⊥)
+      → plain-call source l document output buffer .output ≡ output
+  pub by-infer
+      : (l : Limits) (source : Source) (shape document output buffer : Bytes)
+      → (infer-call source l shape document output buffer .number ≡ 0 → ⊥)
+      → infer-call source l shape document output buffer .output ≡ output
+  pub by-join
+      : (l : Limits) (first second output buffer : Bytes) → (join-call l first second output buffer .number ≡ 0 → ⊥)
+      → join-call l first second output buffer .output ≡ output
+  pub by-check
+      : (l : Limits) (reader shape output buffer : Bytes) → (check-call l reader shape output buffer .number ≡ 0 → ⊥)
+      → check-call l reader shape output buffer .output ≡ output
+  pub by-run
+      : (l : Limits) (source : Source) (reader document output buffer : Bytes)
+      → (run-call source l reader document output buffer .number ≡ 0 → ⊥)
+      → run-call source l reader document output buffer .output ≡ output
+
+-- ---- demand 1, "each is given by its number and place under its stated cause, and under no other", of all numbers
+
+-- each operation is refused with the first of its causes, or none stands and it succeeds; a C call is the operation with the answer
+-- buffer's 40 bytes for work slices
+pub record Refused-with-the-first-cause : Type 0 where
+  pub by-plain
+      : (published lent : List ℕ) (l : Limits) (document output : Bytes)
+      → Refused-with-the-first
+      (Plain-cause published lent l document output)
+      (plain-operation read-json published lent l document output .answer)
+  pub by-infer
+      : (published lent : List ℕ) (l : Limits) (shape document output : Bytes)
+      → Refused-with-the-first
+      (Infer-cause published lent l shape document output)
+      (infer-operation read-json published lent l shape document output .answer)
+  pub by-join
+      : (published lent : List ℕ) (l : Limits) (first second output : Bytes)
+      → Refused-with-the-first (Join-cause published lent l first second output) (join-operation published lent l first second output .answer)
+  pub by-below
+      : (published lent : List ℕ) (l : Limits) (first second : Bytes)
+      → Refused-with-the-first (Below-cause published lent l first second) (below-operation published lent l first second)
+  pub by-admits
+      : (published lent : List ℕ) (l : Limits) (shape document : Bytes)
+      → Refused-with-the-first (Admits-cause published lent l shape document) (admits-operation read-json published lent l shape document)
+  pub by-check
+      : (published lent : List ℕ) (l : Limits) (reader shape output : Bytes)
+      → Refused-with-the-first (Check-cause published lent l reader shape output) (check-operation published lent l reader shape output .answer)
+  pub by-run
+      : (published lent : List ℕ) (l : Limits) (reader document output : Bytes)
+      → Refused-with-the-first
+      (Run-cause published lent l reader document output)
+      (run-operation read-json published lent l reader document output .answer)
 
 -- ---- order and join: demand 2, "inferring, ordering .. give just the answers that document 01 defines", and what demand 3
 -- stands on
