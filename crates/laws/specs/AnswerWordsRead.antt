@@ -58,6 +58,10 @@ module _ (a : Answer) (rest : Bytes) where
   unfolding word-at answer-words little-endian
   word-4 = refl
 
+-- the length needs no other field
+pub length-back : (buffer : Bytes) (a : Answer) → 40 ≤ length buffer → In-word (a .length) → word-at 2 (answered buffer a) ≡ a .length
+length-back buffer a h k = ap (word-at 2) (answered-long buffer a h) ∙ word-2 a (drop 40 buffer) ∙ word-back (a .length) k
+
 yes-small : (b : Bool) → In-word (as-word b)
 unfolding as-word
 yes-small true = lit< tt
@@ -73,7 +77,7 @@ words-read-back buffer a h t p k s =
     record {
       text-word = at 0 ∙ word-0 a rest ∙ word-back (a .text) t;
       place-word = at 1 ∙ word-1 a rest ∙ word-back (a .place) p;
-      length-word = at 2 ∙ word-2 a rest ∙ word-back (a .length) k;
+      length-word = length-back buffer a h k;
       steps-word = at 3 ∙ word-3 a rest ∙ word-back (a .steps) s;
       yes-word = at 4 ∙ word-4 a rest ∙ word-back (as-word (a .yes)) (yes-small (a .yes));
     }

@@ -4,19 +4,23 @@ use native.Mathlib.Omega.{arith}
 use native.Mathlib.Nat.{le-trans}
 use mathlib.Core.Path.{_≡_, refl, sym, ap, _∙_, subst}
 use mathlib.Core.Bool.{Bool, true, false}
-use mathlib.Core.List.{List, [], _∷_, map}
-use lib.Dec.{lit<}
-use lib.ListN.{length, take}
+use mathlib.Core.List.{List, [], _∷_, _++_, map}
+use lib.ListN.{length, take, drop}
+use lib.Seq.{take-append-seam}
 use Rattle.definitions.specs.declared.Limits.{Limits}
 use Rattle.definitions.specs.declared.Answer.{Answer}
 use Rattle.definitions.specs.Bytes.{Bytes}
+use Rattle.definitions.specs.Outcome.{ok}
 use Rattle.definitions.specs.Value.{Value}
+use Rattle.definitions.specs.Plain.{plain}
 use Rattle.definitions.specs.Shape.{Shape}
 use Rattle.definitions.specs.Join.{join, shape-of}
+use Rattle.definitions.specs.Admits.{admits}
 use Rattle.definitions.specs.ShapeText.{read-shape, write-shape}
 use Rattle.definitions.specs.Reader.{Result}
+use Rattle.definitions.specs.Running.{Ran, run-reader}
 use Rattle.definitions.specs.Operations.{Done, Source, refusal, output-short, written, check-operation}
-use Rattle.definitions.specs.Calls.{answered, call, buffer-published, buffer-lent, infer-call, check-call, run-call}
+use Rattle.definitions.specs.Calls.{Called, answered, call, buffer-published, buffer-lent, infer-call, check-call, run-call}
 use Rattle.laws.specs.Judging.{shape-fits}
 use Rattle.laws.specs.Numbered.{numbered-shape}
 use Rattle.laws.specs.Chain.{Each, each-none, each-one, Reordered, Call, start, infers, takes, left-by, reached, accepted, Long-enough}
@@ -25,7 +29,7 @@ use Rattle.laws.specs.ChainSteps.{Accepted, infers-written, left-taken, 
 use Rattle.laws.specs.ChainReaders.{Passed, check-passed}
 use Rattle.laws.specs.Demand3.{demand-3}
 use Rattle.laws.specs.AnswerWords.{word-at, In-word}
-use Rattle.laws.specs.AnswerWordsRead.{words-read-back}
+use Rattle.laws.specs.AnswerWordsRead.{answered-long, length-back}
 use Rattle.laws.specs.CallLaws.{lent-long, short-lent, long-lent, call-long, call-short}
 use Rattle.laws.specs.HostChain.{Infer-call, handed-on, calls, accepts, kept-text, reached-text, accepted-samples, Long-buffers}
 use Rattle.laws.specs.HostChain.{Call-ends, Passes-call, Demand-3-over-calls}
@@ -39,12 +43,7 @@ length-read
     → word-at 2 (answered buffer a) ≡ a .length
 unfolding written
 length-read buffer a k h e small =
-    words-read-back buffer a h
-    (subst (λ (x : Answer). In-word (x .text)) (sym e) (lit< tt))
-    (subst (λ (x : Answer). In-word (x .place)) (sym e) (lit< tt))
-    (subst (λ (x : Answer). In-word (x .length)) (sym e) (let n : In-word k = omega arith in n))
-    (subst (λ (x : Answer). In-word (x .steps)) (sym e) (lit< tt))
-    .length-word
+    length-back buffer a h (subst (λ (x : Answer). In-word (x .length)) (sym e) (let n : In-word k = omega arith in n))
 
 -- ---- infer
 
@@ -157,6 +156,27 @@ ends-call {l} {r} {v} {u} {output} answer (too-large x w e f) =
     subst (Call-ends l r v u output answer) (sym (call-long answer _ (long-lent answer w))) (Host.too-large x (long-lent answer w) e f)
 ends-call {l} {r} {v} {u} {output} answer (no-room x w e f short) =
     subst (Call-ends l r v u output answer) (sym (call-long answer _ (long-lent answer w))) (Host.no-room x (long-lent answer w) e f short)
+
+-- what the host reads behind a run that gave 0 is the plain JSON of what the reader gave
+pub result-handed-on
+    : {l : Limits} {r : Result} {v : Value} {u : Shape} {output answer : Bytes} {c : Called} → Call-ends l r v u output answer c
+    → c .number ≡ 0 → In-word (length output)
+    → (x : Ran Value) × (run-reader r l v ≡ ok x) × (admits u (x .result) ≡ true) × (handed-on c ≡ plain (x .result))
+unfolding handed-on written
+result-handed-on {output = output} {answer} (Host.gives x h e a f room) z small = (
+  x,
+  e,
+  a,
+  ap (λ (k : ℕ). take k (plain (x .result) ++ drop (length (plain (x .result))) output))
+      (ap (word-at 2) (sym (answered-long answer (written (length (plain (x .result))) (x .steps) false) h))
+      ∙ length-back answer (written (length (plain (x .result))) (x .steps) false) h
+      (let n : In-word (length (plain (x .result))) = omega arith in n))
+      ∙ take-append-seam (plain (x .result)) _,
+)
+result-handed-on (Host.short-answer h) z small = absurd (let w : ⊥ = omega arith in w)
+result-handed-on (Host.out-of-steps p h e) z small = absurd (let w : ⊥ = omega arith in w)
+result-handed-on (Host.too-large x h e f) z small = absurd (let w : ⊥ = omega arith in w)
+result-handed-on (Host.no-room x h e f room) z small = absurd (let w : ⊥ = omega arith in w)
 
 module _ (source : Source) (l : Limits) (range : In-range l) where
   check-length

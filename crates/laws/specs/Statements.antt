@@ -28,7 +28,7 @@ use Rattle.definitions.specs.Checking.{check-reader}
 use Rattle.definitions.specs.Running.{Ran, run-reader}
 use Rattle.definitions.specs.Operations.{Done, Source, Judged, prelude, Text-out, finish, say, plain-operation, infer-operation, join-operation}
 use Rattle.definitions.specs.Operations.{below-operation, admits-operation, check-operation, run-operation}
-use Rattle.definitions.specs.Calls.{answer-words, answered, call, quiet, buffer-published, buffer-lent, plain-call, infer-call, join-call}
+use Rattle.definitions.specs.Calls.{Called, answer-words, answered, call, quiet, buffer-published, buffer-lent, plain-call, infer-call, join-call}
 use Rattle.definitions.specs.Calls.{check-call, run-call}
 use Rattle.laws.specs.Distinct.{distinct}
 use Rattle.laws.specs.Tree.{Tree, meaning, Fits}
@@ -45,7 +45,7 @@ use Rattle.laws.specs.Chain.{Call, Proper-source, In-range, Demand-3}
 use Rattle.laws.specs.OperationCauses.{Refused-with-the-first, Plain-cause, Infer-cause, Join-cause, Below-cause, Admits-cause}
 use Rattle.laws.specs.OperationCauses.{Check-cause, Run-cause}
 use Rattle.laws.specs.AnswerWords.{In-word, Words-of}
-use Rattle.laws.specs.HostChain.{Infer-call, Demand-3-over-calls}
+use Rattle.laws.specs.HostChain.{Infer-call, handed-on, Call-ends, Demand-3-over-calls}
 
 -- ---- documents: demand 2, "Documents are read as RFC 8259 and RFC 3629 define them"
 
@@ -343,6 +343,13 @@ Demand-3-of-calls-from-every-source =
 -- and so for JSON documents
 abbrev pub Demand-3-of-calls : Type 0
 Demand-3-of-calls = (l : Limits) → In-range l → (list : List Infer-call) → Demand-3-over-calls read-json l list
+
+-- what the host then reads behind a run call that returned 0 is the plain JSON of the value, in every output that a word can count
+abbrev pub Results-handed-on : Type 0
+Results-handed-on =
+    (l : Limits) (r : Result) (v : Value) (u : Shape) (output answer : Bytes) (c : Called) → Call-ends l r v u output answer c
+    → c .number ≡ 0 → In-word (length output)
+    → (x : Ran Value) × (run-reader r l v ≡ ok x) × (admits u (x .result) ≡ true) × (handed-on c ≡ plain (x .result))
 
 -- the paper's own limits are in range
 abbrev pub Standard-in-range : Type 0

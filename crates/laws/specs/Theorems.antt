@@ -29,7 +29,7 @@ use Rattle.laws.specs.Chain.{Proper-source}
 use Rattle.laws.specs.Demand3.{demand-3}
 use Rattle.laws.specs.CallLaws.{writes-short, writes-long, says-short, says-long}
 use Rattle.laws.specs.AnswerWordsRead.{words-read-back}
-use Rattle.laws.specs.HostDemand3.{demand-3-over-calls}
+use Rattle.laws.specs.HostDemand3.{demand-3-over-calls, result-handed-on}
 use Rattle.laws.specs.Statements.{Documents-by-the-RFC, Documents-refused-for-cause, Documents-refused-for-the-least}
 use Rattle.laws.specs.Statements.{Tokens-by-the-grammar, Shapes-refused-for-cause, Shapes-refused-for-the-least, Shapes-by-the-grammar}
 use Rattle.laws.specs.Statements.{Readers-by-the-grammar, Readers-refused-for-cause, Readers-refused-for-the-least, Documents-read-back}
@@ -39,6 +39,7 @@ use Rattle.laws.specs.Statements.{Checking-by-the-rules, Running-by-the-
 use Rattle.laws.specs.Statements.{Demand-3-for-documents, Standard-in-range}
 use Rattle.laws.specs.Statements.{Written-documents-read-back, Calls-keep-the-output, Refused-with-the-first-cause}
 use Rattle.laws.specs.Statements.{Calls-are-operations, Answers-read-back, Demand-3-of-calls-from-every-source, Demand-3-of-calls}
+use Rattle.laws.specs.Statements.{Results-handed-on}
 
 -- ---- reading
 
@@ -183,6 +184,9 @@ demand-3-of-calls-from-every-source = demand-3-over-calls
 
 pub demand-3-of-calls : Demand-3-of-calls
 demand-3-of-calls = demand-3-over-calls read-json json-proper
+
+pub results-handed-on : Results-handed-on
+results-handed-on l r v u output answer c e z small = result-handed-on e z small
 
 pub standard-in-range : Standard-in-range
 unfolding standard
