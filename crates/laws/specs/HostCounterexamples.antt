@@ -8,6 +8,7 @@ use mathlib.Core.List.{List, [], _∷_, map}
 use lib.Dec.{lit≤}
 use lib.ListN.{length, replicate}
 use Rattle.definitions.specs.declared.Limits.{Limits}
+use Rattle.definitions.specs.declared.Answer.{Answer}
 use Rattle.definitions.specs.Limits.{standard}
 use Rattle.definitions.specs.Bytes.{Bytes, bytes}
 use Rattle.definitions.specs.Outcome.{Outcome, ok, refused}
@@ -16,8 +17,8 @@ use Rattle.definitions.specs.Json.{read-json}
 use Rattle.definitions.specs.Shape.{Shape, only-null, only-numeric, int-only, rec-of, field, no-fields, only-rec}
 use Rattle.definitions.specs.Admits.{admits}
 use Rattle.definitions.specs.ShapeText.{read-shape}
-use Rattle.definitions.specs.Operations.{Source}
-use Rattle.definitions.specs.Calls.{check-call, run-call}
+use Rattle.definitions.specs.Operations.{Source, refusal, output-short}
+use Rattle.definitions.specs.Calls.{answered, check-call, run-call}
 use Rattle.definitions.specs.Evaluate.{evaluate}
 use Rattle.laws.specs.Distinct.{distinct}
 use Rattle.laws.specs.Chain.{Each, each-none, each-one, Reordered, swap-first, start, Reads}
@@ -73,6 +74,23 @@ short-output-loses-a-sample h =
     (ap two-left
     (h (lent 30 40 (bytes "1") ∷ lent 30 40 (bytes "2.5") ∷ []) (lent 30 40 (bytes "2.5") ∷ lent 15 40 (bytes "1") ∷ []) swap-first
     (each-one (lit≤ tt, lit≤ tt) (each-one (lit≤ tt, lit≤ tt) each-none))))
+
+-- ---- answers read back
+
+-- a number that no word holds is not read back
+pub number-past-a-word-is-lost
+    : ((buffer : Bytes) (a : Answer) → 40 ≤ length buffer → word-at 1 (answered buffer a) ≡ a .place) → ⊥
+unfolding evaluate from-little-endian word-at
+number-past-a-word-is-lost h =
+    let z : _≡_ {A = ℕ} 0 18446744073709551616 = h (replicate 40 0) (refusal 3 1 18446744073709551616) (lit≤ tt) in
+    absurd (let w : ⊥ = omega arith in w)
+
+-- nothing is read back from a buffer of 39 bytes
+pub short-buffer-is-not-read
+    : ((buffer : Bytes) (a : Answer) → 39 ≤ length buffer → word-at 2 (answered buffer a) ≡ a .length) → ⊥
+unfolding evaluate from-little-endian word-at
+short-buffer-is-not-read h =
+    let z : _≡_ {A = ℕ} 0 1 = h (replicate 39 0) (output-short 1) (lit≤ tt) in absurd (let w : ⊥ = omega arith in w)
 
 -- ---- limits in range
 
