@@ -132,6 +132,7 @@ pub mod OperationCauses
 pub mod OperationCausesFirst
 pub mod OperationCausesParts
 pub mod OperationCausesHold
+pub mod OperationCausesReaders
 pub mod WrittenDocuments
 pub mod CallLaws
 pub mod HostChain

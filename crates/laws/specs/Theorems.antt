@@ -16,7 +16,8 @@ use Rattle.laws.specs.RoundLaws.{plain-reads-back, plain-idempotent, pla
 use Rattle.laws.specs.RoundLaws.{shape-reads-back, shape-idempotent, shape-read-good, shape-of-good}
 use Rattle.laws.specs.WrittenDocuments.{result-reads-back, plain-operation-reads-back, run-operation-reads-back}
 use Rattle.laws.specs.WrittenDocuments.{plain-keeps, infer-keeps, join-keeps, check-keeps, run-keeps}
-use Rattle.laws.specs.OperationCausesHold.{plain-first, infer-first, join-first, below-first, admits-first, check-first, run-first}
+use Rattle.laws.specs.OperationCausesHold.{plain-first, infer-first, join-first, below-first, admits-first}
+use Rattle.laws.specs.OperationCausesReaders.{check-first, run-first}
 use Rattle.laws.specs.RunLaws.{run-refusals, run-steps-bounded}
 use Rattle.laws.specs.OrderLaws.{below-refl, below-trans, below-antisym}
 use Rattle.laws.specs.JoinLaws.{join-ascending, join-upper-left, join-upper-right, join-least}
