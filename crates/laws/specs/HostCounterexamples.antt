@@ -2,7 +2,7 @@
 -- would go wrong. Assumes nothing.
 use Prim.Native.Nat.{ℕ, suc, _≤_}
 use native.Mathlib.Omega.{arith}
-use mathlib.Core.Path.{_≡_, refl, sym, ap, _∙_, subst}
+use mathlib.Core.Path.{_≡_, refl, ap}
 use mathlib.Core.Bool.{Bool, true, false, false≢true}
 use mathlib.Core.List.{List, [], _∷_, map}
 use lib.Dec.{lit≤}
@@ -11,10 +11,10 @@ use Rattle.definitions.specs.declared.Limits.{Limits}
 use Rattle.definitions.specs.declared.Answer.{Answer}
 use Rattle.definitions.specs.Limits.{standard}
 use Rattle.definitions.specs.Bytes.{Bytes, bytes}
-use Rattle.definitions.specs.Outcome.{Outcome, ok, refused}
-use Rattle.definitions.specs.Value.{Value, no-members, member}
+use Rattle.definitions.specs.Outcome.{ok}
+use Rattle.definitions.specs.Value.{Value}
 use Rattle.definitions.specs.Json.{read-json}
-use Rattle.definitions.specs.Shape.{Shape, only-null, only-numeric, int-only, rec-of, field, no-fields, only-rec}
+use Rattle.definitions.specs.Shape.{Shape, only-null}
 use Rattle.definitions.specs.Admits.{admits}
 use Rattle.definitions.specs.ShapeText.{read-shape}
 use Rattle.definitions.specs.Operations.{Source, refusal, output-short}
@@ -22,6 +22,7 @@ use Rattle.definitions.specs.Calls.{answered, check-call, run-call}
 use Rattle.definitions.specs.Evaluate.{evaluate}
 use Rattle.laws.specs.Distinct.{distinct}
 use Rattle.laws.specs.Chain.{Each, each-none, each-one, Reordered, swap-first, start, Reads}
+use Rattle.laws.specs.Counterexamples.{an-int, twice, int-shape, with-a, clash, zero-source, twice-source, odd-source, odd-distinct}
 use Rattle.laws.specs.AnswerWords.{from-little-endian, word-at}
 use Rattle.laws.specs.HostChain.{Infer-call, handed-on, calls, accepts, kept-text, reached-text, accepted-samples}
 
@@ -36,14 +37,6 @@ two-left : List Bytes → Bool
 two-left [] = false
 two-left (x ∷ []) = false
 two-left (x ∷ y ∷ zs) = true
-
--- one outcome is not two
-clash : {A : Type 0} {o : Outcome ℕ A} {a : A} {n p : ℕ} → o ≡ refused n p → o ≡ ok a → ⊥
-clash {A} {o} {a} {n} {p} e f = subst Is-ok (sym f ∙ e) tt
-  where
-    Is-ok : Outcome ℕ A → Type 0
-    Is-ok (ok x) = Unit {0}
-    Is-ok (refused m q) = ⊥
 
 -- ---- long enough buffers
 
@@ -104,10 +97,6 @@ tiny-limits-lose-the-start h = let k : _≤_ 8 7 = h tiny [] in absurd (let z : 
 
 -- ---- sources
 
--- every document is refused with the number 0
-zero-source : Source
-zero-source l document = refused 0 0
-
 pub unnumbered-refusal-loses-the-shape
     : ((source : Source) → ((l : Limits) (document : Bytes) (v : Value) → source l document ≡ ok v → distinct v ≡ true)
     → (list : List Infer-call) → (s : Shape) × (read-shape standard (reached-text source standard list start) ≡ ok s))
@@ -116,37 +105,14 @@ unfolding evaluate start from-little-endian word-at handed-on calls accepts kept
 unnumbered-refusal-loses-the-shape h =
     clash {n = 7} {p = 0} refl (h zero-source (λ l d v e. absurd (clash refl e)) (lent 30 40 [] ∷ []) .1)
 
--- every document is a record with the name a twice, the second time a text
-twice : Value
-twice =
-    Value.rec
-    (member (bytes "a") (Value.number (record { negative = false; coefficient = 1; scale = 0 })) (member (bytes "a") (Value.text []) no-members))
-
-twice-source : Source
-twice-source l document = ok twice
-
-with-a : Shape
-with-a = only-rec (rec-of (field (bytes "a") (only-numeric int-only) no-fields))
-
 pub repeated-name-is-not-admitted
     : ((source : Source) (list : List Infer-call) (s : Shape) (v : Value) (d : Bytes)
     → read-shape standard (reached-text source standard list start) ≡ ok s
     → accepted-samples source standard list start ≡ d ∷ [] → source standard d ≡ ok v → admits s v ≡ true)
     → ⊥
-unfolding evaluate start from-little-endian word-at handed-on calls accepts kept-text reached-text accepted-samples lent twice-source twice with-a
+unfolding evaluate start from-little-endian word-at handed-on calls accepts kept-text reached-text accepted-samples
+    lent twice-source twice with-a an-int int-shape
 repeated-name-is-not-admitted h = false≢true (h twice-source (lent 60 40 [] ∷ []) with-a twice [] refl refl refl)
-
--- every document is a record with one name, which is no UTF-8
-odd-source : Source
-odd-source l document = ok (Value.rec (member (0xFF ∷ []) Value.null no-members))
-
-odd-distinct : (l : Limits) (document : Bytes) (v : Value) → odd-source l document ≡ ok v → distinct v ≡ true
-unfolding evaluate odd-source distinct
-odd-distinct l document v e = subst Distinct-ok e refl
-  where
-    Distinct-ok : Outcome ℕ Value → Type 0
-    Distinct-ok (ok x) = distinct x ≡ true
-    Distinct-ok (refused n p) = Unit {0}
 
 pub name-that-is-no-utf8-loses-the-shape
     : ((source : Source) → ((l : Limits) (document : Bytes) (v : Value) → source l document ≡ ok v → distinct v ≡ true)

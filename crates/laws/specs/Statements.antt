@@ -282,6 +282,18 @@ pub record Running-by-the-rules : Type 0 where
   pub numbers : (r : Result) (l : Limits) (v : Value) (n p : ℕ) → run-reader r l v ≡ refused n p → (n ≡ 12) ⊎ (n ≡ 13)
   pub within-the-limit : (r : Result) (l : Limits) (v : Value) (x : Ran Value) → run-reader r l v ≡ ok x → x .steps ≤ l .steps
 
+-- of the limits running knows the steps alone: a value is given, in as many steps, under every limit that has them; what is stuck stays so
+-- under every limit that is no smaller; and 13 means that there were too few
+pub record Only-the-steps-run-out : Type 0 where
+  pub given-again
+      : (r : Result) (l m : Limits) (v : Value) (x : Ran Value) → run-reader r l v ≡ ok x → x .steps ≤ m .steps → run-reader r m v ≡ ok x
+  pub stuck-again
+      : (r : Result) (l m : Limits) (v : Value) (p : ℕ) → run-reader r l v ≡ refused 12 p → l .steps ≤ m .steps
+      → run-reader r m v ≡ refused 12 p
+  pub too-few
+      : (r : Result) (l m : Limits) (v : Value) (p : ℕ) (x : Ran Value) → run-reader r l v ≡ refused 13 p → run-reader r m v ≡ ok x
+      → l .steps < x .steps
+
 -- ---- soundness: demand 3, "the reader never gets stuck on it: it gives a value that its own result shape admits, or
 -- meets the step .. limit"
 

@@ -25,6 +25,7 @@ use Rattle.laws.specs.AdmitsLaws.{admits-below, below-admits}
 use Rattle.laws.specs.SizeLaws.{forms-mono, levels-mono, write-mono}
 use Rattle.laws.specs.CheckRulesHold.{checks-exactly, refuses-exactly, check-refusals}
 use Rattle.laws.specs.RunRulesHold.{runs-exactly, stuck-exactly, out-exactly}
+use Rattle.laws.specs.SoundSteps.{run-enough, run-stuck, run-13}
 use Rattle.laws.specs.Soundness.{sound}
 use Rattle.laws.specs.Chain.{Proper-source}
 use Rattle.laws.specs.Demand3.{demand-3}
@@ -40,7 +41,7 @@ use Rattle.laws.specs.Statements.{Checking-by-the-rules, Running-by-the-
 use Rattle.laws.specs.Statements.{Demand-3-for-documents, Standard-in-range}
 use Rattle.laws.specs.Statements.{Written-documents-read-back, Calls-keep-the-output, Refused-with-the-first-cause}
 use Rattle.laws.specs.Statements.{Calls-are-operations, Answers-read-back, Demand-3-of-calls-from-every-source, Demand-3-of-calls}
-use Rattle.laws.specs.Statements.{Results-handed-on}
+use Rattle.laws.specs.Statements.{Only-the-steps-run-out, Results-handed-on}
 
 -- ---- reading
 
@@ -150,6 +151,9 @@ running-by-the-rules =
       numbers = run-refusals;
       within-the-limit = run-steps-bounded;
     }
+
+pub only-the-steps-run-out : Only-the-steps-run-out
+only-the-steps-run-out = record { given-again = run-enough; stuck-again = run-stuck; too-few = run-13 }
 
 -- ---- soundness and demand 3
 
