@@ -1,10 +1,10 @@
--- `json::parts::close` meets its contract. Assumes nothing.
+-- `json::parts::put_row_of` meets its contract. Assumes nothing.
 use borrow.Author.Needs.{needs}
 use Prim.Native.Nat.{ℕ, _-_, _*_}
 use mathlib.Core.Path.{refl, ap, _∙_}
 use Rattle.nodes.specs.RowLaws.{with-row}
-use Rattle.json.proofs.parts.close.Statement.{statement}
-use Rattle.json.proofs.parts.close.Tie as tie
+use Rattle.json.proofs.parts.put_row_of.Statement.{statement}
+use Rattle.json.proofs.parts.put_row_of.Tie as tie
 
 returns : tie.Need-returns
 returns c =
@@ -19,8 +19,8 @@ returns c =
       answer = refl;
     }
 
-pub close-spec : {M : Type 1} → statement M
-close-spec =
+pub put-row-of-spec : {M : Type 1} → statement M
+put-row-of-spec =
     tie.close
     (tie.spec
     (λ c κs. search needs) (λ c. search needs) (λ c. search needs) (λ c. search needs) (λ c κs. search needs) (λ c. search needs)

@@ -1,10 +1,10 @@
--- `join::passed` meets its contract. Assumes nothing.
+-- `join::second_step` meets its contract. Assumes nothing.
 use mathlib.Core.Path.{sym, ap, _∙_}
 use denote.Ref.{now}
 use borrow.Author.Needs.{needs}
 use Rattle.join.specs.Joining.{passed-words}
-use Rattle.join.proofs.passed.Statement.{statement}
-use Rattle.join.proofs.passed.Tie as tie
+use Rattle.join.proofs.second_step.Statement.{statement}
+use Rattle.join.proofs.second_step.Tie as tie
 
 returns-2 : tie.Need-returns-2
 returns-2 c =
@@ -16,8 +16,8 @@ returns-3 c =
     let at-start = c .before .before .before .before in
     c .size2 .ensures ∙ ap (passed-words (now (at-start .args .second)) (at-start .args .other)) (sym (c .before .enum-told3 .given .1))
 
-pub passed-spec : {M : Type 1} → statement M
-passed-spec =
+pub second-step-spec : {M : Type 1} → statement M
+second-step-spec =
     tie.close
     (tie.spec
     (λ c. search needs) (λ c. search needs) (λ c κs. search needs) (λ c. search needs) (λ c κs. search needs) (λ c. search needs)

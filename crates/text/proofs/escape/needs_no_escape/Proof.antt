@@ -1,11 +1,11 @@
--- `text::escape::is_itself` meets its contract. Assumes nothing.
+-- `text::escape::needs_no_escape` meets its contract. Assumes nothing.
 use mathlib.Core.Path.{sym, ap, _∙_}
 use mathlib.Core.Bool.{not, true≢false}
 use native.Mathlib.Omega.{arith}
 use borrow.Author.Tests.{eq-eqb}
 use Rattle.text.proofs.Escaped.{itself}
-use Rattle.text.proofs.escape.is_itself.Statement.{statement}
-use Rattle.text.proofs.escape.is_itself.Tie as tie
+use Rattle.text.proofs.escape.needs_no_escape.Statement.{statement}
+use Rattle.text.proofs.escape.needs_no_escape.Tie as tie
 
 returns : tie.Need-returns
 returns c e = absurd (true≢false (sym e))
@@ -16,5 +16,5 @@ returns-2 c e = absurd (true≢false (sym e))
 returns-3 : tie.Need-returns-3
 returns-3 c e = itself _ (omega arith) (c .if2 .left) (λ q. true≢false (sym e ∙ ap not (eq-eqb _ _ q)))
 
-pub is-itself-spec : {M : Type 1} → statement M
-is-itself-spec = tie.close (tie.spec returns returns-2 returns-3)
+pub needs-no-escape-spec : {M : Type 1} → statement M
+needs-no-escape-spec = tie.close (tie.spec returns returns-2 returns-3)

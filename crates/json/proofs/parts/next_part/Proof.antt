@@ -1,11 +1,11 @@
--- `json::parts::go_on` meets its contract. Assumes nothing.
+-- `json::parts::next_part` meets its contract. Assumes nothing.
 use borrow.Author.Needs.{needs}
 use mathlib.Core.Path.{sym, _∙_}
 use native.Mathlib.Omega.{arith}
 use Rattle.json.proofs.White.{token}
-use Rattle.json.proofs.Turns.{go-on-more, go-on-stop, go-on-broken}
-use Rattle.json.proofs.parts.go_on.Statement.{statement}
-use Rattle.json.proofs.parts.go_on.Tie as tie
+use Rattle.json.proofs.Turns.{next-part-more, next-part-stop, next-part-broken}
+use Rattle.json.proofs.parts.next_part.Statement.{statement}
+use Rattle.json.proofs.parts.next_part.Tie as tie
 
 returns : tie.Need-returns
 returns c =
@@ -13,7 +13,7 @@ returns c =
     let next = token (c .before .before .skip-white .ensures) (sym (c .before .peek .ensures) ∙ c .if1 .taken) (omega arith) in
     record {
       answer = λ k e f left values nodes₀ pool₀ pool op.
-          go-on-more (start .args .c) (start .args .to) (start .pre) k e f op next;
+          next-part-more (start .args .c) (start .args .to) (start .pre) k e f op next;
       ahead = next .ahead;
     }
 
@@ -24,9 +24,9 @@ returns-2 c =
     let start = byte .before .before .before .before in
     record {
       answer = λ k e f left values nodes₀ pool₀ pool op.
-          go-on-stop (start .args .c) (start .args .to) (start .pre) k e f op
+          next-part-stop (start .args .c) (start .args .to) (start .pre) k e f op
           (token (byte .before .skip-white .ensures) (sym (byte .peek .ensures) ∙ shut .if2 .taken) (start .pre .closes))
-          (c .before .before .close .ensures);
+          (c .before .before .put-row-of .ensures);
       ahead = tt;
     }
 
@@ -36,7 +36,7 @@ returns-3 c =
     let start = byte .before .before .before .before in
     record {
       answer = λ k e f left values nodes₀ pool₀ pool op.
-          go-on-broken (start .args .c) (start .args .to) (start .pre) k e f op
+          next-part-broken (start .args .c) (start .args .to) (start .pre) k e f op
           (record {
             skips = byte .before .skip-white .ensures;
             first = λ q. c .before .if1 .left (byte .peek .ensures ∙ q);
@@ -45,8 +45,8 @@ returns-3 c =
       ahead = tt;
     }
 
-pub go-on-spec : {M : Type 1} → statement M
-go-on-spec =
+pub next-part-spec : {M : Type 1} → statement M
+next-part-spec =
     tie.close
     (tie.spec
     (λ c κs. search needs) (λ c κs. search needs) (λ c. search needs)
