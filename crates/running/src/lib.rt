@@ -1,0 +1,4 @@
+// Running a reader.
+mod going; // where running stands, and what it comes to
+mod kinds; // the kinds that forms want
+mod places;
