@@ -121,10 +121,9 @@ module _ {forms nodes pool bindings : List ℕ} {limit row bound steps : ℕ} wh
                   ∙ ap (refused 12) (sym (g ∙ stands-at (m .stands)));
             }
 
-        pub judged-at : b ≡ true → Sees-operand forms nodes pool bindings limit row bound steps r
+        pub judged-at : b ≡ true → Sees-operand forms nodes pool bindings limit row bound steps (Seen-is.At at behind)
         judged-at n =
-            subst (Sees-operand forms nodes pool bindings limit row bound steps) (sym e)
-            (record {
+            record {
               told = λ l p form env m.
                   let h = has-place form m placed in
                   let x = seen s e h in
@@ -138,4 +137,4 @@ module _ {forms nodes pool bindings : List ℕ} {limit row bound steps : ℕ} wh
                     counted = x .counted;
                     left = x .left;
                   };
-            })
+            }
