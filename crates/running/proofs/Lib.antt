@@ -1,3 +1,6 @@
 pub mod Lookup
 pub mod PlaceRuns
 pub mod Operands
+pub mod PutRows
+pub mod Elements
+pub mod Named

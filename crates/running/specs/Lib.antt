@@ -7,3 +7,5 @@ pub mod Members
 pub mod Walk
 pub mod PlaceLaws
 pub mod FormLaws
+pub mod Rows
+pub mod Lengths

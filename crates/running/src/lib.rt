@@ -2,3 +2,4 @@
 mod going; // where running stands, and what it comes to
 mod kinds; // the kinds that forms want
 mod places;
+mod rows; // rows of results
