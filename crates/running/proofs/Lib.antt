@@ -4,3 +4,4 @@ pub mod Operands
 pub mod PutRows
 pub mod Elements
 pub mod Named
+pub mod Closing

@@ -9,3 +9,4 @@ pub mod PlaceLaws
 pub mod FormLaws
 pub mod Rows
 pub mod Lengths
+pub mod Singles

@@ -122,13 +122,19 @@ pub record Entered (forms nodes pool bindings results : List ℕ) (limit : ℕ) 
   pub left : c .steps < limit
   pub coded : getD forms (c .row) 0 % 32 ≡ code
 
--- its place has given the value at a row
-pub record Following (forms nodes pool bindings results : List ℕ) (limit : ℕ) (c : Cursor) (at steps : ℕ) : Type 0 where
+-- its place has given the value at a row, and its code lies between two
+pub record Following (forms nodes pool bindings results : List ℕ) (limit : ℕ) (c : Cursor) (at steps from to : ℕ) : Type 0 where
   pub ready : Ready forms nodes pool bindings results limit c
   pub value : Value
   pub bound : Bound nodes (ready .used) at value
   pub counted : c .steps < steps
   pub left : steps ≤ limit
+  pub late : from ≤ getD forms (c .row) 0 % 32
+  pub early : getD forms (c .row) 0 % 32 ≤ to
+
+-- a branch of the form at c
+abbrev pub branch : Cursor → (row bound steps : ℕ) → Cursor
+branch c row bound steps = record { row = row; name = c .name; bound = bound; begun = c .begun; steps = steps }
 
 -- ---- what is answered
 
