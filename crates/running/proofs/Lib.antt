@@ -5,3 +5,4 @@ pub mod PutRows
 pub mod Elements
 pub mod Named
 pub mod Closing
+pub mod SingleRows

@@ -47,6 +47,22 @@ bound-bounded (missing e) = tt
 pub few-begun : {limit : ℕ} {c : Cursor} {steps : ℕ} → Giving limit c steps → c .begun < 2 ^ 60
 few-begun g = omega (arith, g .paid, g .counted, g .left, g .few)
 
+literal-row-of
+    : {p : List ℕ} {v : Value} {k : ℕ} (name : ℕ) → Literal-payload p v k → Rows p name v (head-word v ∷ k ∷ name ∷ [])
+literal-row-of name null-payload = null-row
+literal-row-of name yes-payload = bool-row
+literal-row-of name no-payload = bool-row
+literal-row-of name number-payload = number-row
+literal-row-of name (text-payload f) = text-row f
+
+literal-one : {p : List ℕ} {v : Value} {k : ℕ} → Literal-payload p v k → size v ≡ 1
+unfolding size
+literal-one null-payload = refl
+literal-one yes-payload = refl
+literal-one no-payload = refl
+literal-one number-payload = refl
+literal-one (text-payload f) = refl
+
 -- a value that is put
 module _ {results results′ : List ℕ} {limit : ℕ} {c : Cursor} {steps : ℕ} (g : Giving limit c steps) where
   made
@@ -103,22 +119,6 @@ module _ {results results′ : List ℕ} {limit : ℕ} {c : Cursor} {steps : ℕ
 
   -- ---- a literal
 
-  literal-row-of
-      : {p : List ℕ} {v : Value} {k : ℕ} (name : ℕ) → Literal-payload p v k → Rows p name v (head-word v ∷ k ∷ name ∷ [])
-  literal-row-of name null-payload = null-row
-  literal-row-of name yes-payload = bool-row
-  literal-row-of name no-payload = bool-row
-  literal-row-of name number-payload = number-row
-  literal-row-of name (text-payload f) = text-row f
-
-  literal-one : {p : List ℕ} {v : Value} {k : ℕ} → Literal-payload p v k → size v ≡ 1
-  unfolding size
-  literal-one null-payload = refl
-  literal-one yes-payload = refl
-  literal-one no-payload = refl
-  literal-one number-payload = refl
-  literal-one (text-payload f) = refl
-
   pub literal-given-here
       : {forms pool : List ℕ} {begun head payload : ℕ}
       → ((p : List ℕ) (v : Value) → Literal-at forms pool (c .row) p v → head ≡ head-word v)
@@ -138,24 +138,41 @@ module _ {results results′ : List ℕ} {limit : ℕ} {c : Cursor} {steps : ℕ
       }
 
 -- a document of so many words has no more elements
+count-less : (vs : Items) → count vs ≤ size-items vs
+unfolding count size
+count-less no-items = omega arith
+count-less (item v vs) = omega (arith, count-less vs, size-some v)
+
+count-of-less : (v : Value) → count (items-of v) ≤ size v
+unfolding items-of count size
+count-of-less Value.null = omega arith
+count-of-less (Value.bool b) = omega arith
+count-of-less (Value.number x) = omega arith
+count-of-less (Value.text t) = omega arith
+count-of-less (Value.list vs) = omega (arith, count-less vs)
+count-of-less (Value.rec ms) = omega arith
+
 pub count-few
     : {nodes : List ℕ} {at n : ℕ} → Some-bound nodes at 0 → ((p : List ℕ) (v : Value) → Bound nodes p at v → n ≡ count (items-of v)) → n ≤ 65536
-unfolding size
-count-few s m = omega (arith, m (s .used) (s .value) (s .bound), go (s .value), bound-size (s .bound) (s .small))
-  where
-    less : (vs : Items) → count vs ≤ size-items vs
-    unfolding count size
-    less no-items = omega arith
-    less (item v vs) = omega (arith, less vs, size-some v)
-
-    go : (v : Value) → count (items-of v) ≤ size v
-    go v = ?
+count-few s m = omega (arith, m (s .used) (s .value) (s .bound), count-of-less (s .value), bound-size (s .bound) (s .small))
 
 -- ---- first words
 
 module _ {bits coefficient : ℕ} where
   as-word : (x : Number) → Number-word bits coefficient x → as-number (eqb (bits % 2) 1) coefficient (bits / 2) ≡ x
-  as-word x w = ?
+  unfolding sign-bit
+  as-word x w =
+      ap (λ (b : Bool). as-number b coefficient (bits / 2)) (signed (x .negative) (w .signed))
+      ∙ ap (λ (n : ℕ). as-number (x .negative) n (bits / 2)) (w .whole)
+      ∙ ap (λ (n : ℕ). as-number (x .negative) (x .coefficient) n) (scaled (x .negative) (w .signed))
+    where
+      signed : (b : Bool) → bits ≡ sign-bit b + 2 * x .scale → eqb (bits % 2) 1 ≡ b
+      signed true h = ap (λ (n : ℕ). eqb n 1) (let e : bits % 2 ≡ 1 = omega (arith, h) in e)
+      signed false h = ap (λ (n : ℕ). eqb n 1) (let e : bits % 2 ≡ 0 = omega (arith, h) in e)
+
+      scaled : (b : Bool) → bits ≡ sign-bit b + 2 * x .scale → bits / 2 ≡ x .scale
+      scaled true h = omega (arith, h)
+      scaled false h = omega (arith, h)
 
   pub number-bounded : (n : Some-number bits coefficient) → Bounded (as-number (eqb (bits % 2) 1) coefficient (bits / 2))
   number-bounded n = subst Bounded (sym (as-word (n .number) (n .held))) (n .held .bounded)
@@ -178,3 +195,95 @@ module _ {bits coefficient : ℕ} where
       → (x : Number) → Number-word bits coefficient x → head ≡ head-word (Value.number x)
   unfolding kind-code number-bits plain
   number-made e h x w = h ∙ head-word-is (Value.number x) refl (w .signed) (e ∙ ap (λ (y : Number). length (plain-number y)) (as-word x w))
+
+-- the literal of a code
+module _ {forms pool : List ℕ} {row code : ℕ} (coded : code ≡ getD forms row 0 % 32) where
+  pub literal-number
+      : code ≡ 12 → {bits payload : ℕ} → bits ≡ getD forms row 0 / 32 % 64 → payload ≡ getD forms (row + 1) 0 → (p : List ℕ) (v : Value)
+      → Literal-at forms pool row p v → (x : Number) × (v ≡ Value.number x) × Number-word bits payload x
+  unfolding literal-code number-bits Bounded-numbers
+  literal-number e {bits} {payload} f g p v h = go v (h .payload) g (h .coded) (h .operand) (h .bounded)
+    where
+      go : (w : Value) {j : ℕ} → Literal-payload p w j → payload ≡ j → getD forms row 0 % 32 ≡ literal-code w → getD forms row 0 / 32 % 64 ≡ number-bits w
+          → Bounded-numbers w → (x : Number) × (w ≡ Value.number x) × Number-word bits payload x
+      go Value.null null-payload y k o b = absurd (let z : ⊥ = omega (arith, k, coded, e) in z)
+      go (Value.bool true) yes-payload y k o b = absurd (let z : ⊥ = omega (arith, k, coded, e) in z)
+      go (Value.bool false) no-payload y k o b = absurd (let z : ⊥ = omega (arith, k, coded, e) in z)
+      go (Value.number x) number-payload y k o b = (x, refl, record { signed = f ∙ o; whole = y; bounded = b })
+      go (Value.text t) (text-payload q) y k o b = absurd (let z : ⊥ = omega (arith, k, coded, e) in z)
+
+  pub literal-text
+      : code ≡ 13 → {payload : ℕ} → payload ≡ getD forms (row + 1) 0 → (p : List ℕ) (v : Value)
+      → Literal-at forms pool row p v → (t : Bytes) × (v ≡ Value.text t) × Refers p t payload
+  unfolding literal-code
+  literal-text e {payload} g p v h = go v (h .payload) g (h .coded)
+    where
+      go : (w : Value) {j : ℕ} → Literal-payload p w j → payload ≡ j → getD forms row 0 % 32 ≡ literal-code w
+          → (t : Bytes) × (w ≡ Value.text t) × Refers p t payload
+      go Value.null null-payload y k = absurd (let z : ⊥ = omega (arith, k, coded, e) in z)
+      go (Value.bool true) yes-payload y k = absurd (let z : ⊥ = omega (arith, k, coded, e) in z)
+      go (Value.bool false) no-payload y k = absurd (let z : ⊥ = omega (arith, k, coded, e) in z)
+      go (Value.number x) number-payload y k = absurd (let z : ⊥ = omega (arith, k, coded, e) in z)
+      go (Value.text t) (text-payload q) y k = (t, refl, subst (Refers p t) (sym y) q)
+
+  pub literal-yes
+      : code ≡ 14 → {head : ℕ} → head ≡ head-of 2 0 4 → (p : List ℕ) (v : Value) → Literal-at forms pool row p v → head ≡ head-word v
+  unfolding literal-code kind-code number-bits plain plain-bool true-name bytes
+  literal-yes e {head} f p v h = go v (h .payload) (h .coded)
+    where
+      go : (w : Value) {j : ℕ} → Literal-payload p w j → getD forms row 0 % 32 ≡ literal-code w → head ≡ head-word w
+      go Value.null null-payload k = absurd (let z : ⊥ = omega (arith, k, coded, e) in z)
+      go (Value.bool true) yes-payload k = f ∙ head-word-is (Value.bool true) refl refl refl
+      go (Value.bool false) no-payload k = absurd (let z : ⊥ = omega (arith, k, coded, e) in z)
+      go (Value.number x) number-payload k = absurd (let z : ⊥ = omega (arith, k, coded, e) in z)
+      go (Value.text t) (text-payload q) k = absurd (let z : ⊥ = omega (arith, k, coded, e) in z)
+
+  pub literal-no
+      : code ≡ 15 → {head : ℕ} → head ≡ head-of 1 0 5 → (p : List ℕ) (v : Value) → Literal-at forms pool row p v → head ≡ head-word v
+  unfolding literal-code kind-code number-bits plain plain-bool false-name bytes
+  literal-no e {head} f p v h = go v (h .payload) (h .coded)
+    where
+      go : (w : Value) {j : ℕ} → Literal-payload p w j → getD forms row 0 % 32 ≡ literal-code w → head ≡ head-word w
+      go Value.null null-payload k = absurd (let z : ⊥ = omega (arith, k, coded, e) in z)
+      go (Value.bool true) yes-payload k = absurd (let z : ⊥ = omega (arith, k, coded, e) in z)
+      go (Value.bool false) no-payload k = f ∙ head-word-is (Value.bool false) refl refl refl
+      go (Value.number x) number-payload k = absurd (let z : ⊥ = omega (arith, k, coded, e) in z)
+      go (Value.text t) (text-payload q) k = absurd (let z : ⊥ = omega (arith, k, coded, e) in z)
+
+  pub literal-none
+      : (code ≡ 12 → ⊥) → (code ≡ 13 → ⊥) → (code ≡ 14 → ⊥) → (code ≡ 15 → ⊥) → {head : ℕ} → head ≡ head-of 0 0 4 → (p : List ℕ) (v : Value)
+      → Literal-at forms pool row p v → head ≡ head-word v
+  unfolding literal-code kind-code number-bits plain null-name bytes
+  literal-none a b d e {head} f p v h = go v (h .payload) (h .coded)
+    where
+      go : (w : Value) {j : ℕ} → Literal-payload p w j → getD forms row 0 % 32 ≡ literal-code w → head ≡ head-word w
+      go Value.null null-payload k = f ∙ head-word-is Value.null refl refl refl
+      go (Value.bool true) yes-payload k = absurd (d (coded ∙ k))
+      go (Value.bool false) no-payload k = absurd (e (coded ∙ k))
+      go (Value.number x) number-payload k = absurd (a (coded ∙ k))
+      go (Value.text t) (text-payload q) k = absurd (b (coded ∙ k))
+
+-- a text of the pool, at a reference
+module _ {pool : List ℕ} {k w n : ℕ} (worded : w ≡ k % 65536) (sized : n ≡ k / 65536) where
+  text-here : {p : List ℕ} {t : Bytes} → Used pool p → Refers p t k → plain-text (text-in pool w n) ≡ plain-text t
+  text-here u f = ap₂ (λ (x y : ℕ). plain-text (text-in pool x y)) worded sized ∙ ap plain-text (found u f .text)
+
+  pub text-room : {p : List ℕ} {t : Bytes} → Used pool p → Refers p t k → (w + words n ≤ length pool) × (length (plain-text (text-in pool w n)) < 2 ^ 64)
+  text-room u f =
+      (subst (λ (x : ℕ). x + words n ≤ length pool) (sym worded) (subst (λ (y : ℕ). k % 65536 + words y ≤ length pool) (sym sized) (found u f .within)),
+       omega (arith, ap length (text-here u f), text-most f (u .small)))
+
+  pub text-fits
+      : {p : List ℕ} {t : Bytes} {written : ℕ} → Used pool p → Refers p t k → written ≡ length (plain-text (text-in pool w n)) → head-of 4 0 written < 2 ^ 64
+  text-fits u f e = omega (arith, e, ap length (text-here u f), text-most f (u .small))
+
+  pub text-made
+      : {p : List ℕ} {written head : ℕ} → written ≡ length (plain-text (text-in pool w n)) → head ≡ head-of 4 0 written → (v : Value)
+      → Used pool p → (t : Bytes) × (v ≡ Value.text t) × Refers p t k → head ≡ head-word v
+  unfolding kind-code number-bits plain
+  text-made e h v u (t, s, f) =
+      h ∙ head-word-is (Value.text t) refl refl (e ∙ ap length (text-here u f)) ∙ ap head-word (sym s)
+
+pub count-word : {n : ℕ} → n ≤ 65536 → Number-word 0 n (record { negative = false; coefficient = n; scale = 0 })
+unfolding sign-bit most-coefficient most-scale
+count-word h = record { signed = refl; whole = refl; bounded = record { coefficient = omega arith; scale = omega arith } }
