@@ -6,3 +6,5 @@ pub mod Elements
 pub mod Named
 pub mod Closing
 pub mod SingleRows
+pub mod FormRuns
+pub mod WhenRuns
