@@ -8,3 +8,5 @@ pub mod Closing
 pub mod SingleRows
 pub mod FormRuns
 pub mod WhenRuns
+pub mod EachRuns
+pub mod PackRuns

@@ -289,15 +289,16 @@ module _ {forms nodes pool bindings results : List ℕ} {limit : ℕ} {c : Curso
 
     pub test-refused
         : {number place : ℕ} → r ≡ Part-is.Refused number place
-        → Runs forms nodes pool bindings bindings′ results results′ limit c (Part-is.Refused number place)
+        → Runs forms nodes pool bindings bindings′ results results′ limit c r
     test-refused e =
-        record {
+        subst (Runs forms nodes pool bindings bindings′ results results′ limit c) (sym e)
+        (record {
           kept = record { bound-kept = ran .kept .bound-kept; front = ap (take (3 * c .begun)) results-kept };
           told = λ l p form env m.
               let k = chooses form m in
               entered m k ∙ laws.choose-refused (k .place) (k .one) (k .two) l env
               (subst (Comes (run (k .test) l env (c .steps + 1)) limit p results results′ (condition c results)) e (ran .told l p (k .test) env (k .tests)));
-        }
+        })
 
     module _ {kind begun steps : ℕ} (e : r ≡ Part-is.Done kind begun steps) where
       tested
@@ -396,3 +397,24 @@ module _ {forms nodes pool bindings results : List ℕ} {limit : ℕ} {c : Curso
                     (subst (λ (i : ℕ). Meets forms nodes pool bindings′ limit i (c .bound) l p (k .two) env) (sym g)
                     (meets-kept (ran .kept .bound-kept) same-bindings (k .no)))));
               }
+
+-- ---- a cursor by its name
+
+pub ready-as
+    : {forms nodes pool bindings results : List ℕ} {limit : ℕ} {b c : Cursor} → b ≡ c → Ready forms nodes pool bindings results limit c
+    → Ready forms nodes pool bindings results limit b
+ready-as {forms} {nodes} {pool} {bindings} {results} {limit} e r = subst (Ready forms nodes pool bindings results limit) (sym e) r
+
+pub runs-as
+    : {forms nodes pool bindings bindings′ results results′ : List ℕ} {limit : ℕ} {b c : Cursor} {r : Part} → b ≡ c
+    → Runs forms nodes pool bindings bindings′ results results′ limit b r → Runs forms nodes pool bindings bindings′ results results′ limit c r
+runs-as {forms} {nodes} {pool} {bindings} {bindings′} {results} {results′} {limit} {r = r} e x =
+    subst (λ c. Runs forms nodes pool bindings bindings′ results results′ limit c r) e x
+
+-- the row behind a part, and the one behind that
+pub row-behind : (forms : List ℕ) (row n : ℕ) → n ≡ size-at forms row → row + n ≡ parts.after forms row
+row-behind forms row n e = ap (λ (k : ℕ). row + k) e
+
+pub row-third
+    : (forms : List ℕ) (row second n : ℕ) → second ≡ parts.after forms row → n ≡ size-at forms second → second + n ≡ parts.after forms (parts.after forms row)
+row-third forms row second n s e = row-behind forms second n e ∙ ap (λ (i : ℕ). parts.after forms i) s
