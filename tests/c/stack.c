@@ -54,23 +54,23 @@ static const char *const patterns[] = {"[", "{", "[{", "{[", "[[{", "{{["};
 
 enum { PATTERNS = sizeof patterns / sizeof *patterns };
 
-/* What each pattern puts around a reader's innermost form, level by level. The levels leave room for the forms within one;
-   the last is one place. */
+/* What each pattern puts around a reader's innermost form, level by level; the first makes one place. The levels leave room
+   for the forms within one. With the last of the second text's values each goes with the next pattern's, which it goes down. */
 static const struct {
     const char *open, *close;
     size_t levels;
 } wrappers[PATTERNS] = {
-    {"(each (it 0) ", ")", DEPTH - 1},
+    {"(field \"name\\n\" ", ")", DEPTH - 2},
     {"(when null (field \"name\\n\" (it 0)) (none) ", ")", DEPTH - 2},
     {"(pack \"\\u0061\" (no) \"name\\n\" ", ")", DEPTH - 1},
     {"(when rec (it 0) ", " (keep (it 0)))", DEPTH - 2},
     {"(if ", " (yes) (no))", DEPTH - 1},
-    {"(field \"name\\n\" ", ")", DEPTH - 2},
+    {"(each (it 0) (when list (it 0) ", " (none)))", DEPTH / 2 - 1},
 };
 
 static void put_reader(struct draft *to, size_t pattern, const char *innermost)
 {
-    bool is_place = pattern == PATTERNS - 1;
+    bool is_place = pattern == 0;
     put(to, is_place ? "(keep " : "");
     put_times(to, wrappers[pattern].open, wrappers[pattern].levels);
     put(to, is_place ? "(it 0)" : innermost);
