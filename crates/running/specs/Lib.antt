@@ -10,3 +10,5 @@ pub mod FormLaws
 pub mod Rows
 pub mod Lengths
 pub mod Singles
+pub mod Depth
+pub mod Run
