@@ -1,17 +1,17 @@
 -- How deep the parts of a value are nested. Assumes nothing.
-use Prim.Native.Nat.{ℕ, suc, _+_, _-_, _*_, _%_, _≤_, _<_, max}
+use Prim.Native.Nat.{ℕ, suc, _+_, _-_, _%_, _≤_, _<_, max}
 use native.Mathlib.Omega.{arith}
 use mathlib.Core.Path.{_≡_, refl, sym, ap, _∙_, subst}
 use mathlib.Core.Bool.{Bool, true, false}
-use mathlib.Core.List.{List, [], _∷_, _++_, append-assoc}
+use mathlib.Core.List.{List, [], _++_, append-assoc}
 use borrow.Author.Tests.{ltb-true, ltb-false, lt-ltb, le-ltb}
 use lib.Dec.{ltb}
 use lib.ListN.{length, getD, drop, length-append}
 use lib.Seq.{drop-drop, drop-at}
-use Rattle.definitions.specs.Value.{Value, Items, no-items, item, Members, no-members, member, size, nesting, nesting-items, nesting-members}
-use Rattle.nodes.specs.Nodes.{kind-code, row-size, Rows, list-rows, rec-rows, Item-rows, no-item-rows, item-rows, Member-rows, no-member-rows, member-rows}
+use Rattle.definitions.specs.Value.{Value, Items, Members, nesting, nesting-items, nesting-members}
+use Rattle.nodes.specs.Nodes.{kind-code, row-size, Rows, Item-rows, no-item-rows, item-rows, Member-rows, no-member-rows, member-rows}
 use Rattle.nodes.specs.NodesLaws.{length-rows, row-size-is}
-use Rattle.nodes.specs.Standing.{Value-stands, Items-stand, Members-stand}
+use Rattle.nodes.specs.Standing.{Value-stands}
 use Rattle.nodes.specs.StandingLaws.{size-some, value-head, value-size, value-within, list-stands, rec-stands}
 use Rattle.plain.specs.HeadLaws.{head-kind}
 use Rattle.running.specs.Depth.{Some-value}
@@ -65,7 +65,8 @@ first-nested {nodes} {p} {i} {end} h left = go (h .encoded) (h .placed) (h .reac
                 rows = qs;
                 rest = h .rest;
                 encoded = is;
-                placed = sym (drop-drop (row-size nodes i) i nodes) ∙ ap (drop (row-size nodes i)) whole ∙ drop-at rs (qs ++ h .rest) (row-size nodes i) (sym sized);
+                placed =
+                    sym (drop-drop (row-size nodes i) i nodes) ∙ ap (drop (row-size nodes i)) whole ∙ drop-at rs (qs ++ h .rest) (row-size nodes i) (sym sized);
                 reaches = omega (arith, length-append rs qs, sized);
               };
         }
@@ -127,15 +128,17 @@ module _ {nodes : List ℕ} {at : ℕ} where
   parts-of k h p m (Value.number x) s = absurd (let z : ⊥ = omega (arith, k, h, stands-kind s) in z)
   parts-of k h p m (Value.text t) s = absurd (let z : ⊥ = omega (arith, k, h, stands-kind s) in z)
   parts-of k h p m (Value.list vs) s =
-      let q = list-stands s in
-      (nesting-items vs,
-       record { rows = q .rows; rest = q .rest; encoded = items-nested (q .encoded); placed = q .placed; reaches = q .reaches },
-       refl)
+      let q = list-stands s in (
+        nesting-items vs,
+        record { rows = q .rows; rest = q .rest; encoded = items-nested (q .encoded); placed = q .placed; reaches = q .reaches },
+        refl,
+      )
   parts-of k h p m (Value.rec ms) s =
-      let q = rec-stands s in
-      (nesting-members ms,
-       record { rows = q .rows; rest = q .rest; encoded = members-nested (q .encoded); placed = q .placed; reaches = q .reaches },
-       refl)
+      let q = rec-stands s in (
+        nesting-members ms,
+        record { rows = q .rows; rest = q .rest; encoded = members-nested (q .encoded); placed = q .placed; reaches = q .reaches },
+        refl,
+      )
 
 -- ---- the loop: it is deep where what is left of its parts is
 
@@ -160,7 +163,8 @@ module _ (nodes : List ℕ) (at left : ℕ) where
 
     module _ {b : Bool} (told : (p : List ℕ) (m : ℕ) (v : Value) → Value-stands nodes p i m v → b ≡ ltb (left - 1) (nesting v)) where
       pub part-deep
-          : i < at + row-size nodes at → b ≡ true → (left ≡ 0 → ⊥) → (p : List ℕ) (m : ℕ) (v : Value) → Value-stands nodes p at m v → true ≡ ltb left (nesting v)
+          : i < at + row-size nodes at → b ≡ true → (left ≡ 0 → ⊥) → (p : List ℕ) (m : ℕ) (v : Value) → Value-stands nodes p at m v
+          → true ≡ ltb left (nesting v)
       part-deep more t n p m v s =
           let q = w .going p m v s in
           let f = first-nested (q .1) more in

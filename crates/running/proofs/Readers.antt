@@ -1,29 +1,26 @@
 -- What running a reader answers. Assumes nothing.
-use Prim.Native.Nat.{ℕ, suc, _+_, _*_, _≤_, _<_}
+use Prim.Native.Nat.{ℕ, _+_, _*_, _≤_, _<_}
 use native.Mathlib.Omega.{arith}
 use mathlib.Core.Path.{_≡_, refl, sym, ap, ap₂, _∙_, subst}
 use mathlib.Core.Bool.{Bool, true, false, _||_}
 use mathlib.Core.List.{List, [], _∷_, _++_}
 use borrow.Author.Tests.{lt-ltb, le-ltb}
 use lib.Dec.{ltb}
-use lib.ListN.{length, take, drop, set, length-set, take-append-drop}
+use lib.ListN.{length, drop, set, length-set, take-append-drop}
 use lib.Seq.{getD-set-same}
 use Rattle.definitions.specs.declared.Limits.{Limits}
-use Rattle.definitions.specs.Limits.{over}
-use Rattle.definitions.specs.Outcome.{Outcome, refused}
 use Rattle.definitions.specs.Value.{Value, size, nesting}
 use Rattle.definitions.specs.Reader.{Result}
-use Rattle.definitions.specs.Running.{gives, run, run-reader}
+use Rattle.definitions.specs.Running.{run, run-reader}
 use Rattle.nodes.specs.Standing.{Value-stands}
-use Rattle.plain.specs.Table.{Stands, Holds}
 use Rattle.running.specs.declared.going.Cursor.{Cursor}
 use Rattle.running.specs.declared.going.Part.{Part}
 use Rattle.running.specs.declared.going.Part.the-variants as Part-is
 use Rattle.running.specs.declared.Came.the-variants as Came-is
-use Rattle.running.specs.Bindings.{Bound, standing, Binds, no-binding, binding}
+use Rattle.running.specs.Bindings.{Bound, standing, no-binding, binding}
 use Rattle.running.specs.Depth.{Some-value}
-use Rattle.running.specs.Run.{Reads-both, Runnable, Ran-to, Ran-over, Runs-reader}
-use Rattle.running.specs.Walk.{Meets, Ready, Appended, Puts, Made, Comes, Runs}
+use Rattle.running.specs.Run.{Reads-both, Runnable, Runs-reader}
+use Rattle.running.specs.Walk.{Meets, Ready, Made, Comes, Runs}
 
 -- where it begins
 abbrev pub start : Cursor
@@ -84,7 +81,8 @@ module _ {forms nodes pool : List ℕ} (bindings : List ℕ) {l : Limits} (room 
                   value = x .value;
                   steps = steps;
                   ran = x .ran;
-                  too-much = ap (λ (y : Bool). y || ltb (l .nesting) (nesting (x .value))) (lt-ltb (l .values) (size (x .value)) (omega (arith, h, x .puts .counted)));
+                  too-much =
+                      ap (λ (y : Bool). y || ltb (l .nesting) (nesting (x .value))) (lt-ltb (l .values) (size (x .value)) (omega (arith, h, x .puts .counted)));
                 };
           }
 
@@ -97,7 +95,8 @@ module _ {forms nodes pool : List ℕ} (bindings : List ℕ) {l : Limits} (room 
               rows = a .rows;
               rest = drop (3 * (0 + size (x .value))) results′;
               encoded = a .encoded;
-              placed = sym (take-append-drop (3 * (0 + size (x .value))) results′) ∙ ap (λ (t : List ℕ). t ++ drop (3 * (0 + size (x .value))) results′) (a .placed);
+              placed =
+                  sym (take-append-drop (3 * (0 + size (x .value))) results′) ∙ ap (λ (t : List ℕ). t ++ drop (3 * (0 + size (x .value))) results′) (a .placed);
             }
 
         pub some-value : Runnable forms nodes pool bindings results l → length results′ ≡ length results → Some-value results′ 0

@@ -12,3 +12,4 @@ pub mod Lengths
 pub mod Singles
 pub mod Depth
 pub mod Run
+pub mod RunEnds

@@ -44,7 +44,11 @@ pub fn run(
         steps: 0,
     };
     match walk::run_form(forms, nodes, pool, bindings, results, limits.steps, start) {
-        Part::Done { kind: _, begun, steps } => {
+        Part::Done {
+            kind: _,
+            begun,
+            steps,
+        } => {
             if limits.values < begun {
                 return Came::Over;
             }
