@@ -12,8 +12,6 @@ use Rattle.pool.specs.Pool.{text-in}
 use Rattle.nodes.specs.Standing.{Items-stand, Members-stand}
 use Rattle.plain.specs.Table.{Bounded-items, Bounded-members, Used, Holds}
 use Rattle.shapes.specs.Shapes.{has-bit}
-use Rattle.shapes.specs.declared.Member.{Member}
-use Rattle.shapes.specs.Members.{Listed, Tells}
 use Rattle.shapes.specs.Held.{Holds-shape, Holds-fields}
 
 -- ---- what a value holds
@@ -85,9 +83,3 @@ Lacks shapes row nodes at end pool r =
     → r
     ≡ (has-name (text-in pool (getD shapes (row + 1) 0 % 65536) (getD shapes (row + 1) 0 / 65536)) ms
     || has-bit (getD shapes row 0 % 128) 1)
-
--- the member that has the name of the value at a row
-abbrev pub Lists : (shapes : List ℕ) (from to : ℕ) (nodes : List ℕ) (at : ℕ) (pool : List ℕ) → Member → Type 0
-Lists shapes from to nodes at pool r =
-    (p : List ℕ) (fs : Fields) → Listed shapes pool from to p fs
-    → Tells shapes p to (text-in pool (getD nodes (at + 2) 0 % 65536) (getD nodes (at + 2) 0 / 65536)) fs r

@@ -6,15 +6,14 @@ ghost use Rattle.definitions.specs.Admits.{kind-of};
 ghost use Rattle.nodes.specs.Nodes.{head-word};
 ghost use Rattle.plain.specs.Table.{Bounded-numbers};
 ghost use Rattle.shapes.specs.Shapes.{kind-bit};
-ghost use Rattle.shapes.specs.Members.{Some-listed};
 ghost use Rattle.nodes.specs.Standing.{Members-held};
-ghost use Rattle.admits.specs.Admission.{Value-asked, Value-told, Items-asked, Items-told, Members-asked, Members-told, Nulls-told, Lacks, Lists};
+ghost use Rattle.admits.specs.Admission.{Value-asked, Value-told, Items-asked, Items-told, Members-asked, Members-told, Nulls-told, Lacks};
 use shapes::Member;
 use shapes::Shape;
 
 // The bit of the kind of the value at a row.
-fn kind_bit(nodes: &[u64], at: usize) -> u64
-    ensures told { λ r. ⌜ ((v : Value) → getD (now (nodes .entry)) at 0 ≡ head-word v → Bounded-numbers v → r ≡ kind-bit (kind-of v)) ⌝ }
+fn kind_bit(nodes: &[u64], at: usize) -> Shape
+    ensures told { λ r. ⌜ ((v : Value) → getD (now (nodes .entry)) at 0 ≡ head-word v → Bounded-numbers v → r .kinds ≡ kind-bit (kind-of v)) ⌝ }
 {
     let kind = nodes::row_kind(nodes, at);
     if kind == nodes::NULL {
@@ -76,22 +75,6 @@ fn missing_have_null(
 
 // ---- values
 
-// The member listed from one row up to another that has the name of the value at a row.
-fn listed(shapes: &[u64], from: usize, to: usize, nodes: &[u64], at: usize, pool: &[u64]) -> Member
-    requires { ⌜ Some-listed (now shapes) (now pool) from to ⌝ }
-    ensures told { λ r. ⌜ Lists (now (shapes .entry)) from to (now (nodes .entry)) at (now (pool .entry)) r ⌝ }
-{
-    let k = nodes::row_name(nodes, at);
-    shapes::find_member(
-        shapes,
-        from,
-        to,
-        pool,
-        nodes::text_word(k),
-        nodes::text_bytes(k),
-    )
-}
-
 // Whether the shape at a row admits the elements that stand from one row up to another.
 fn admits_items(
     shapes: &[u64],
@@ -129,7 +112,8 @@ fn admits_members(
 {
     let mut i = at;
     while i < end {
-        let Member::Found { row } = listed(shapes, from, to, nodes, i, pool) else {
+        let named = shapes::find_named(shapes, from, to, pool, nodes::row_name(nodes, i));
+        let Member::Found { row } = named else {
             return false; // not listed
         };
         if !admits(shapes, row, nodes, i, pool) {
@@ -149,11 +133,11 @@ pub fn admits(shapes: &[u64], row: usize, nodes: &[u64], at: usize, pool: &[u64]
     if !shapes::has(shapes::kinds(shapes, row), bit) {
         return false;
     }
-    if bit < Shape::LIST {
+    if bit.kinds < Shape::LIST.kinds {
         return true;
     }
     let end = at + nodes::row_size(nodes, at);
-    if bit == Shape::LIST {
+    if bit.kinds == Shape::LIST.kinds {
         return admits_items(shapes, row + 2, nodes, at + 3, end, pool);
     }
     let from = shapes::members(shapes, row);

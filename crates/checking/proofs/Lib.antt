@@ -2,3 +2,11 @@ pub mod KindTests
 pub mod Elements
 pub mod Members
 pub mod PlaceWalk
+pub mod SimpleForms
+pub mod FormWalk
+pub mod EachWalk
+pub mod WhenWalk
+pub mod ChooseWalk
+pub mod PackWalk
+pub mod FormKinds
+pub mod ReaderWalk

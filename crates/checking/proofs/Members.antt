@@ -1,27 +1,26 @@
 -- The member that `field` gives, as it is looked for in the table. Assumes nothing.
-use Prim.Native.Nat.{ℕ, _+_, _*_, _/_, _%_, _≤_, _<_}
-use mathlib.Core.Path.{_≡_, refl, sym, ap, ap₂, subst, _∙_}
+use Prim.Native.Nat.{ℕ, _+_, _/_, _%_, _≤_}
+use mathlib.Core.Path.{_≡_, refl, sym, ap, subst, _∙_}
 use mathlib.Core.Bool.{Bool, true, false, not}
 use mathlib.Core.List.{List}
-use mathlib.Core.Option.{none}
 use native.Mathlib.Omega.{arith}
 use lib.Bits.{bitAnd}
 use lib.Dec.{eqb}
 use lib.ListN.{length, getD}
 use Rattle.definitions.specs.Bytes.{Bytes}
-use Rattle.definitions.specs.Shape.{Kind, Shape, rec-of, Fields, find, within, record-of, has, forms}
-use Rattle.definitions.specs.Checking.{field-kinds, field-shape}
+use Rattle.definitions.specs.Shape.{Kind, Shape, rec-of, Fields, within, record-of, has}
+use Rattle.definitions.specs.Checking.{field-kinds}
 use Rattle.laws.specs.Bools.{clash}
 use Rattle.pool.specs.Pool.{text-in}
 use Rattle.nodes.specs.StandingLaws.{text-referred}
 use Rattle.shapes.specs.Shapes.{kind-bit, has-bit, members-at, size-at}
 use Rattle.shapes.specs.ShapesLaws.{has-kind, stands-row, stands-size, stands-within}
-use Rattle.shapes.specs.Members.{Listed, Some-listed, Tells, Found-at}
+use Rattle.shapes.specs.Members.{Listed, Some-listed, Tells, Names}
 use Rattle.shapes.specs.declared.Member.{Member}
 use Rattle.shapes.specs.declared.Member.the-variants as member
 use Rattle.checking.specs.declared.places.Located.the-variants as located
 use Rattle.checking.specs.Bindings.{Bound}
-use Rattle.checking.specs.BindingsLaws.{Members-bound, bound-members, found-bound}
+use Rattle.checking.specs.BindingsLaws.{bound-members, found-bound}
 use Rattle.checking.specs.WantsLaws.{within-told, rec-wanted, field-unmet, field-nothing, field-missing, field-found, rec-there, rec-lacks}
 use Rattle.checking.specs.CheckContracts.{Meets-field, Field-asked, Gives-field}
 
@@ -76,17 +75,14 @@ module _ (shapes pool : List ℕ) (row kinds k place : ℕ) {w : Bool} (told : w
         pub listed-asked : Field-asked shapes pool row kinds k → Some-listed shapes pool from (row + size)
         listed-asked h = record { used = h .p; fields = fields (h .meets .bound) .0; listed = lists (h .meets) }
 
-        module _
-            {r : Member} {a b : ℕ} (word : a ≡ k % 65536) (bytes : b ≡ k / 65536)
-            (finds : (p : List ℕ) (fs : Fields) → Listed shapes pool from (row + size) p fs → Tells shapes p (row + size) (text-in pool a b) fs r)
-            where
+        module _ {r : Member} (finds : Names shapes from (row + size) pool k r) where
           tells
               : (x : Member) → r ≡ x → {p : List ℕ} {deep : ℕ} {n : Bytes} {s : Shape} (h : Meets-field shapes pool p deep row kinds k n s)
               → Tells shapes p (row + size) n (fields (h .bound) .0) x
           tells x e {p} {n} h =
               let fs = fields (h .bound) .0 in
-              let named : text-in pool a b ≡ n
-              = ap₂ (λ (i j : ℕ). text-in pool i j) word bytes ∙ text-referred pool (h .pooled .front) (h .pooled .small) (h .refers) in
+              let named : text-in pool (k % 65536) (k / 65536) ≡ n
+              = text-referred pool (h .pooled .front) (h .pooled .small) (h .refers) in
               subst
               (λ (y : Member). Tells shapes p (row + size) n fs y)
               e

@@ -50,9 +50,10 @@ pub fn bind_element(bindings: &mut [u64], slot: usize, shapes: &[u64], row: usiz
     requires small { ⌜ length (now shapes) < 2 ^ 56 ⌝ }
     ensures element { λ _. ⌜ Binds-element (now (shapes .entry)) (now (bindings .entry)) (now (bindings .exit)) slot row kinds ⌝ }
 {
-    if shapes::has(kinds, Shape::LIST) {
-        bind(bindings, slot, row + 2, shapes::kinds(shapes, row + 2));
+    if shapes::has(Shape { kinds }, Shape::LIST) {
+        let element = shapes::kinds(shapes, row + 2);
+        bind(bindings, slot, row + 2, element.kinds);
     } else {
-        bind(bindings, slot, row, Shape::NOTHING);
+        bind(bindings, slot, row, Shape::NOTHING.kinds);
     }
 }

@@ -25,7 +25,7 @@ fn test_kinds(test: u64) -> u64
     ensures small { λ r. ⌜ r < 128 ⌝ }
 {
     if test == NUM {
-        return Shape::INT | Shape::DEC;
+        return Shape::INT.kinds | Shape::DEC.kinds;
     }
     if test < 7 { 1 << test } else { 0 }
 }
@@ -44,8 +44,8 @@ pub fn taken_out(kinds: u64, test: u64) -> u64
     if test != INT {
         return kinds & (127 - test_kinds(test));
     }
-    if shapes::has(kinds, Shape::DEC) {
+    if shapes::has(Shape { kinds }, Shape::DEC) {
         return kinds;
     }
-    kinds & (127 - Shape::INT)
+    kinds & (127 - Shape::INT.kinds)
 }

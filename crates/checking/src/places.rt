@@ -24,22 +24,22 @@ fn member(
     requires { ⌜ Field-asked (now shapes) (now pool) row kinds name ⌝ }
     ensures found { λ r. ⌜ Gives-field (now (shapes .entry)) (now (pool .entry)) row kinds name place r ⌝ }
 {
-    if !kinds::within(kinds, Shape::REC) {
+    if !kinds::within(kinds, Shape::REC.kinds) {
         return Located::Refused { number: 9, place };
     }
-    if !shapes::has(kinds, Shape::REC) {
+    if !shapes::has(Shape { kinds }, Shape::REC) {
         return Located::Refused { number: 10, place };
     }
     let from = shapes::members(shapes, row);
     let end = row + shapes::size(shapes, row);
-    let word = nodes::text_word(name);
-    let r = shapes::find_member(shapes, from, end, pool, word, nodes::text_bytes(name));
+    let r = shapes::find_named(shapes, from, end, pool, name);
     let Member::Found { row: found } = r else {
         return Located::Refused { number: 10, place };
     };
+    let left = shapes::kinds(shapes, found);
     Located::At {
         row: found,
-        kinds: shapes::kinds(shapes, found),
+        kinds: left.kinds,
     }
 }
 

@@ -34,5 +34,7 @@ compared-as pool a b {o} {w} {n} {v} {m} e f g h c =
     ∙ ap₂ (λ (x y : ℕ). order (text-in pool x y) (text-in pool v m)) e f
     ∙ ap₂ (λ (x y : ℕ). order (text-in pool (a % 65536) (a / 65536)) (text-in pool x y)) g h
 
-pub head-as : {k k′ n n′ : ℕ} (kinds words : ℕ) → k ≡ k′ → n ≡ n′ → head-of (bitOr k kinds) (n + words) ≡ head-of (bitOr k′ kinds) (n′ + words)
-head-as kinds words e f = ap₂ (λ (x y : ℕ). head-of (bitOr x kinds) (y + words)) e f
+pub head-as
+    : {all k k′ n n′ : ℕ} (kinds words : ℕ) → all ≡ bitOr k kinds → k ≡ k′ → n ≡ n′
+    → head-of all (n + words) ≡ head-of (bitOr k′ kinds) (n′ + words)
+head-as kinds words a e f = ap₂ (λ (x y : ℕ). head-of x (y + words)) (a ∙ ap (λ (x : ℕ). bitOr x kinds) e) f

@@ -19,11 +19,11 @@ use shapes::Shape;
 // ---- rows
 
 // Opens a row for a shape of these kinds that has no parts; what stands from there on moves up.
-pub fn open_row(shapes: &mut [u64], used: usize, row: usize, kinds: u64, name: u64) -> Joined
+pub fn open_row(shapes: &mut [u64], used: usize, row: usize, kinds: Shape, name: u64) -> Joined
     requires { ⌜ Room (now shapes) used ⌝ }
     requires inside { ⌜ row ≤ used ⌝ }
-    requires small { ⌜ kinds < 128 ⌝ }
-    ensures opened { λ r. ⌜ Puts (now (shapes .entry)) (now (shapes .exit)) used row 0 2 (New-row kinds name) r ⌝ }
+    requires small { ⌜ kinds .kinds < 128 ⌝ }
+    ensures opened { λ r. ⌜ Puts (now (shapes .entry)) (now (shapes .exit)) used row 0 2 (New-row (kinds .kinds) name) r ⌝ }
 {
     if shapes.len() - used < 2 {
         return Joined::Full;
@@ -46,14 +46,14 @@ pub fn ready_element(shapes: &mut [u64], used: usize, row: usize) -> Joined
 }
 
 // Adds kinds and words to a row's first word.
-pub fn raise(shapes: &mut [u64], row: usize, kinds: u64, words: usize)
+pub fn raise(shapes: &mut [u64], row: usize, kinds: Shape, words: usize)
     requires { ⌜ row < length (now shapes) ⌝ }
-    requires fits { ⌜ head-of (bitOr (getD (now shapes) row 0 % 128) kinds) (size-at (now shapes) row + words) < 2 ^ 64 ⌝ }
+    requires fits { ⌜ head-of (bitOr (getD (now shapes) row 0 % 128) (kinds .kinds)) (size-at (now shapes) row + words) < 2 ^ 64 ⌝ }
     ensures raised { λ _. ⌜ now (shapes .exit)
-        ≡ take row (now (shapes .entry)) ++ head-of (bitOr (getD (now (shapes .entry)) row 0 % 128) kinds) (size-at (now (shapes .entry)) row + words)
+        ≡ take row (now (shapes .entry)) ++ head-of (bitOr (getD (now (shapes .entry)) row 0 % 128) (kinds .kinds)) (size-at (now (shapes .entry)) row + words)
         ∷ drop (row + 1) (now (shapes .entry)) ⌝ }
 {
-    let all = shapes::kinds(shapes, row) | kinds;
+    let all = shapes::union(shapes::kinds(shapes, row), kinds);
     let size = shapes::size(shapes, row) + words;
     shapes::put_head(shapes, row, all, size);
 }
@@ -61,8 +61,8 @@ pub fn raise(shapes: &mut [u64], row: usize, kinds: u64, words: usize)
 // ---- members
 
 // The kinds of a new member before its value is joined into it.
-pub fn start_kinds(had: bool) -> u64
-    ensures told { λ r. ⌜ r ≡ kind-bits (member-start had) ⌝ }
+pub fn start_kinds(had: bool) -> Shape
+    ensures told { λ r. ⌜ r .kinds ≡ kind-bits (member-start had) ⌝ }
 {
     if had { Shape::NULL } else { Shape::NOTHING }
 }

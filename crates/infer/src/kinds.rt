@@ -12,20 +12,20 @@ ghost use Rattle.shapes.specs.Shapes.{kind-bits};
 use shapes::Shape;
 
 // The kinds of a number: a decimal has int and dec.
-fn number_kinds(int: bool) -> u64
-    ensures told { λ r. ⌜ r ≡ elim int [ true ↦ 4 | false ↦ 12 ] ⌝ }
+fn number_kinds(int: bool) -> Shape
+    ensures told { λ r. ⌜ r .kinds ≡ elim int [ true ↦ 4 | false ↦ 12 ] ⌝ }
 {
     if int {
         Shape::INT
     } else {
-        Shape::INT | Shape::DEC
+        shapes::union(Shape::INT, Shape::DEC)
     }
 }
 
 // The kinds of a value that holds no others.
-pub fn scalar_kinds(nodes: &[u64], at: usize) -> u64
+pub fn scalar_kinds(nodes: &[u64], at: usize) -> Shape
     ensures told { λ r. ⌜ ((p : List ℕ) (k : ℕ) (v : Value) → Value-stands (now (nodes .entry)) p at k v → Bounded-numbers v → kind-code v < 5
-        → r ≡ kind-bits (shape-of v)) ⌝ }
+        → r .kinds ≡ kind-bits (shape-of v)) ⌝ }
 {
     let kind = nodes::row_kind(nodes, at);
     if kind == nodes::NULL {

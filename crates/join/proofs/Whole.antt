@@ -19,12 +19,12 @@ use Rattle.join.proofs.Members.{put-stands}
 
 -- the first word of a join, put together
 head-joined
-    : (s t : Shape) (a b size : ℕ) → a ≡ kind-bits (parts-joined s t) → b ≡ kind-bits t → size ≡ 2 * forms (parts-joined s t)
-    → head-of (bitOr a b) size ≡ head-word (join s t)
+    : (s t : Shape) (a b kinds size : ℕ) → a ≡ kind-bits (parts-joined s t) → b ≡ kind-bits t → kinds ≡ bitOr a b
+    → size ≡ 2 * forms (parts-joined s t) → head-of kinds size ≡ head-word (join s t)
 unfolding head-word
-head-joined s t a b size e f g =
-    let k : bitOr a b ≡ kind-bits (join s t)
-    = ap₂ (λ (x y : ℕ). bitOr x y) e f ∙ union-bits (parts-joined s t) t ∙ kinds-twice s t in
+head-joined s t a b kinds size e f o g =
+    let k : kinds ≡ kind-bits (join s t)
+    = o ∙ ap₂ (λ (x y : ℕ). bitOr x y) e f ∙ union-bits (parts-joined s t) t ∙ kinds-twice s t in
     omega (arith, forms-parts s t)
 
 parts-headed : {p : List ℕ} {m : ℕ} (s t : Shape) {rows : List ℕ} → Shape-rows p m (parts-joined s t) rows → Headed p m (parts-joined s t) (join s t) rows
@@ -71,20 +71,20 @@ module _ {shapes shapes₁ second pool p : List ℕ} {used row m other k left : 
       elements-words = omega (arith, length-shape-rows (v .encoded), v .replaced .grown, members-words)
 
       head-is
-          : {a b size : ℕ} → a ≡ getD shapes₂ row 0 % 128 → b ≡ getD second other 0 % 128 → size ≡ size-at shapes₂ row
-          → head-of (bitOr a b) size ≡ head-word (join s t)
-      head-is {a} {b} {size} e f g =
-          head-joined s t a b size (e ∙ stands-kinds elements-stand) (f ∙ stands-kinds (j .both .theirs)) (g ∙ stands-size elements-stand)
+          : {a b kinds size : ℕ} → a ≡ getD shapes₂ row 0 % 128 → b ≡ getD second other 0 % 128 → kinds ≡ bitOr a b → size ≡ size-at shapes₂ row
+          → head-of kinds size ≡ head-word (join s t)
+      head-is {a} {b} {kinds} {size} e f o g =
+          head-joined s t a b kinds size (e ∙ stands-kinds elements-stand) (f ∙ stands-kinds (j .both .theirs)) o (g ∙ stands-size elements-stand)
 
       pub head-asks
-          : {a b size : ℕ} → a ≡ getD shapes₂ row 0 % 128 → b ≡ getD second other 0 % 128 → size ≡ size-at shapes₂ row → length shapes ≤ 65536
-          → (row < length shapes₂) × (head-of (bitOr a b) size < 18446744073709551616)
+          : {a b kinds size : ℕ} → a ≡ getD shapes₂ row 0 % 128 → b ≡ getD second other 0 % 128 → kinds ≡ bitOr a b → size ≡ size-at shapes₂ row
+          → length shapes ≤ 65536 → (row < length shapes₂) × (head-of kinds size < 18446744073709551616)
       unfolding head-word
-      head-asks e f g l = (
+      head-asks e f o g l = (
         omega (arith, stands-within elements-stand, forms-some (parts-joined s t)),
         omega (
           arith,
-          head-is e f g,
+          head-is e f o g,
           kind-bits-lt (join s t),
           forms-parts s t,
           stands-within elements-stand,
@@ -94,17 +94,17 @@ module _ {shapes shapes₁ second pool p : List ℕ} {used row m other k left : 
       )
 
       pub whole-grown
-          : {shapes₃ : List ℕ} {a b size : ℕ} → a ≡ getD shapes₂ row 0 % 128 → b ≡ getD second other 0 % 128 → size ≡ size-at shapes₂ row
-          → shapes₃ ≡ take row shapes₂ ++ head-of (bitOr a b) size ∷ drop (row + 1) shapes₂ → length shapes₃ ≡ length shapes₂
+          : {shapes₃ : List ℕ} {a b kinds size : ℕ} → a ≡ getD shapes₂ row 0 % 128 → b ≡ getD second other 0 % 128 → kinds ≡ bitOr a b
+          → size ≡ size-at shapes₂ row → shapes₃ ≡ take row shapes₂ ++ head-of kinds size ∷ drop (row + 1) shapes₂ → length shapes₃ ≡ length shapes₂
           → Put shapes shapes₃ used (words + more) row (2 * forms s) (Shape-rows p m (join s t))
-      whole-grown e f g h l =
+      whole-grown e f o g h l =
           let x = elements-stand in
           let d =
           reheaded x
           (let i : row + 2 * forms (parts-joined s t) ≤ used + (words + more) = omega (arith, elements-words, j .both .within) in i)
           (omega (arith, v .replaced .within, v .replaced .same))
           (parts-headed s t (x .encoded))
-          (h ∙ ap (λ (y : ℕ). take row shapes₂ ++ y ∷ drop (row + 1) shapes₂) (head-is e f g))
+          (h ∙ ap (λ (y : ℕ). take row shapes₂ ++ y ∷ drop (row + 1) shapes₂) (head-is e f o g))
           l in
           let y = replaced-then (words + more) (j .both .within) (j .both .used-within) (q .replaced) members-words (v .replaced) refl in
           record {

@@ -78,13 +78,13 @@ pub fn add_null(shapes: &mut [u64], row: usize)
 }
 
 // Tells in the first word of the shape at a row that it has a kind more, or none, and words more.
-pub fn grow_head(shapes: &mut [u64], row: usize, kind: u64, words: usize)
+pub fn grow_head(shapes: &mut [u64], row: usize, kind: Shape, words: usize)
     requires { ⌜ row < length (now shapes) ⌝ }
-    requires fits { ⌜ getD (now shapes) row 0 + kind + 128 * words < 2 ^ 64 ⌝ }
+    requires fits { ⌜ getD (now shapes) row 0 + kind .kinds + 128 * words < 2 ^ 64 ⌝ }
     ensures told { λ _. ⌜ now (shapes .exit)
-        ≡ take row (now (shapes .entry)) ++ (getD (now (shapes .entry)) row 0 + kind + 128 * words) ∷ drop (row + 1) (now (shapes .entry)) ⌝ }
+        ≡ take row (now (shapes .entry)) ++ (getD (now (shapes .entry)) row 0 + kind .kinds + 128 * words) ∷ drop (row + 1) (now (shapes .entry)) ⌝ }
 {
-    shapes[row] = shapes[row] + kind + 128 * (words as u64);
+    shapes[row] = shapes[row] + kind.kinds + 128 * (words as u64);
 }
 
 // Whose member is next where those of two shapes are walked together: less is the first's alone.
@@ -113,7 +113,7 @@ fn next_member(
 }
 
 // How many words of the second a turn passes.
-fn passed(second: &[u64], other: usize, order: Comparison) -> usize
+fn second_step(second: &[u64], other: usize, order: Comparison) -> usize
     ensures told { λ r. ⌜ r ≡ passed-words (now (second .entry)) other order ⌝ }
 {
     match order {
@@ -217,7 +217,7 @@ fn join_members(
             return Joined::Full;
         };
         i += shapes::size(shapes, i);
-        j += passed(second, j, order);
+        j += second_step(second, j, order);
         words += more;
     }
     Joined::Grown { words }
@@ -250,7 +250,7 @@ pub fn join_record(
     let Joined::Grown { words } = r else {
         return Joined::Full;
     };
-    grow_head(shapes, row, 0, words);
+    grow_head(shapes, row, Shape::NOTHING, words);
     Joined::Grown { words }
 }
 
@@ -278,7 +278,7 @@ pub fn join_element(
     let Joined::Grown { words } = r else {
         return Joined::Full;
     };
-    grow_head(shapes, row, 0, words);
+    grow_head(shapes, row, Shape::NOTHING, words);
     Joined::Grown { words }
 }
 
@@ -303,7 +303,7 @@ pub fn join_at(
     let Joined::Grown { words: more } = r else {
         return Joined::Full;
     };
-    let kinds = shapes::kinds(shapes, row) | shapes::kinds(second, other);
+    let kinds = shapes::union(shapes::kinds(shapes, row), shapes::kinds(second, other));
     let size = shapes::size(shapes, row);
     shapes::put_head(shapes, row, kinds, size);
     Joined::Grown {

@@ -9,7 +9,7 @@ ghost use Rattle.definitions.specs.Bytes.{same};
 ghost use Rattle.definitions.specs.Number.{Number, is-int};
 ghost use Rattle.definitions.specs.Value.{Value, Members, has-name};
 ghost use Rattle.pool.specs.Pool.{text-in};
-ghost use Rattle.nodes.specs.Nodes.{head-of, head-word, reference, row-size, sign-bit};
+ghost use Rattle.nodes.specs.Nodes.{head-of, head-word, number-bits, reference, row-size, sign-bit};
 ghost use Rattle.nodes.specs.Standing.{Members-stand, Members-held};
 
 // The codes of the kinds.
@@ -64,11 +64,18 @@ pub fn row_scale(nodes: &[u64], row: usize) -> u64
     word(nodes, row) / 16 % 16
 }
 
-// Whether the number at a row is an int: it has no fraction.
+// Whether the number of this sign and scale is an int: it has no fraction.
+pub fn is_int(bits: u64) -> bool
+    ensures told { λ r. ⌜ ((x : Number) → bits ≡ number-bits (Value.number x) → r ≡ is-int x) ⌝ }
+{
+    bits / 2 == 0
+}
+
+// Whether the number at a row is an int.
 pub fn row_is_int(nodes: &[u64], row: usize) -> bool
     ensures told { λ r. ⌜ ((x : Number) → getD (now (nodes .entry)) row 0 ≡ head-word (Value.number x) → x .scale < 16 → r ≡ is-int x) ⌝ }
 {
-    row_scale(nodes, row) == 0
+    is_int(word(nodes, row) / 8 % 32)
 }
 
 // How long the value at a row is as plain JSON.

@@ -13,10 +13,10 @@ use Rattle.pool.specs.Pool.{text-in}
 use Rattle.shapes.specs.Shapes.{kind-bit, has-bit, size-at}
 use Rattle.shapes.specs.declared.Member.{Member}
 use Rattle.shapes.specs.declared.Member.the-variants.{Found, Missing}
-use Rattle.shapes.specs.Members.{Tells, Found-at}
+use Rattle.shapes.specs.Members.{Tells, Found-at, Names}
 use Rattle.shapes.specs.Held.{Holds-fields}
-use Rattle.shapes.specs.HeldLaws.{held-has, held-within, first-field, no-field-left}
-use Rattle.order.specs.Comparing.{Listed-asked, Lists, Lacks, Nulls-told}
+use Rattle.shapes.specs.HeldLaws.{names-of, held-has, held-within, first-field, no-field-left}
+use Rattle.order.specs.Comparing.{Listed-asked, Lacks, Nulls-told}
 
 -- a test that does not fail passes
 pub not-fails : (b : Bool) → not b ≡ false → b ≡ true
@@ -35,19 +35,19 @@ module _ (first : List ℕ) (from to : ℕ) (second : List ℕ) (row : ℕ) (poo
     null-told g fs h =
         sym (or-right (found (find name-there fs)) (ap (λ (x : ℕ). has-bit x 1) (sym e) ∙ sym f ∙ g))
 
-    module _ (g : b ≡ false) (m : Member) (lists : Lists first from to second row pool m) where
+    module _ (g : b ≡ false) (m : Member) {i : ℕ} (at-row : i ≡ getD second (row + 1) 0) (names : Names first from to pool i m) where
       pub listed-told : {n : ℕ} → m ≡ Found n → Lacks first from to second row pool true
       unfolding found
       listed-told x fs h =
           let t : Found-at first (h .used) to name-there fs _ =
-          subst (λ (y : Member). Tells first (h .used) to name-there fs y) x (lists (h .used) fs (h .listed)) in
+          subst (λ (y : Member). Tells first (h .used) to name-there fs y) x (names-of m at-row names (h .used) fs (h .listed)) in
           sym (ap (λ (o : Option Shape). found o || has-bit (getD second row 0 % 128) 1) (t .found))
 
       pub unlisted-told : m ≡ Missing → Lacks first from to second row pool false
       unfolding found
       unlisted-told x fs h =
           let t : find name-there fs ≡ none =
-          subst (λ (y : Member). Tells first (h .used) to name-there fs y) x (lists (h .used) fs (h .listed)) in
+          subst (λ (y : Member). Tells first (h .used) to name-there fs y) x (names-of m at-row names (h .used) fs (h .listed)) in
           sym
           (ap (λ (o : Option Shape). found o || has-bit (getD second row 0 % 128) 1) t
           ∙ ap (λ (y : ℕ). has-bit y 1) (sym e)

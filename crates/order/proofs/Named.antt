@@ -5,6 +5,7 @@ use mathlib.Core.Bool.{Bool, true, false, not, _&&_}
 use mathlib.Core.List.{List}
 use mathlib.Core.Option.{Option, none, some}
 use native.Mathlib.Omega.{arith}
+use lib.ListN.{getD}
 use Rattle.definitions.specs.Bytes.{Bytes}
 use Rattle.definitions.specs.Shape.{Shape, Fields, field, find, levels, levels-fields}
 use Rattle.definitions.specs.Order.{below, below-fields}
@@ -12,10 +13,10 @@ use Rattle.laws.specs.Bools.{not-true}
 use Rattle.shapes.specs.Shapes.{size-at}
 use Rattle.shapes.specs.declared.Member.{Member}
 use Rattle.shapes.specs.declared.Member.the-variants.{Found, Missing}
-use Rattle.shapes.specs.Members.{Tells, Found-at}
+use Rattle.shapes.specs.Members.{Tells, Found-at, Names}
 use Rattle.shapes.specs.Held.{Holds-fields}
-use Rattle.shapes.specs.HeldLaws.{held-within, found-held, First-field, first-field, no-field-left}
-use Rattle.order.specs.Comparing.{Shapes-asked, Shapes-told, Fields-asked, Fields-told, Lists}
+use Rattle.shapes.specs.HeldLaws.{names-of, held-within, found-held, First-field, first-field, no-field-left}
+use Rattle.order.specs.Comparing.{Shapes-asked, Shapes-told, Fields-asked, Fields-told}
 use Rattle.order.proofs.Lacking.{not-fails}
 
 -- ---- the first member apart
@@ -69,13 +70,13 @@ module _ (first : List ℕ) (from to : ℕ) (second : List ℕ) (at end : ℕ) (
         : {nesting : ℕ} → Fields-asked first from to second at end pool nesting → (2 ≤ size-at first i) × (i + size-at first i ≤ to)
     walk-step a = (held-within (next a .held) .0, next a .inside)
 
-    module _ (m : Member) (lists : Lists second at end first i pool m) where
+    module _ (m : Member) {k : ℕ} (at-row : k ≡ getD first (i + 1) 0) (names : Names second at end pool k m) where
       -- what the search tells of the first member
       tells
           : {gs : Fields} (k : Holds-fields second pool at end gs) {os : Fields} (h : Holds-fields first pool i to os)
           → Tells second (k .used) end (first-field h more .name) gs m
       tells {gs} k h =
-          subst (λ (t : Bytes). Tells second (k .used) end t gs m) (first-field h more .text) (lists (k .used) gs (k .listed))
+          subst (λ (t : Bytes). Tells second (k .used) end t gs m) (first-field h more .text) (names-of m at-row names (k .used) gs (k .listed))
 
       step
           : {fs gs : Fields} (l : Left i fs gs)

@@ -4,7 +4,9 @@ use mathlib.Core.Path.{_≡_, refl, sym, ap, ap₂, _∙_, subst}
 use mathlib.Core.Bool.{Bool, true, false, not, _&&_}
 use mathlib.Core.List.{List}
 use native.Mathlib.Omega.{arith}
+use borrow.Author.Tests.{eqb-true, eqb-false}
 use lib.Bits.{bitOr}
+use lib.Dec.{eqb}
 use lib.ListN.{getD}
 use Rattle.definitions.specs.Shape.{Kind, Shape, shape, no-list, list-of, no-rec, rec-of, Fields, has}
 use Rattle.definitions.specs.Shape.{has-list, has-rec, element-of, record-of, levels, levels-fields}
@@ -34,16 +36,18 @@ module _ (first : List ℕ) (a : ℕ) (second : List ℕ) (b : ℕ) (pool : List
   pub record Passed : Type 0 where
     pub kinds : (s : Shape) → Holds-shape first pool a s → (t : Shape) → Holds-shape second pool b t → kinds-in s t ≡ true
 
-  module _ {x y : ℕ} (e : x ≡ getD first a 0 % 128) (f : y ≡ getD second b 0 % 128) where
-    pub kinds-fail : (bitOr x y ≡ y → ⊥) → Shapes-told first a second b pool false
-    kinds-fail h s g t k =
+  module _ {x y : ℕ} {w : Bool} (e : x ≡ getD first a 0 % 128) (f : y ≡ getD second b 0 % 128) (within : w ≡ eqb (bitOr x y) y) where
+    pub kinds-fail : not w ≡ true → Shapes-told first a second b pool false
+    kinds-fail v s g t k =
+        let h : bitOr x y ≡ y → ⊥ = eqb-false (bitOr x y) y (sym within ∙ not-true w v) in
         sym
         (below-parts s t
         ∙ ap (λ (p : Bool). p && below-element (element-of s) (element-of t) && below-record (record-of s) (record-of t))
         (kinds-beyond s t (λ q. h (ap₂ (λ (i j : ℕ). bitOr i j) (e ∙ held-kinds g) (f ∙ held-kinds k) ∙ q ∙ sym (f ∙ held-kinds k)))))
 
-    pub kinds-pass : bitOr x y ≡ y → Passed
-    kinds-pass h =
+    pub kinds-pass : not w ≡ false → Passed
+    kinds-pass v =
+        let h : bitOr x y ≡ y = eqb-true (bitOr x y) y (sym within ∙ not-fails w v) in
         record {
           kinds = λ s g t k.
               kinds-all s t

@@ -9,8 +9,6 @@ use Rattle.definitions.specs.Shape.{Shape, Fields, find, element-of, record-of,
 use Rattle.definitions.specs.Order.{kinds-in, lacked-have-null, below, below-element, below-record, below-fields}
 use Rattle.pool.specs.Pool.{text-in}
 use Rattle.shapes.specs.Shapes.{has-bit}
-use Rattle.shapes.specs.declared.Member.{Member}
-use Rattle.shapes.specs.Members.{Listed, Tells}
 use Rattle.shapes.specs.Held.{Holds-shape, Holds-fields}
 
 -- ---- what is asked
@@ -64,12 +62,6 @@ Nulls-told first from to second at end pool r =
     (fs : Fields) → Holds-fields first pool from to fs → (gs : Fields) → Holds-fields second pool at end gs → r ≡ lacked-have-null fs gs
 
 -- ---- names
-
--- the member of one table that has the name of a shape of the other
-abbrev pub Lists : (table : List ℕ) (from to : ℕ) (other : List ℕ) (row : ℕ) (pool : List ℕ) → Member → Type 0
-Lists table from to other row pool r =
-    (p : List ℕ) (fs : Fields) → Listed table pool from to p fs
-    → Tells table p to (text-in pool (getD other (row + 1) 0 % 65536) (getD other (row + 1) 0 / 65536)) fs r
 
 -- whether a member of the second shape is one of the first's or has null
 abbrev pub Lacks : (first : List ℕ) (from to : ℕ) (second : List ℕ) (row : ℕ) (pool : List ℕ) → Bool → Type 0

@@ -1,34 +1,11 @@
 // Whether a shape lies below another: the order goes down both together.
 ghost use Rattle.shapes.specs.Members.{Some-listed};
 ghost use Rattle.order.specs.Comparing.{Shapes-asked, Shapes-told, Parts-asked, Element-told, Record-told};
-ghost use Rattle.order.specs.Comparing.{Fields-asked, Fields-told, Nulls-told, Listed-asked, Lists, Lacks};
+ghost use Rattle.order.specs.Comparing.{Fields-asked, Fields-told, Nulls-told, Listed-asked, Lacks};
 use shapes::Member;
 use shapes::Shape;
 
 // ---- members that the first shape lacks
-
-// The member listed from one row up to another that has the name of a shape of the other table.
-fn namesake(
-    table: &[u64],
-    from: usize,
-    to: usize,
-    other: &[u64],
-    row: usize,
-    pool: &[u64],
-) -> Member
-    requires { ⌜ Some-listed (now table) (now pool) from to ⌝ }
-    ensures told { λ r. ⌜ Lists (now (table .entry)) from to (now (other .entry)) row (now (pool .entry)) r ⌝ }
-{
-    let k = shapes::name(other, row);
-    shapes::find_member(
-        table,
-        from,
-        to,
-        pool,
-        nodes::text_word(k),
-        nodes::text_bytes(k),
-    )
-}
 
 // Whether a member of the second shape is one of the first's or has null.
 fn may_lack(first: &[u64], from: usize, to: usize, second: &[u64], row: usize, pool: &[u64]) -> bool
@@ -38,7 +15,7 @@ fn may_lack(first: &[u64], from: usize, to: usize, second: &[u64], row: usize, p
     if shapes::has(shapes::kinds(second, row), Shape::NULL) {
         return true;
     }
-    match namesake(first, from, to, second, row, pool) {
+    match shapes::find_named(first, from, to, pool, shapes::name(second, row)) {
         Member::Found { row: _ } => true,
         Member::Missing => false,
     }
@@ -103,7 +80,8 @@ fn below_fields(
 {
     let mut i = from;
     while i < to {
-        let Member::Found { row } = namesake(second, at, end, first, i, pool) else {
+        let named = shapes::find_named(second, at, end, pool, shapes::name(first, i));
+        let Member::Found { row } = named else {
             return false; // not listed
         };
         if !below(first, second, pool, i, row, left) {
@@ -146,7 +124,7 @@ pub fn below(first: &[u64], second: &[u64], pool: &[u64], a: usize, b: usize, le
 {
     let kinds = shapes::kinds(first, a);
     let others = shapes::kinds(second, b);
-    if kinds | others != others {
+    if !shapes::is_within(kinds, others) {
         return false;
     }
     if !below_element(first, second, pool, a, b, left) {

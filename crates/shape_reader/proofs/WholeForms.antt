@@ -10,18 +10,19 @@ use Rattle.definitions.specs.declared.Limits.{Limits}
 use Rattle.definitions.specs.Bytes.{Bytes}
 use Rattle.definitions.specs.Shape.{Kind, among, Element, no-list, no-rec, rec-of, Fields, no-fields, field, has-list, has-rec}
 use Rattle.definitions.specs.ShapeText.{Around, shape-open, want, fields-onto, record-from, build}
+use Rattle.shapes.specs.declared.Shape as Kind-set
 use Rattle.shapes.specs.Shapes.{kind-bits, has-bit, head-word, head-of, Shape-rows, shape-rows, Element-rows, Record-rows, no-record-rows, record-rows}
 use Rattle.shapes.specs.ShapesLaws.{element-rows-grow, length-shape-rows}
 use Rattle.shape_reader.specs.declared.reading.Cursor.{Cursor}
-use Rattle.shape_reader.specs.declared.reading.Part.{Part}
-use Rattle.shape_reader.specs.declared.reading.Part.the-variants.{Done, Refused}
-use Rattle.shape_reader.specs.declared.opening.Opened.{Opened}
-use Rattle.shape_reader.specs.declared.opening.Opened.the-variants as Opened-is
-use Rattle.shape_reader.specs.ShapeParts.{reading, Limited, Kinds-held, bits-of, parts, behind, Opens, Opened-answer, Opens-form}
+use Rattle.shape_reader.specs.declared.reading.FormRead.{FormRead}
+use Rattle.shape_reader.specs.declared.reading.FormRead.the-variants.{Done, Refused}
+use Rattle.shape_reader.specs.declared.opening.ShapeHead.{ShapeHead}
+use Rattle.shape_reader.specs.declared.opening.ShapeHead.the-variants as Head-is
+use Rattle.shape_reader.specs.ShapeParts.{reading, Limited, Kinds-held, bits-of, parts, behind, Opens, Head-answer, Opens-form}
 use Rattle.shape_reader.specs.ShapeParts.{Ready, Goes, Reads-form, Element-done, Element-answer, Reads-element, Fields-before}
 use Rattle.shape_reader.specs.ShapeParts.{no-fields-before, field-before, Members-done, Members-answer, Reads-members}
 use Rattle.shape_reader.proofs.KindSets.{with-parts, has-list-kind, has-rec-kind, held-small}
-use Rattle.shape_reader.proofs.Openings.{placed-further}
+use Rattle.tokens.specs.ReadingLaws.{placed-further}
 use Rattle.shape_reader.proofs.Table.{with-row, length-with-row, row-put}
 use Rattle.shape_reader.proofs.Going.{goes-then, ready-then, grown}
 use Rattle.shape_reader.proofs.MemberForms.{fields-read-rows}
@@ -70,19 +71,19 @@ nested-left : {l : Limits} {o : Around} {values left : ℕ} → 0 < left → Lim
 nested-left h a = record { most = a .most; nests = omega (arith, a .nests) }
 
 module _
-    {left values : ℕ} {text : Bytes} {s p₀ p : List ℕ} (name : ℕ) (c : Cursor) {x : Opened} (r₀ : Ready text s p₀ values c)
+    {left values : ℕ} {text : Bytes} {s p₀ p : List ℕ} (name : ℕ) (c : Cursor) {x : ShapeHead} (r₀ : Ready text s p₀ values c)
     (y : Opens-form text p₀ p values left c x) where
   pub open-refused
-      : {number place : ℕ} → x ≡ Opened-is.Refused number place → Reads-form left values text s p₀ s p name c (Refused number place)
+      : {number place : ℕ} → x ≡ Head-is.Refused number place → Reads-form left values text s p₀ s p name c (Refused number place)
   open-refused e =
       record {
-        answer = subst (Opened-answer text values left c) e (y .answer);
+        answer = subst (Head-answer text values left c) e (y .answer);
         sized = record { shapes-kept = refl; pool-kept = y .kept .size };
       }
 
-  module _ {kinds at : ℕ} (e : x ≡ Opened-is.Form kinds at) where
-    pub opens : Opens text values left c kinds at
-    opens = subst (Opened-answer text values left c) e (y .answer)
+  module _ {set : Kind-set.Shape} {at : ℕ} (e : x ≡ Head-is.Form set at) where
+    pub opens : Opens text values left c (set .kinds) at
+    opens = subst (Head-answer text values left c) e (y .answer)
 
     pub inner-ready : Ready text s p values (record { at = at; begun = c .begun + 1; top = c .top })
     inner-ready =
@@ -102,27 +103,28 @@ module _
         ∙ ap (λ (n : ℕ). reading l n text (want (behind (among Kind.list (opens .listed)) (parts (opens .listed) no-list no-fields) o)) at)
         (sym (add-one (c .begun)))
 
-    module _ {s′ p′ : List ℕ} {r : Part}
-        (z : Reads-element (left - 1) values text s p s′ p′ kinds (record { at = at; begun = c .begun + 1; top = c .top }) r) where
+    module _ {s′ p′ : List ℕ} {r : FormRead}
+        (z : Reads-element (left - 1) values text s p s′ p′ (set .kinds) (record { at = at; begun = c .begun + 1; top = c .top }) r) where
       pub element-refused : {number place : ℕ} → r ≡ Refused number place → Reads-form left values text s p₀ s′ p′ name c r
       element-refused {number} {place} i =
           subst (Reads-form left values text s p₀ s′ p′ name c) (sym i)
           (record {
             answer = λ l o a.
                 to-inner l o a
-                ∙ subst (Element-answer (left - 1) values text s p s′ p′ kinds (record { at = at; begun = c .begun + 1; top = c .top })) i (z .answer) l o
+                ∙ subst (Element-answer (left - 1) values text s p s′ p′ (set .kinds)
+                (record { at = at; begun = c .begun + 1; top = c .top })) i (z .answer) l o
                 (nested-left (opens .nested) a) (opens .listed) (opens .held);
             sized = record { shapes-kept = z .sized .shapes-kept; pool-kept = z .sized .pool-kept ∙ y .kept .size };
           })
 
       module _ {mid : Cursor} (i : r ≡ Done mid) where
-        element : Element-done (left - 1) values text s p s′ p′ kinds (record { at = at; begun = c .begun + 1; top = c .top }) mid
-        element = subst (Element-answer (left - 1) values text s p s′ p′ kinds (record { at = at; begun = c .begun + 1; top = c .top })) i (z .answer)
+        element : Element-done (left - 1) values text s p s′ p′ (set .kinds) (record { at = at; begun = c .begun + 1; top = c .top }) mid
+        element = subst (Element-answer (left - 1) values text s p s′ p′ (set .kinds) (record { at = at; begun = c .begun + 1; top = c .top })) i (z .answer)
 
         pub members-ready : Ready text s′ p′ values mid
         members-ready = ready-then inner-ready (element .goes) (z .sized)
 
-        module _ {s″ p″ : List ℕ} {r′ : Part} (w : Reads-members (left - 1) values text s′ p′ s″ p″ kinds mid r′) where
+        module _ {s″ p″ : List ℕ} {r′ : FormRead} (w : Reads-members (left - 1) values text s′ p′ s″ p″ (set .kinds) mid r′) where
           pub members-refused : {number place : ℕ} → r′ ≡ Refused number place → Reads-form left values text s p₀ s″ p″ name c r′
           members-refused {number} {place} j =
               subst (Reads-form left values text s p₀ s″ p″ name c) (sym j)
@@ -130,7 +132,7 @@ module _
                 answer = λ l o a.
                     to-inner l o a
                     ∙ element .run l o (nested-left (opens .nested) a) (opens .listed) (opens .held)
-                    ∙ subst (Members-answer (left - 1) values text s′ p′ s″ p″ kinds mid) j (w .answer) l o
+                    ∙ subst (Members-answer (left - 1) values text s′ p′ s″ p″ (set .kinds) mid) j (w .answer) l o
                     (nested-left (opens .nested) a) (opens .listed) (opens .held) (element .element);
                 sized =
                     record {
@@ -140,14 +142,14 @@ module _
               })
 
           module _ {to : Cursor} (j : r′ ≡ Done to) where
-            members : Members-done (left - 1) values text s′ p′ s″ p″ kinds mid to
-            members = subst (Members-answer (left - 1) values text s′ p′ s″ p″ kinds mid) j (w .answer)
+            members : Members-done (left - 1) values text s′ p′ s″ p″ (set .kinds) mid to
+            members = subst (Members-answer (left - 1) values text s′ p′ s″ p″ (set .kinds) mid) j (w .answer)
 
             both : Goes values text s p s″ p″ (record { at = at; begun = c .begun + 1; top = c .top }) to (element .rows ++ members .read .rows)
             both = goes-then (element .goes) (members .read .goes)
 
             -- bounds for the row
-            pub row-bounds : (c .begun < to .begun) × (to .begun ≤ 32768) × (kinds < 128) × (2 * c .begun + 2 ≤ length s″)
+            pub row-bounds : (c .begun < to .begun) × (to .begun ≤ 32768) × (set .kinds < 128) × (2 * c .begun + 2 ≤ length s″)
             row-bounds = (
               omega (arith, both .counted),
               omega (arith, both .limit, r₀ .few),
@@ -167,7 +169,7 @@ module _
                 (built-record (element .element) (opens .held) (members .read .held) (members .read .bare))
 
             head-is
-                : head-word (build (parts (opens .listed) (element .element) (members .fields))) ≡ head-of kinds (2 * (to .begun - c .begun))
+                : head-word (build (parts (opens .listed) (element .element) (members .fields))) ≡ head-of (set .kinds) (2 * (to .begun - c .begun))
             unfolding head-word
             head-is =
                 let bits = built-kinds (element .element) (members .fields) (opens .held) (element .is-list) in
@@ -175,7 +177,7 @@ module _
                 omega (arith, bits, counted, both .counted)
 
             pub form-read
-                : {s‴ : List ℕ} → s‴ ≡ with-row s″ (c .begun) (head-of kinds (2 * (to .begun - c .begun))) name
+                : {s‴ : List ℕ} → s‴ ≡ with-row s″ (c .begun) (head-of (set .kinds) (2 * (to .begun - c .begun))) name
                 → Reads-form left values text s p₀ s‴ p″ name c (Done to)
             form-read {s‴} g =
                 let room : 2 * c .begun + 2 ≤ length s″ = row-bounds .3 in
@@ -196,7 +198,7 @@ module _
                             record {
                               table =
                                   ap (λ (q : List ℕ). take (2 * to .begun) q) g
-                                  ∙ row-put s″ (c .begun) (head-of kinds (2 * (to .begun - c .begun))) name room s (element .rows ++ members .read .rows)
+                                  ∙ row-put s″ (c .begun) (head-of (set .kinds) (2 * (to .begun - c .begun))) name room s (element .rows ++ members .read .rows)
                                   (to .begun) (row-bounds .0) (omega (arith, room, w .sized .shapes-kept, z .sized .shapes-kept))
                                   (both .table
                                   ∙ ap (λ (n : ℕ). take (2 * n) s ++ (element .rows ++ members .read .rows)) (add-one (c .begun)))
@@ -217,7 +219,7 @@ module _
                       record {
                         shapes-kept =
                             ap length g
-                            ∙ length-with-row s″ (c .begun) (head-of kinds (2 * (to .begun - c .begun))) name room
+                            ∙ length-with-row s″ (c .begun) (head-of (set .kinds) (2 * (to .begun - c .begun))) name room
                             ∙ w .sized .shapes-kept
                             ∙ z .sized .shapes-kept;
                         pool-kept = w .sized .pool-kept ∙ z .sized .pool-kept ∙ y .kept .size;

@@ -5,14 +5,15 @@ ghost use lib.ListN.{length};
 ghost use Rattle.definitions.specs.ShapeText.{kind-words};
 ghost use Rattle.definitions.specs.Tokens.{look-word};
 ghost use Rattle.tokens.specs.TokenRead.{word-in};
-ghost use Rattle.shape_reader.specs.ShapeParts.{kind-code, Follows, Placed, Reads-kinds};
+ghost use Rattle.tokens.specs.Expecting.{Text-placed};
+ghost use Rattle.shape_reader.specs.ShapeParts.{kind-code, Follows, Reads-kinds};
 use shapes::Shape;
 use tokens::Token;
 
-// The bit of the kind whose word stands from one place to another; of another word, 0.
-fn kind_of(text: &[u8], at: usize, end: usize) -> u64
+// The bit of the kind whose word stands from one place to another; of another word, nothing.
+fn kind_of(text: &[u8], at: usize, end: usize) -> Shape
     requires { ⌜ (at ≤ end) × (end ≤ length (now text)) ⌝ }
-    ensures told { λ r. ⌜ r ≡ kind-code (look-word kind-words (word-in (now (text .entry)) at end)) ⌝ }
+    ensures told { λ r. ⌜ r .kinds ≡ kind-code (look-word kind-words (word-in (now (text .entry)) at end)) ⌝ }
 {
     if tokens::is_word(text, at, end, b"null") {
         return Shape::NULL;
@@ -35,34 +36,34 @@ fn kind_of(text: &[u8], at: usize, end: usize) -> u64
     if tokens::is_word(text, at, end, b"rec") {
         return Shape::REC;
     }
-    0
+    Shape::NOTHING
 }
 
 // Whether a kind may follow these: a later kind has a higher bit, and dec comes only behind int.
-fn may_come(kinds: u64, kind: u64) -> bool
-    ensures told { λ r. ⌜ Follows kinds kind r ⌝ }
+fn may_come(kinds: Shape, kind: Shape) -> bool
+    ensures told { λ r. ⌜ Follows (kinds .kinds) (kind .kinds) r ⌝ }
 {
-    if kind == Shape::DEC {
-        if kinds < Shape::INT {
+    if kind.kinds == Shape::DEC.kinds {
+        if kinds.kinds < Shape::INT.kinds {
             return false;
         }
-        return kinds < kind;
+        return kinds.kinds < kind.kinds;
     }
-    kinds < kind
+    kinds.kinds < kind.kinds
 }
 
 pub enum Kinds {
     // up to a place, behind which no kind word stands
-    Read { kinds: u64, at: usize },
+    Read { kinds: Shape, at: usize },
     Refused { place: usize },
 }
 
 // Reads the kind words behind the word `shape`.
 pub fn read_kinds(text: &[u8], pool: &mut [u64], at: usize, top: usize) -> Kinds
-    requires { ⌜ Placed (now text) (now pool) at top ⌝ }
+    requires { ⌜ Text-placed (now text) (now pool) at top ⌝ }
     ensures read { λ r. ⌜ Reads-kinds (now (text .entry)) (now (pool .entry)) (now (pool .exit)) at top r ⌝ }
 {
-    let mut kinds: u64 = Shape::NOTHING;
+    let mut kinds = Shape::NOTHING;
     let mut i = at;
     loop {
         let t = tokens::next(text, i, pool, top);
@@ -71,7 +72,9 @@ pub fn read_kinds(text: &[u8], pool: &mut [u64], at: usize, top: usize) -> Kinds
         };
         let kind = kind_of(text, place, end);
         if may_come(kinds, kind) {
-            kinds += kind;
+            kinds = Shape {
+                kinds: kinds.kinds + kind.kinds,
+            };
             i = end;
         } else {
             return Kinds::Refused { place };

@@ -37,9 +37,9 @@ pub fn print_line(out: &mut [u8], at: usize, around: usize) -> usize
 }
 
 // Prints the word of a kind where a set of kinds has it.
-fn print_word(out: &mut [u8], at: usize, kinds: u64, kind: u64, word: &[u8]) -> usize
-    requires { ⌜ at + length (word-of (has-bit kinds kind) (now word)) < 2 ^ 64 ⌝ }
-    ensures printed { λ r. ⌜ Prints-word kinds kind (now (word .entry)) (now (out .entry)) (now (out .exit)) at r ⌝ }
+fn print_word(out: &mut [u8], at: usize, kinds: Shape, kind: Shape, word: &[u8]) -> usize
+    requires { ⌜ at + length (word-of (has-bit (kinds .kinds) (kind .kinds)) (now word)) < 2 ^ 64 ⌝ }
+    ensures printed { λ r. ⌜ Prints-word (kinds .kinds) (kind .kinds) (now (word .entry)) (now (out .entry)) (now (out .exit)) at r ⌝ }
 {
     if shapes::has(kinds, kind) {
         return print(out, at, word);
@@ -48,9 +48,9 @@ fn print_word(out: &mut [u8], at: usize, kinds: u64, kind: u64, word: &[u8]) -> 
 }
 
 // Prints how the form of a shape with these kinds begins.
-pub fn print_head(out: &mut [u8], at: usize, kinds: u64) -> usize
-    requires { ⌜ at + length (head-text kinds) < 2 ^ 64 ⌝ }
-    ensures printed { λ r. ⌜ Prints (now (out .entry)) (now (out .exit)) at (head-text kinds) r ⌝ }
+pub fn print_head(out: &mut [u8], at: usize, kinds: Shape) -> usize
+    requires { ⌜ at + length (head-text (kinds .kinds)) < 2 ^ 64 ⌝ }
+    ensures printed { λ r. ⌜ Prints (now (out .entry)) (now (out .exit)) at (head-text (kinds .kinds)) r ⌝ }
 {
     let mut j = print(out, at, b"(shape");
     j = print_word(out, j, kinds, Shape::NULL, b" null");

@@ -13,7 +13,8 @@ use Rattle.pool.specs.Pool.{text-in}
 use Rattle.shapes.specs.Shapes.{size-at}
 use Rattle.shapes.specs.ShapesLaws.{forms-some, stands-size, stands-name, Some-fields, some-fields}
 use Rattle.shapes.specs.ShapesLaws.{fields-left, fields-some, fields-first, fields-rest, fields-end}
-use Rattle.shapes.specs.Members.{Listed, Some-listed, Found-at}
+use Rattle.shapes.specs.Members.{Listed, Some-listed, Found-at, Tells, Names}
+use Rattle.shapes.specs.declared.Member.{Member}
 use Rattle.nodes.specs.StandingLaws.{text-referred}
 
 -- what is left to search at a row: the name of n bytes at word w is none of those before
@@ -142,3 +143,10 @@ module _ {shapes pool : List ℕ} {from end w n : ℕ} where
         : Searching shapes pool from end w n row → end ≤ row → (p : List ℕ) (fs : Fields) → Listed shapes pool from end p fs
         → find (text-in pool w n) fs ≡ none
     not-found v h p fs r = let here = v .left p fs r in here .alike ∙ none-by (text-in pool w n) (here .listed) h
+
+  -- a search by the text of a reference is one by the reference
+  pub as-named
+      : (k : ℕ) (r : Member) → w ≡ k % 65536 → n ≡ k / 65536
+      → ((p : List ℕ) (fs : Fields) → Listed shapes pool from end p fs → Tells shapes p end (text-in pool w n) fs r)
+      → Names shapes from end pool k r
+  as-named k r e f h p fs l = subst (λ (t : Bytes). Tells shapes p end t fs r) (ap₂ (λ (i j : ℕ). text-in pool i j) e f) (h p fs l)

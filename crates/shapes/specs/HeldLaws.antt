@@ -1,6 +1,6 @@
 -- Laws of what a shape table and a pool hold: the parts of a shape, and its members one by one. Assumes nothing.
 use Prim.Native.Nat.{ℕ, _+_, _/_, _%_, _≤_, _<_}
-use mathlib.Core.Path.{_≡_, refl, sym, ap, _∙_}
+use mathlib.Core.Path.{_≡_, refl, sym, ap, _∙_, subst}
 use mathlib.Core.Bool.{Bool}
 use mathlib.Core.List.{List}
 use native.Mathlib.Omega.{arith}
@@ -12,7 +12,8 @@ use Rattle.pool.specs.Pool.{text-in}
 use Rattle.shapes.specs.Shapes.{kind-bit, kind-bits, has-bit, Shape-rows, size-at, members-at}
 use Rattle.shapes.specs.ShapesLaws.{has-kind, forms-some, stands-kinds, stands-size, stands-name, stands-within, stands-element}
 use Rattle.shapes.specs.ShapesLaws.{stands-members, Some-fields, some-fields, fields-left, fields-first, fields-rest, fields-end, fields-some}
-use Rattle.shapes.specs.Members.{Listed, Some-listed, Found-at}
+use Rattle.shapes.specs.Members.{Listed, Some-listed, Found-at, Names}
+use Rattle.shapes.specs.declared.Member.{Member}
 use Rattle.shapes.specs.Held.{Holds-shape, Holds-fields}
 use Rattle.nodes.specs.StandingLaws.{text-referred}
 
@@ -107,3 +108,10 @@ no-field-left {fs = field m s fs} h past = absurd (let z : ⊥ = omega (arith, f
 
 pub members-within : {shapes pool : List ℕ} {from to : ℕ} {fs : Fields} → Holds-fields shapes pool from to fs → from ≤ to
 members-within h = omega (arith, fields-end (h .listed .stand))
+
+-- ---- names
+
+-- what a search tells of a reference that is read from a row
+pub names-of
+    : {shapes pool : List ℕ} {from end k m : ℕ} (r : Member) → k ≡ m → Names shapes from end pool k r → Names shapes from end pool m r
+names-of {shapes} {pool} {from} {end} r e h = subst (λ (i : ℕ). Names shapes from end pool i r) e h

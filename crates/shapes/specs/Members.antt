@@ -1,11 +1,12 @@
 -- Looking a member of a shape up by its name. Assumes nothing.
-use Prim.Native.Nat.{ℕ, _<_}
+use Prim.Native.Nat.{ℕ, _/_, _%_, _<_}
 use mathlib.Core.Path.{_≡_}
 use mathlib.Core.List.{List}
 use mathlib.Core.Option.{none, some}
 use lib.ListN.{length, take}
 use Rattle.definitions.specs.Bytes.{Bytes}
 use Rattle.definitions.specs.Shape.{Shape, Fields, find}
+use Rattle.pool.specs.Pool.{text-in}
 use Rattle.shapes.specs.Shapes.{Stands, Fields-stand}
 use Rattle.shapes.specs.declared.Member.{Member}
 use Rattle.shapes.specs.declared.Member.the-variants.{Found, Missing}
@@ -35,3 +36,8 @@ pub record Found-at (shapes p : List ℕ) (end : ℕ) (t : Bytes) (fs : Fields) 
 abbrev pub Tells : (shapes p : List ℕ) (end : ℕ) (t : Bytes) (fs : Fields) → Member → Type 0
 Tells shapes p end t fs (Found row) = Found-at shapes p end t fs row
 Tells shapes p end t fs Missing = find t fs ≡ none
+
+-- the member among those listed that has the name at a reference
+abbrev pub Names : (shapes : List ℕ) (from end : ℕ) (pool : List ℕ) (k : ℕ) → Member → Type 0
+Names shapes from end pool k r =
+    (p : List ℕ) (fs : Fields) → Listed shapes pool from end p fs → Tells shapes p end (text-in pool (k % 65536) (k / 65536)) fs r

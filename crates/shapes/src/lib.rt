@@ -1,12 +1,12 @@
 // The table of a shape: two words a form, in preorder. The functions that read it are total: past its end stands 0.
 ghost use mathlib.Core.Path.{_≡_};
-ghost use mathlib.Core.List.{List, _++_, _∷_};
-ghost use Prim.Native.Nat.{ℕ, _+_, _%_, _^_, _≤_, _<_};
+ghost use mathlib.Core.List.{_++_, _∷_};
+ghost use Prim.Native.Nat.{_+_, _%_, _^_, _≤_, _<_};
+ghost use lib.Bits.{bitOr};
+ghost use lib.Dec.{eqb};
 ghost use lib.ListN.{length, getD, take, drop};
-ghost use Rattle.definitions.specs.Shape.{Fields};
-ghost use Rattle.pool.specs.Pool.{text-in};
 ghost use Rattle.shapes.specs.Shapes.{has-bit, head-of, size-at, members-at};
-ghost use Rattle.shapes.specs.Members.{Listed, Some-listed, Tells};
+ghost use Rattle.shapes.specs.Members.{Some-listed, Names};
 
 // The kinds of a shape, a set that is the sum of the kinds' bits.
 pub struct Shape {
@@ -15,21 +15,21 @@ pub struct Shape {
 
 impl Shape {
     // the shape with no kind
-    pub const NOTHING: u64 = 0;
+    pub const NOTHING: Shape = Shape { kinds: 0 };
 
-    pub const NULL: u64 = 1;
+    pub const NULL: Shape = Shape { kinds: 1 };
 
-    pub const BOOL: u64 = 2;
+    pub const BOOL: Shape = Shape { kinds: 2 };
 
-    pub const INT: u64 = 4;
+    pub const INT: Shape = Shape { kinds: 4 };
 
-    pub const DEC: u64 = 8;
+    pub const DEC: Shape = Shape { kinds: 8 };
 
-    pub const TEXT: u64 = 16;
+    pub const TEXT: Shape = Shape { kinds: 16 };
 
-    pub const LIST: u64 = 32;
+    pub const LIST: Shape = Shape { kinds: 32 };
 
-    pub const REC: u64 = 64;
+    pub const REC: Shape = Shape { kinds: 64 };
 }
 
 // The word at a place.
@@ -40,10 +40,12 @@ fn word(shapes: &[u64], i: usize) -> u64
 }
 
 // The kinds of the shape at a row.
-pub fn kinds(shapes: &[u64], row: usize) -> u64
-    ensures read { λ r. ⌜ r ≡ getD (now (shapes .entry)) row 0 % 128 ⌝ }
+pub fn kinds(shapes: &[u64], row: usize) -> Shape
+    ensures read { λ r. ⌜ r .kinds ≡ getD (now (shapes .entry)) row 0 % 128 ⌝ }
 {
-    word(shapes, row) % 128
+    Shape {
+        kinds: word(shapes, row) % 128,
+    }
 }
 
 // How many words the shape at a row takes.
@@ -65,10 +67,26 @@ pub fn name(shapes: &[u64], row: usize) -> u64
 }
 
 // Whether a set of kinds has a kind.
-pub fn has(kinds: u64, kind: u64) -> bool
-    ensures told { λ r. ⌜ r ≡ has-bit kinds kind ⌝ }
+pub fn has(kinds: Shape, kind: Shape) -> bool
+    ensures told { λ r. ⌜ r ≡ has-bit (kinds .kinds) (kind .kinds) ⌝ }
 {
-    kinds & kind != 0
+    kinds.kinds & kind.kinds != 0
+}
+
+// The kinds of both of two sets.
+pub fn union(kinds: Shape, others: Shape) -> Shape
+    ensures made { λ r. ⌜ r .kinds ≡ bitOr (kinds .kinds) (others .kinds) ⌝ }
+{
+    Shape {
+        kinds: kinds.kinds | others.kinds,
+    }
+}
+
+// Whether the kinds of a set are all in another.
+pub fn is_within(kinds: Shape, others: Shape) -> bool
+    ensures told { λ r. ⌜ r ≡ eqb (bitOr (kinds .kinds) (others .kinds)) (others .kinds) ⌝ }
+{
+    kinds.kinds | others.kinds == others.kinds
 }
 
 // Where the members of the shape at a row begin: behind its element, if it has one.
@@ -85,21 +103,21 @@ pub fn members(shapes: &[u64], row: usize) -> usize
 }
 
 // Puts the first word of a row.
-pub fn put_head(shapes: &mut [u64], row: usize, kinds: u64, size: usize)
+pub fn put_head(shapes: &mut [u64], row: usize, kinds: Shape, size: usize)
     requires { ⌜ row < length (now shapes) ⌝ }
-    requires fits { ⌜ head-of kinds size < 2 ^ 64 ⌝ }
-    ensures put { λ _. ⌜ now (shapes .exit) ≡ take row (now (shapes .entry)) ++ head-of kinds size ∷ drop (row + 1) (now (shapes .entry)) ⌝ }
+    requires fits { ⌜ head-of (kinds .kinds) size < 2 ^ 64 ⌝ }
+    ensures put { λ _. ⌜ now (shapes .exit) ≡ take row (now (shapes .entry)) ++ head-of (kinds .kinds) size ∷ drop (row + 1) (now (shapes .entry)) ⌝ }
 {
-    shapes[row] = kinds + 128 * (size as u64);
+    shapes[row] = kinds.kinds + 128 * (size as u64);
 }
 
 // Puts the two words of a row.
-pub fn put_row(shapes: &mut [u64], row: usize, kinds: u64, size: usize, name: u64)
+pub fn put_row(shapes: &mut [u64], row: usize, kinds: Shape, size: usize, name: u64)
     requires { ⌜ row + 2 ≤ length (now shapes) ⌝ }
-    requires fits { ⌜ head-of kinds size < 2 ^ 64 ⌝ }
-    ensures put { λ _. ⌜ now (shapes .exit) ≡ take row (now (shapes .entry)) ++ head-of kinds size ∷ name ∷ drop (row + 2) (now (shapes .entry)) ⌝ }
+    requires fits { ⌜ head-of (kinds .kinds) size < 2 ^ 64 ⌝ }
+    ensures put { λ _. ⌜ now (shapes .exit) ≡ take row (now (shapes .entry)) ++ head-of (kinds .kinds) size ∷ name ∷ drop (row + 2) (now (shapes .entry)) ⌝ }
 {
-    shapes[row] = kinds + 128 * (size as u64);
+    shapes[row] = kinds.kinds + 128 * (size as u64);
     shapes[row + 1] = name;
 }
 
@@ -109,23 +127,17 @@ pub enum Member {
     Missing,
 }
 
-// The member of the name of n bytes at word w, among those that stand from one row up to another.
-pub fn find_member(
-    shapes: &[u64],
-    from: usize,
-    end: usize,
-    pool: &[u64],
-    w: usize,
-    n: usize,
-) -> Member
+// The member whose name is at a reference, among those that stand from one row up to another.
+pub fn find_named(shapes: &[u64], from: usize, end: usize, pool: &[u64], k: u64) -> Member
     requires { ⌜ Some-listed (now shapes) (now pool) from end ⌝ }
-    ensures told { λ r. ⌜ ((p : List ℕ) (fs : Fields) → Listed (now (shapes .entry)) (now (pool .entry)) from end p fs
-        → Tells (now (shapes .entry)) p end (text-in (now (pool .entry)) w n) fs r) ⌝ }
+    ensures told { λ r. ⌜ Names (now (shapes .entry)) from end (now (pool .entry)) k r ⌝ }
 {
+    let w = nodes::text_word(k);
+    let n = nodes::text_bytes(k);
     let mut row = from;
     while row < end {
-        let k = name(shapes, row);
-        if pool::same_text(pool, w, n, nodes::text_word(k), nodes::text_bytes(k)) {
+        let m = name(shapes, row);
+        if pool::same_text(pool, w, n, nodes::text_word(m), nodes::text_bytes(m)) {
             return Member::Found { row };
         }
         row += size(shapes, row);

@@ -20,9 +20,10 @@ use Rattle.admits.proofs.admits_members as admits-members
 use Rattle.admits.proofs.admits_members.Kinds as admits-members-kinds
 use Rattle.admits.proofs.+admits+admits_items+admits_members.Lts-admits_members as admits-members-lts
 use Rattle.admits.proofs.kind_bit.Reads as kind-bit-reads
-use Rattle.admits.proofs.listed.Reads as listed-reads
 use Rattle.admits.proofs.missing_have_null.Reads as missing-have-null-reads
+use Rattle.nodes.proofs.row_name.Reads as row-name-reads
 use Rattle.nodes.proofs.row_size.Reads as row-size-reads
+use Rattle.shapes.proofs.find_named.Reads as find-named-reads
 use Rattle.shapes.proofs.has.Reads as has-reads
 use Rattle.shapes.proofs.kinds.Reads as kinds-reads
 use Rattle.shapes.proofs.members.Reads as members-reads
@@ -103,7 +104,7 @@ seen-here
     : (t : ℕ) (c : admits-lts.After-has (admits-claims t) (admits-at t) admits.Reads.Post)
     → let at-start = c .before .before .before .before .before .before in
     Seen (at-start .args .shapes .now) (at-start .args .row) (at-start .args .nodes .now) (at-start .args .at) (at-start .args .pool .now)
-    (c .before .before .kind-bit .result) (c .has .result)
+    (c .before .before .kind-bit .result .kinds) (c .has .result)
 seen-here t c =
     let at-start = c .before .before .before .before .before .before in
     seen (at-start .args .shapes .now) (at-start .args .row) (at-start .args .nodes .now) (at-start .args .at) (at-start .args .pool .now)
@@ -117,52 +118,57 @@ admits-returns t c =
 
 admits-returns-2 : (t : ℕ) → admits-lts.Need-returns-2 (admits-claims t) (admits-at t) admits.Reads.Post
 admits-returns-2 t c =
-    let at-start = c .before .before .before .before .before .before .before .before in
+    let after-has = c .before .before .before .before in
+    let at-start = after-has .before .before .before .before .before .before in
     single (at-start .args .shapes .now) (at-start .args .row) (at-start .args .nodes .now) (at-start .args .at) (at-start .args .pool .now)
-    (seen-here t (c .before .before)) (c .before .if1 .left) (c .if2 .taken)
+    (seen-here t after-has) (c .before .before .before .if1 .left) (c .if2 .taken)
 
 admits-add-end : (t : ℕ) → admits-lts.Need-add-end (admits-claims t) (admits-at t) admits.Reads.Post
 admits-add-end t c =
-    let at-start = c .before .before .before .before .before .before .before .before .before in
+    let after-has = c .before .before .before .before .before in
+    let at-start = after-has .before .before .before .before .before .before in
     omega (arith, value-ends (at-start .pre .1 .holds) .1, c .row-size .ensures, at-start .good .1 .1 .0 .0)
 
 admits-add-admits-items : (t : ℕ) → admits-lts.Need-add-admits-items (admits-claims t) (admits-at t) admits.Reads.Post
 admits-add-admits-items t c =
-    let after-kinds = c .before .before .before .before .before in
+    let after-kinds = c .before .before .before .before .before .before .before .before .before in
     let at-start = after-kinds .before .before .before .before .before in
     omega (arith, held-within (at-start .pre .1 .held) .0, held-within (at-start .pre .1 .held) .1, at-start .good .0 .0)
 
 admits-add-admits-items-2 : (t : ℕ) → admits-lts.Need-add-admits-items-2 (admits-claims t) (admits-at t) admits.Reads.Post
 admits-add-admits-items-2 t c =
-    let after-kinds = c .before .before .before .before .before in
+    let after-kinds = c .before .before .before .before .before .before .before .before .before in
     let at-start = after-kinds .before .before .before .before .before in
     omega (arith, value-ends (at-start .pre .1 .holds) .0, value-ends (at-start .pre .1 .holds) .1, at-start .good .1 .1 .0 .0)
 
 admits-admits-items-requires : (t : ℕ) → admits-lts.Need-admits-items-requires (admits-claims t) (admits-at t) admits.Reads.Post
 admits-admits-items-requires t c κs =
-    let after-has = c .before .before .before .before in
+    let else1 = c .before .before .before .before .before .before .before in
+    let after-has = else1 .before in
     let at-start = after-has .before .before .before .before .before .before in (
       omega (arith, at-start .pre .0, value-ends (at-start .pre .1 .holds) .0, value-ends (at-start .pre .1 .holds) .1),
       list-asks (at-start .args .shapes .now) (at-start .args .row) (at-start .args .nodes .now) (at-start .args .at) (at-start .args .pool .now)
-          (seen-here t after-has) (c .before .before .before .if1 .left) (c .before .row-size .ensures) (c .if3 .taken) (at-start .pre .1),
+          (seen-here t after-has) (else1 .if1 .left) (c .before .before .before .row-size .ensures) (c .if3 .taken) (at-start .pre .1),
     )
 
 admits-returns-3 : (t : ℕ) → admits-lts.Need-returns-3 (admits-claims t) (admits-at t) admits.Reads.Post
 admits-returns-3 t c =
-    let else1 = c .before .before .before .before in
+    let after-row-size = c .before .before .before .before in
+    let else1 = after-row-size .before .before .before .before in
     let at-start = else1 .before .before .before .before .before .before .before in
     list-told (at-start .args .shapes .now) (at-start .args .row) (at-start .args .nodes .now) (at-start .args .at) (at-start .args .pool .now)
-    (seen-here t (else1 .before)) (else1 .if1 .left) (c .before .before .row-size .ensures) (c .before .if3 .taken) (c .admits-items .ensures)
+    (seen-here t (else1 .before)) (else1 .if1 .left) (after-row-size .row-size .ensures) (c .before .if3 .taken) (c .admits-items .ensures)
 
 admits-members-requires : (t : ℕ) → admits-lts.Need-members-requires (admits-claims t) (admits-at t) admits.Reads.Post
 admits-members-requires t c κs =
-    let after-has = c .before .before .before .before in
+    let else2 = c .before .before .before .before in
+    let after-has = else2 .before .before .before .before in
     let at-start = after-has .before .before .before .before .before .before in (
       omega (arith, held-within (at-start .pre .1 .held) .0, held-within (at-start .pre .1 .held) .1),
       omega (
         arith,
         members-within (at-start .args .shapes .now) (at-start .args .row) (at-start .args .nodes .now) (at-start .args .at) (at-start .args .pool .now)
-            (seen-here t after-has) (c .before .before .before .if1 .left) (c .before .row-size .ensures) (c .before .before .if2 .left)
+            (seen-here t after-has) (else2 .before .before .before .if1 .left) (c .before .before .before .row-size .ensures) (else2 .if2 .left)
             (c .if3 .left) (at-start .pre .1),
         held-within (at-start .pre .1 .held) .1,
         at-start .good .0 .0,
@@ -171,58 +177,66 @@ admits-members-requires t c κs =
 
 admits-add-to : (t : ℕ) → admits-lts.Need-add-to (admits-claims t) (admits-at t) admits.Reads.Post
 admits-add-to t c =
-    let after-has = c .before .before .before .before .before .before in
+    let after-row-size = c .before .before .before .before .before in
+    let after-has = after-row-size .before .before .before .before .before in
     let at-start = after-has .before .before .before .before .before .before in
     omega (arith, held-within (at-start .pre .1 .held) .1, c .size .ensures, at-start .good .0 .0)
 
 admits-add-admits-members : (t : ℕ) → admits-lts.Need-add-admits-members (admits-claims t) (admits-at t) admits.Reads.Post
 admits-add-admits-members t c =
-    let after-has = c .before .before .before .before .before .before in
+    let after-row-size = c .before .before .before .before .before in
+    let after-has = after-row-size .before .before .before .before .before in
     let at-start = after-has .before .before .before .before .before .before in
     omega (arith, value-ends (at-start .pre .1 .holds) .0, value-ends (at-start .pre .1 .holds) .1, at-start .good .1 .1 .0 .0)
 
 admits-admits-members-requires : (t : ℕ) → admits-lts.Need-admits-members-requires (admits-claims t) (admits-at t) admits.Reads.Post
 admits-admits-members-requires t c κs =
-    let else2 = c .before .before .before .before in
-    let at-start = else2 .before .before .before .before .before .before .before .before in (
+    let after-row-size = c .before .before .before .before .before in
+    let else2 = after-row-size .before in
+    let at-start = else2 .before .before .before .before .before .before .before .before .before .before in (
       omega (arith, at-start .pre .0, value-ends (at-start .pre .1 .holds) .0, value-ends (at-start .pre .1 .holds) .1),
       rec-asks (at-start .args .shapes .now) (at-start .args .row) (at-start .args .nodes .now) (at-start .args .at) (at-start .args .pool .now)
-          (seen-here t (else2 .before .before)) (else2 .before .if1 .left) (c .before .before .before .row-size .ensures) (else2 .if2 .left)
+          (seen-here t (else2 .before .before .before .before)) (else2 .before .before .before .if1 .left)
+          (after-row-size .row-size .ensures) (else2 .if2 .left)
           (c .before .before .if3 .left) (c .before .members .ensures) (c .size .ensures) (at-start .pre .1),
     )
 
 admits-returns-4 : (t : ℕ) → admits-lts.Need-returns-4 (admits-claims t) (admits-at t) admits.Reads.Post
 admits-returns-4 t c =
     let else3 = c .before .before .before .before in
-    let after-has = else3 .before .before .before .before in
+    let after-has = else3 .before .before .before .before .before .before .before .before in
     let at-start = after-has .before .before .before .before .before .before in
     rec-fails (at-start .args .shapes .now) (at-start .args .row) (at-start .args .nodes .now) (at-start .args .at) (at-start .args .pool .now)
-    (seen-here t after-has) (else3 .before .before .before .if1 .left) (else3 .before .row-size .ensures) (else3 .before .before .if2 .left) (else3 .if3 .left)
+    (seen-here t after-has) (else3 .before .before .before .before .before .before .before .if1 .left) (else3 .before .before .before .row-size .ensures)
+    (else3 .before .before .before .before .if2 .left) (else3 .if3 .left)
     (c .before .before .before .members .ensures) (c .before .before .size .ensures)
     (c .before .admits-members .ensures) (c .if4 .taken)
 
 admits-add-missing-have-null : (t : ℕ) → admits-lts.Need-add-missing-have-null (admits-claims t) (admits-at t) admits.Reads.Post
 admits-add-missing-have-null t c =
-    let after-has = c .before .before .before .before .before .before .before .before in
+    let after-row-size = c .before .before .before .before .before .before .before in
+    let after-has = after-row-size .before .before .before .before .before in
     let at-start = after-has .before .before .before .before .before .before in
     omega (arith, value-ends (at-start .pre .1 .holds) .0, value-ends (at-start .pre .1 .holds) .1, at-start .good .1 .1 .0 .0)
 
 admits-missing-have-null-requires : (t : ℕ) → admits-lts.Need-missing-have-null-requires (admits-claims t) (admits-at t) admits.Reads.Post
 admits-missing-have-null-requires t c κs =
     let else3 = c .before .before .before .before in
-    let after-has = else3 .before .before .before .before in
+    let after-has = else3 .before .before .before .before .before .before .before .before in
     let at-start = after-has .before .before .before .before .before .before in
     rec-asks (at-start .args .shapes .now) (at-start .args .row) (at-start .args .nodes .now) (at-start .args .at) (at-start .args .pool .now)
-    (seen-here t after-has) (else3 .before .before .before .if1 .left) (else3 .before .row-size .ensures) (else3 .before .before .if2 .left) (else3 .if3 .left)
+    (seen-here t after-has) (else3 .before .before .before .before .before .before .before .if1 .left) (else3 .before .before .before .row-size .ensures)
+    (else3 .before .before .before .before .if2 .left) (else3 .if3 .left)
     (c .before .before .before .members .ensures) (c .before .before .size .ensures) (at-start .pre .1)
 
 admits-returns-5 : (t : ℕ) → admits-lts.Need-returns-5 (admits-claims t) (admits-at t) admits.Reads.Post
 admits-returns-5 t c =
     let after-members = c .before .before .before .before in
-    let else1 = after-members .before .before .before .before in
+    let else1 = after-members .before .before .before .before .before .before .before .before in
     let at-start = else1 .before .before .before .before .before .before .before in
     rec-told (at-start .args .shapes .now) (at-start .args .row) (at-start .args .nodes .now) (at-start .args .at) (at-start .args .pool .now)
-    (seen-here t (else1 .before)) (else1 .if1 .left) (after-members .before .before .row-size .ensures) (after-members .before .before .before .if2 .left)
+    (seen-here t (else1 .before)) (else1 .if1 .left) (after-members .before .before .before .before .row-size .ensures)
+    (after-members .before .before .before .before .before .if2 .left)
     (after-members .before .if3 .left) (after-members .members .ensures) (c .before .before .before .size .ensures)
     (c .before .before .admits-members .ensures) (c .before .if4 .left) (c .missing-have-null .ensures)
 
@@ -313,8 +327,10 @@ admits-members-μ-loop shapes from to nodes at end pool i₀ i = end - i
 -- what the functions called ask and ensure
 abbrev admits-members-claims : ℕ → admits-members-lts.Claims
 admits-members-claims t = (
-  listed-reads.Asked,
-  listed-reads.Learnt,
+  row-name-reads.Asked,
+  row-name-reads.Learnt,
+  find-named-reads.Asked,
+  find-named-reads.Learnt,
   admits-below t,
   admits.Reads.Post,
   row-size-reads.Asked,
@@ -331,55 +347,58 @@ admits-members-loop-holds t c =
     named.walk-begins (at-start .args .shapes .now) (at-start .args .from) (at-start .args .to) (at-start .args .nodes .now) (at-start .args .at)
     (at-start .args .end) (at-start .args .pool .now)
 
-admits-members-listed-requires
+admits-members-find-named-requires
     : (t : ℕ)
-    → admits-members-lts.Need-listed-requires (admits-members-claims t) (admits-members-at t) admits-members.Reads.Post
+    → admits-members-lts.Need-find-named-requires (admits-members-claims t) (admits-members-at t) admits-members.Reads.Post
     admits-members-Inv-loop admits-members-μ-loop
-admits-members-listed-requires t c κs =
-    let at-start = c .before .before .before .before .before in
+admits-members-find-named-requires t c κs =
+    let at-start = c .before .before .before .before .before .before in
     some-listed (at-start .pre .1 .held)
 
 admits-members-returns
     : (t : ℕ)
     → admits-members-lts.Need-returns (admits-members-claims t) (admits-members-at t) admits-members.Reads.Post admits-members-Inv-loop admits-members-μ-loop
 admits-members-returns t c =
-    let after-listed = c .before .before in
-    let at-start = after-listed .before .before .before .before .before .before in
+    let after-find-named = c .before .before in
+    let at-start = after-find-named .before .before .before .before .before .before .before in
     named.walk-misses (at-start .args .shapes .now) (at-start .args .from) (at-start .args .to) (at-start .args .nodes .now) (at-start .args .at)
-    (at-start .args .end) (at-start .args .pool .now) (after-listed .before .before .loop .inv) (after-listed .before .loop-test .taken)
-    (after-listed .listed .result) (after-listed .listed .ensures) (c .enum-told .given .1)
+    (at-start .args .end) (at-start .args .pool .now) (after-find-named .before .before .before .loop .inv) (after-find-named .before .before .loop-test .taken)
+    (after-find-named .find-named .result) (after-find-named .before .row-name .ensures)
+    (after-find-named .find-named .ensures) (c .enum-told .given .1)
 
 admits-members-admits-requires
     : (t : ℕ)
     → admits-members-lts.Need-admits-requires (admits-members-claims t) (admits-members-at t) admits-members.Reads.Post
     admits-members-Inv-loop admits-members-μ-loop
 admits-members-admits-requires t c κs =
-    let after-listed = c .before .before .before in
-    let at-loop = after-listed .before .before in
+    let after-find-named = c .before .before .before in
+    let at-loop = after-find-named .before .before .before in
     let at-start = at-loop .before .before .before .before in
     let s = named.walk-step (at-start .args .shapes .now) (at-start .args .from) (at-start .args .to) (at-start .args .nodes .now) (at-start .args .at)
-    (at-start .args .end) (at-start .args .pool .now) (at-loop .loop .inv) (after-listed .before .loop-test .taken) (at-start .pre .1) in (
+    (at-start .args .end) (at-start .args .pool .now) (at-loop .loop .inv) (after-find-named .before .before .loop-test .taken) (at-start .pre .1) in (
       omega (arith, at-start .pre .0, at-loop .loop .inv .ahead, s .0, s .1),
       named.walk-asks (at-start .args .shapes .now) (at-start .args .from) (at-start .args .to) (at-start .args .nodes .now) (at-start .args .at)
-          (at-start .args .end) (at-start .args .pool .now) (at-loop .loop .inv) (after-listed .before .loop-test .taken)
-          (after-listed .listed .result) (after-listed .listed .ensures) (c .before .row .given .1) (at-start .pre .1),
+          (at-start .args .end) (at-start .args .pool .now) (at-loop .loop .inv) (after-find-named .before .before .loop-test .taken)
+          (after-find-named .find-named .result) (after-find-named .before .row-name .ensures)
+          (after-find-named .find-named .ensures) (c .before .named .given .1) (at-start .pre .1),
     )
 
 admits-members-returns-2
     : (t : ℕ)
     → admits-members-lts.Need-returns-2 (admits-members-claims t) (admits-members-at t) admits-members.Reads.Post admits-members-Inv-loop admits-members-μ-loop
 admits-members-returns-2 t c =
-    let after-listed = c .before .before .before .before .before in
-    let at-start = after-listed .before .before .before .before .before .before in
+    let after-find-named = c .before .before .before .before .before in
+    let at-start = after-find-named .before .before .before .before .before .before .before in
     named.walk-fails (at-start .args .shapes .now) (at-start .args .from) (at-start .args .to) (at-start .args .nodes .now) (at-start .args .at)
-    (at-start .args .end) (at-start .args .pool .now) (after-listed .before .before .loop .inv) (after-listed .before .loop-test .taken)
-    (after-listed .listed .result) (after-listed .listed .ensures) (c .before .before .before .row .given .1) (c .before .admits .ensures) (c .if1 .taken)
+    (at-start .args .end) (at-start .args .pool .now) (after-find-named .before .before .before .loop .inv) (after-find-named .before .before .loop-test .taken)
+    (after-find-named .find-named .result) (after-find-named .before .row-name .ensures)
+    (after-find-named .find-named .ensures) (c .before .before .before .named .given .1) (c .before .admits .ensures) (c .if1 .taken)
 
 admits-members-add-i
     : (t : ℕ)
     → admits-members-lts.Need-add-i (admits-members-claims t) (admits-members-at t) admits-members.Reads.Post admits-members-Inv-loop admits-members-μ-loop
 admits-members-add-i t c =
-    let in-loop = c .before .before .before .before .before .before .before in
+    let in-loop = c .before .before .before .before .before .before .before .before in
     let at-start = in-loop .before .before .before .before .before in
     let s = named.walk-step (at-start .args .shapes .now) (at-start .args .from) (at-start .args .to) (at-start .args .nodes .now) (at-start .args .at)
     (at-start .args .end) (at-start .args .pool .now) (in-loop .before .loop .inv) (in-loop .loop-test .taken) (at-start .pre .1) in
@@ -389,7 +408,7 @@ admits-members-loop-less
     : (t : ℕ)
     → admits-members-lts.Need-loop-less (admits-members-claims t) (admits-members-at t) admits-members.Reads.Post admits-members-Inv-loop admits-members-μ-loop
 admits-members-loop-less t c =
-    let in-loop = c .before .before .before .before .before .before .before in
+    let in-loop = c .before .before .before .before .before .before .before .before in
     let at-start = in-loop .before .before .before .before .before in
     let s = named.walk-step (at-start .args .shapes .now) (at-start .args .from) (at-start .args .to) (at-start .args .nodes .now) (at-start .args .at)
     (at-start .args .end) (at-start .args .pool .now) (in-loop .before .loop .inv) (in-loop .loop-test .taken) (at-start .pre .1) in
@@ -399,12 +418,13 @@ admits-members-loop-again
     : (t : ℕ)
     → admits-members-lts.Need-loop-again (admits-members-claims t) (admits-members-at t) admits-members.Reads.Post admits-members-Inv-loop admits-members-μ-loop
 admits-members-loop-again t c =
-    let after-row = c .before .before .before .before in
-    let after-listed = after-row .before .before in
-    let at-start = after-listed .before .before .before .before .before .before in
+    let after-named = c .before .before .before .before in
+    let after-find-named = after-named .before .before in
+    let at-start = after-find-named .before .before .before .before .before .before .before in
     named.walk-on (at-start .args .shapes .now) (at-start .args .from) (at-start .args .to) (at-start .args .nodes .now) (at-start .args .at)
-    (at-start .args .end) (at-start .args .pool .now) (after-listed .before .before .loop .inv) (after-listed .before .loop-test .taken)
-    (after-listed .listed .result) (after-listed .listed .ensures) (after-row .row .given .1) (c .before .before .admits .ensures)
+    (at-start .args .end) (at-start .args .pool .now) (after-find-named .before .before .before .loop .inv) (after-find-named .before .before .loop-test .taken)
+    (after-find-named .find-named .result) (after-find-named .before .row-name .ensures)
+    (after-find-named .find-named .ensures) (after-named .named .given .1) (c .before .before .admits .ensures)
     (c .before .if1 .left) (c .row-size .ensures)
 
 admits-members-returns-3
@@ -457,7 +477,8 @@ pub +admits+admits-items+admits-members-spec : {M : Type 1} → statement M
     admits-members-Inv-loop
     admits-members-μ-loop
     (admits-members-loop-holds t)
-    (admits-members-listed-requires t)
+    (λ c κs. search needs)
+    (admits-members-find-named-requires t)
     (λ c. search needs) (λ c. search needs)
     (admits-members-returns t)
     (admits-members-admits-requires t)

@@ -452,8 +452,8 @@ infer-list-raise-requires t c κs =
     (ap (λ (x : ℕ). at-start .args .at + x) (after-ready-element .before .before .row-size .ensures)) (after-infer-items .infer-items .last .0)
     (after-infer-items .infer-items .result) (after-infer-items .infer-items .ensures) (c .before .before .words .given .1) (at-start .pre .1 .0)
 
-infer-list-add-t25 : (t : ℕ) → infer-list-lts.Need-add-t25 (infer-list-claims t) (infer-list-at t) infer-list.Post
-infer-list-add-t25 t c =
+infer-list-add-t26 : (t : ℕ) → infer-list-lts.Need-add-t26 (infer-list-claims t) (infer-list-at t) infer-list.Post
+infer-list-add-t26 t c =
     let after-words = c .before .before .before .before .before in
     let after-infer-items = after-words .before .before .before .before in
     let after-ready-element = after-infer-items .before .before .before .before .before .before .before in
@@ -973,7 +973,7 @@ pub +infer-into+infer-items+infer-list+infer-member+infer-members+infer-record-s
     (λ c. search needs) (λ c. search needs)
     (infer-list-add-raise t)
     (infer-list-raise-requires t)
-    (infer-list-add-t25 t)
+    (infer-list-add-t26 t)
     (infer-list-same-length t)
     (infer-list-returns t)
     (infer-list-same-length-2 t)

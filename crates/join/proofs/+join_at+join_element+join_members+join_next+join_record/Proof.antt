@@ -35,7 +35,7 @@ use Rattle.join.proofs.+join_at+join_element+join_members+join_next+joi
 use Rattle.join.proofs.add_null.Reads as add-null-reads
 use Rattle.join.proofs.grow_head.Reads as grow-head-reads
 use Rattle.join.proofs.next_member.Reads as next-member-reads
-use Rattle.join.proofs.passed.Reads as passed-reads
+use Rattle.join.proofs.second_step.Reads as second-step-reads
 use Rattle.join.proofs.put_element.Reads as put-element-reads
 use Rattle.join.proofs.put_member.Reads as put-member-reads
 use Rattle.join.proofs.put_members.Reads as put-members-reads
@@ -44,6 +44,7 @@ use Rattle.shapes.proofs.kinds.Reads as kinds-reads
 use Rattle.shapes.proofs.members.Reads as members-reads
 use Rattle.shapes.proofs.put_head.Reads as put-head-reads
 use Rattle.shapes.proofs.size.Reads as size-reads
+use Rattle.shapes.proofs.union.Reads as union-reads
 use Rattle.join.proofs.+join_at+join_element+join_members+join_next+join_record.{statement}
 use Rattle.join.proofs.+join_at+join_element+join_members+join_next+join_record.Tie.{close}
 
@@ -116,6 +117,8 @@ join-at-claims t = (
   join-element.Post,
   kinds-reads.Asked,
   kinds-reads.Learnt,
+  union-reads.Asked,
+  union-reads.Learnt,
   size-reads.Asked,
   size-reads.Learnt,
   put-head-reads.Asked,
@@ -144,8 +147,8 @@ join-members-claims t = (
   join-next.Post,
   size-reads.Asked,
   size-reads.Learnt,
-  passed-reads.Asked,
-  passed-reads.Learnt,
+  second-step-reads.Asked,
+  second-step-reads.Learnt,
 )
 
 abbrev join-next-claims : ℕ → join-next-lts.Claims
@@ -237,7 +240,8 @@ join-at-returns-2 t c p m k a b j =
 
 join-at-put-head-requires : (t : ℕ) → join-at-lts.Need-put-head-requires (join-at-claims t) (join-at-at t) join-at.Post
 join-at-put-head-requires t c κs =
-    let after-kinds = c .before .before .before .before in
+    let after-kinds2 = c .before .before .before .before in
+    let after-kinds = after-kinds2 .before in
     let after-join-element = after-kinds .before .before .before .before .before .before .before in
     let after-join-record = after-join-element .before .before .before .before .before .before .before in
     let w = after-join-record .before .before .before .before .before .pre .1 in
@@ -245,12 +249,13 @@ join-at-put-head-requires t c κs =
     (after-join-record .join-record .ensures) (w .joins) in
     let v = joined-grown join-elements (after-join-element .join-element .last .0) (after-kinds .before .before .before .r2 .given .1)
     (after-join-element .join-element .ensures) (members-joins (w .joins) q) in
-    head-asks (w .joins) q v (after-kinds .kinds .ensures) (c .before .before .before .kinds2 .ensures) (c .before .size .ensures) (w .small)
+    head-asks (w .joins) q v (after-kinds .kinds .ensures) (after-kinds2 .kinds2 .ensures)
+    (c .before .before .before .union .ensures) (c .before .size .ensures) (w .small)
 
 join-at-add-t18 : (t : ℕ) → join-at-lts.Need-add-t18 (join-at-claims t) (join-at-at t) join-at.Post
 join-at-add-t18 t c =
     let after-size-arg = c .before .before .before .before .before in
-    let after-r2 = after-size-arg .before .before .before .before .before in
+    let after-r2 = after-size-arg .before .before .before .before .before .before in
     let after-join-element = after-r2 .before .before .before .before in
     let after-join-record = after-join-element .before .before .before .before .before .before .before in
     let w = after-join-record .before .before .before .before .before .pre .1 in
@@ -262,7 +267,7 @@ join-at-add-t18 t c =
 
 join-at-same-length-3 : (t : ℕ) → join-at-lts.Need-same-length-3 (join-at-claims t) (join-at-at t) join-at.Post
 join-at-same-length-3 t c =
-    let after-kinds = c .before .before .before .before .before .before .before in
+    let after-kinds = c .before .before .before .before .before .before .before .before in
     let after-join-element = after-kinds .before .before .before .before .before .before .before in
     let after-join-record = after-join-element .before .before .before .before .before .before .before in
     c .before .before .put-head .kept .0 ∙ after-join-element .join-element .kept .0 ∙ after-join-record .join-record .kept .0
@@ -270,7 +275,7 @@ join-at-same-length-3 t c =
 join-at-returns-3 : (t : ℕ) → join-at-lts.Need-returns-3 (join-at-claims t) (join-at-at t) join-at.Post
 join-at-returns-3 t c p m k a b j =
     let after-put-head = c .before .before in
-    let after-kinds2 = after-put-head .before .before .before .before in
+    let after-kinds2 = after-put-head .before .before .before .before .before in
     let after-r2 = after-kinds2 .before .before .before .before in
     let after-join-element = after-r2 .before .before .before .before in
     let after-join-record = after-join-element .before .before .before .before .before .before .before in
@@ -278,7 +283,8 @@ join-at-returns-3 t c p m k a b j =
     (after-join-record .join-record .ensures) j in
     let v = joined-grown join-elements (after-join-element .join-element .last .0) (after-r2 .r2 .given .1)
     (after-join-element .join-element .ensures) (members-joins j q) in
-    whole-grown j q v (after-kinds2 .before .kinds .ensures) (after-kinds2 .kinds2 .ensures) (after-put-head .before .before .size .ensures)
+    whole-grown j q v (after-kinds2 .before .kinds .ensures) (after-kinds2 .kinds2 .ensures) (after-put-head .before .before .before .before .union .ensures)
+    (after-put-head .before .before .size .ensures)
     (after-put-head .put-head .ensures) (after-put-head .put-head .kept .0)
 
 join-element-returns : (t : ℕ) → join-element-lts.Need-returns (join-element-claims t) (join-element-at t) join-element.Post
@@ -474,8 +480,8 @@ join-members-loop-again t c =
     let after-join-next = after-r .before .before .before .before in
     let in-loop = after-join-next .before .before .before .before in
     loop-again (in-loop .before .loop .inv) (after-join-next .before .before .next-member .ensures) (in-loop .loop-test .taken)
-    (after-join-next .join-next .last .0) (after-join-next .join-next .ensures) (after-r .r .given .1) (c .before .size .result) (c .passed .result)
-    (c .before .size .ensures) (c .passed .ensures)
+    (after-join-next .join-next .last .0) (after-join-next .join-next .ensures) (after-r .r .given .1) (c .before .size .result) (c .second-step .result)
+    (c .before .size .ensures) (c .second-step .ensures)
 
 join-members-add-j
     : (t : ℕ) → join-members-lts.Need-add-j (join-members-claims t) (join-members-at t) join-members.Post join-members-Inv-loop join-members-μ-loop
@@ -501,8 +507,8 @@ join-members-loop-less t c =
     let in-loop = after-join-next .before .before .before .before in
     let at-start = in-loop .before .before .before .before .before in
     loop-less (in-loop .before .loop .inv) (after-join-next .before .before .next-member .ensures) (in-loop .loop-test .taken)
-    (after-join-next .join-next .last .0) (after-join-next .join-next .ensures) (after-r .r .given .1) (c .before .size .result) (c .passed .result)
-    (c .before .size .ensures) (c .passed .ensures) (at-start .pre .1)
+    (after-join-next .join-next .last .0) (after-join-next .join-next .ensures) (after-r .r .given .1) (c .before .size .result) (c .second-step .result)
+    (c .before .size .ensures) (c .second-step .ensures) (at-start .pre .1)
 
 join-members-same-length-2
     : (t : ℕ) → join-members-lts.Need-same-length-2 (join-members-claims t) (join-members-at t) join-members.Post join-members-Inv-loop join-members-μ-loop
@@ -700,7 +706,7 @@ pub +join-at+join-element+join-members+join-next+join-record-spec : {M : Type 1}
     (λ c. search needs) (λ c. search needs)
     (join-at-same-length-2 t)
     (join-at-returns-2 t)
-    (λ c κs. search needs) (λ c κs. search needs) (λ c κs. search needs)
+    (λ c κs. search needs) (λ c κs. search needs) (λ c κs. search needs) (λ c κs. search needs)
     (join-at-put-head-requires t)
     (join-at-add-t18 t)
     (join-at-same-length-3 t)

@@ -5,7 +5,7 @@ use Rattle.join.proofs.grow_head.Statement.{statement}
 use Rattle.join.proofs.grow_head.Tie as tie
 
 returns : tie.Need-returns
-returns c = head-set _ _ _ (c .before .pre .0)
+returns c = head-set _ _ _ (c .before .before .pre .0)
 
 pub grow-head-spec : {M : Type 1} → statement M
 grow-head-spec =

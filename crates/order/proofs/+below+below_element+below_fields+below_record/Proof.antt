@@ -21,10 +21,12 @@ use Rattle.order.proofs.below_record as below-record
 use Rattle.order.proofs.below_record.Kinds as below-record-kinds
 use Rattle.order.proofs.+below+below_element+below_fields+below_record.Lts-below_record as below-record-lts
 use Rattle.order.proofs.lacked_have_null.Reads as lacked-have-null-reads
-use Rattle.order.proofs.namesake.Reads as namesake-reads
+use Rattle.shapes.proofs.find_named.Reads as find-named-reads
 use Rattle.shapes.proofs.has.Reads as has-reads
+use Rattle.shapes.proofs.is_within.Reads as is-within-reads
 use Rattle.shapes.proofs.kinds.Reads as kinds-reads
 use Rattle.shapes.proofs.members.Reads as members-reads
+use Rattle.shapes.proofs.name.Reads as name-reads
 use Rattle.shapes.proofs.size.Reads as size-reads
 use Rattle.order.proofs.+below+below_element+below_fields+below_record.{statement}
 use Rattle.order.proofs.+below+below_element+below_fields+below_record.Tie.{close}
@@ -88,6 +90,8 @@ abbrev below-claims : ℕ → below-lts.Claims
 below-claims t = (
   kinds-reads.Asked,
   kinds-reads.Learnt,
+  is-within-reads.Asked,
+  is-within-reads.Learnt,
   below-element-below t,
   below-element.Reads.Post,
   below-record-below t,
@@ -99,24 +103,24 @@ below-claims t = (
 -- the first test is passed
 passed
     : (t : ℕ) (c : below-lts.Else1 (below-claims t) (below-at t) below.Reads.Post)
-    → let at-start = c .before .before .before .before .before .before in
+    → let at-start = c .before .before .before .before .before .before .before in
     Passed (at-start .args .first .now) (at-start .args .a)
     (at-start .args .second .now) (at-start .args .b)
     (at-start .args .pool .now)
 passed t c =
-    let at-start = c .before .before .before .before .before .before in
+    let at-start = c .before .before .before .before .before .before .before in
     kinds-pass (at-start .args .first .now) (at-start .args .a) (at-start .args .second .now) (at-start .args .b) (at-start .args .pool .now)
-    (c .before .before .kinds .ensures) (c .before .kinds2 .ensures) (c .if1 .left)
+    (c .before .before .before .kinds .ensures) (c .before .before .kinds2 .ensures) (c .before .is-within .ensures) (c .if1 .left)
 
 below-returns : (t : ℕ) → below-lts.Need-returns (below-claims t) (below-at t) below.Reads.Post
 below-returns t c =
-    let at-start = c .before .before .before .before .before .before in
+    let at-start = c .before .before .before .before .before .before .before in
     kinds-fail (at-start .args .first .now) (at-start .args .a) (at-start .args .second .now) (at-start .args .b) (at-start .args .pool .now)
-    (c .before .before .kinds .ensures) (c .before .kinds2 .ensures) (c .if1 .taken)
+    (c .before .before .before .kinds .ensures) (c .before .before .kinds2 .ensures) (c .before .is-within .ensures) (c .if1 .taken)
 
 below-below-element-requires : (t : ℕ) → below-lts.Need-below-element-requires (below-claims t) (below-at t) below.Reads.Post
 below-below-element-requires t c κs =
-    let at-start = c .before .before .before .before .before .before in (
+    let at-start = c .before .before .before .before .before .before .before in (
       omega (arith, at-start .pre .0, at-start .pre .1 .deep, some-level (at-start .pre .1 .shape)),
       parts-asked (at-start .args .first .now) (at-start .args .a) (at-start .args .second .now) (at-start .args .b) (at-start .args .pool .now)
           (passed t c) (at-start .pre .1),
@@ -124,13 +128,13 @@ below-below-element-requires t c κs =
 
 below-returns-2 : (t : ℕ) → below-lts.Need-returns-2 (below-claims t) (below-at t) below.Reads.Post
 below-returns-2 t c =
-    let at-start = c .before .before .before .before .before .before .before .before in
+    let at-start = c .before .before .before .before .before .before .before .before .before in
     element-fails (at-start .args .first .now) (at-start .args .a) (at-start .args .second .now) (at-start .args .b) (at-start .args .pool .now)
     (passed t (c .before .before)) (c .before .below-element .ensures) (c .if2 .taken)
 
 below-below-record-requires : (t : ℕ) → below-lts.Need-below-record-requires (below-claims t) (below-at t) below.Reads.Post
 below-below-record-requires t c κs =
-    let at-start = c .before .before .before .before .before .before .before .before in (
+    let at-start = c .before .before .before .before .before .before .before .before .before in (
       omega (arith, at-start .pre .0, at-start .pre .1 .deep, some-level (at-start .pre .1 .shape)),
       parts-asked (at-start .args .first .now) (at-start .args .a) (at-start .args .second .now) (at-start .args .b) (at-start .args .pool .now)
           (passed t (c .before .before)) (at-start .pre .1),
@@ -138,7 +142,8 @@ below-below-record-requires t c κs =
 
 below-returns-3 : (t : ℕ) → below-lts.Need-returns-3 (below-claims t) (below-at t) below.Reads.Post
 below-returns-3 t c =
-    let at-start = c .before .before .before .before .before .before .before .before .before in
+    let after-kinds2 = c .before .before .before .before .before in
+    let at-start = after-kinds2 .before .before .before .before .before in
     record-tells (at-start .args .first .now) (at-start .args .a) (at-start .args .second .now) (at-start .args .b) (at-start .args .pool .now)
     (passed t (c .before .before .before)) (c .before .before .below-element .ensures) (c .before .if2 .left)
     (c .below-record .ensures)
@@ -200,8 +205,10 @@ below-fields-μ-loop first from to second at end pool left i₀ i = to - i
 -- what the functions called ask and ensure
 abbrev below-fields-claims : ℕ → below-fields-lts.Claims
 below-fields-claims t = (
-  namesake-reads.Asked,
-  namesake-reads.Learnt,
+  name-reads.Asked,
+  name-reads.Learnt,
+  find-named-reads.Asked,
+  find-named-reads.Learnt,
   below-below t,
   below.Reads.Post,
   size-reads.Asked,
@@ -217,48 +224,52 @@ below-fields-loop-holds t c =
     named.walk-begins (at-start .args .first .now) (at-start .args .from) (at-start .args .to) (at-start .args .second .now) (at-start .args .at)
     (at-start .args .end) (at-start .args .pool .now)
 
-below-fields-namesake-requires
+below-fields-find-named-requires
     : (t : ℕ)
-    → below-fields-lts.Need-namesake-requires (below-fields-claims t) (below-fields-at t) below-fields.Reads.Post below-fields-Inv-loop below-fields-μ-loop
-below-fields-namesake-requires t c κs =
-    let at-start = c .before .before .before .before .before in
+    → below-fields-lts.Need-find-named-requires (below-fields-claims t) (below-fields-at t) below-fields.Reads.Post below-fields-Inv-loop below-fields-μ-loop
+below-fields-find-named-requires t c κs =
+    let at-start = c .before .before .before .before .before .before in
     some-listed (at-start .pre .1 .asked .holds)
 
 below-fields-returns
     : (t : ℕ) → below-fields-lts.Need-returns (below-fields-claims t) (below-fields-at t) below-fields.Reads.Post below-fields-Inv-loop below-fields-μ-loop
 below-fields-returns t c =
-    let after-namesake = c .before .before in
-    let at-start = after-namesake .before .before .before .before .before .before in
+    let after-find-named = c .before .before in
+    let at-start = after-find-named .before .before .before .before .before .before .before in
     named.walk-misses (at-start .args .first .now) (at-start .args .from) (at-start .args .to) (at-start .args .second .now) (at-start .args .at)
-    (at-start .args .end) (at-start .args .pool .now) (after-namesake .before .before .loop .inv) (after-namesake .before .loop-test .taken)
-    (after-namesake .namesake .result) (after-namesake .namesake .ensures) (c .enum-told .given .1)
+    (at-start .args .end) (at-start .args .pool .now) (after-find-named .before .before .before .loop .inv) (after-find-named .before .before .loop-test .taken)
+    (after-find-named .find-named .result) (after-find-named .before .name .ensures)
+    (after-find-named .find-named .ensures) (c .enum-told .given .1)
 
 below-fields-below-requires
     : (t : ℕ)
     → below-fields-lts.Need-below-requires (below-fields-claims t) (below-fields-at t) below-fields.Reads.Post below-fields-Inv-loop below-fields-μ-loop
 below-fields-below-requires t c κs =
-    let after-namesake = c .before .before .before in
-    let at-start = after-namesake .before .before .before .before .before .before in (
+    let after-find-named = c .before .before .before in
+    let at-start = after-find-named .before .before .before .before .before .before .before in (
       omega (arith, at-start .pre .0),
       named.walk-asks (at-start .args .first .now) (at-start .args .from) (at-start .args .to) (at-start .args .second .now) (at-start .args .at)
-          (at-start .args .end) (at-start .args .pool .now) (after-namesake .before .before .loop .inv) (after-namesake .before .loop-test .taken)
-          (after-namesake .namesake .result) (after-namesake .namesake .ensures) (c .before .row .given .1) (at-start .pre .1),
+          (at-start .args .end) (at-start .args .pool .now) (after-find-named .before .before .before .loop .inv)
+          (after-find-named .before .before .loop-test .taken)
+          (after-find-named .find-named .result) (after-find-named .before .name .ensures)
+          (after-find-named .find-named .ensures) (c .before .named .given .1) (at-start .pre .1),
     )
 
 below-fields-returns-2
     : (t : ℕ) → below-fields-lts.Need-returns-2 (below-fields-claims t) (below-fields-at t) below-fields.Reads.Post below-fields-Inv-loop below-fields-μ-loop
 below-fields-returns-2 t c =
-    let after-namesake = c .before .before .before .before .before in
-    let at-start = after-namesake .before .before .before .before .before .before in
+    let after-find-named = c .before .before .before .before .before in
+    let at-start = after-find-named .before .before .before .before .before .before .before in
     named.walk-fails (at-start .args .first .now) (at-start .args .from) (at-start .args .to) (at-start .args .second .now) (at-start .args .at)
-    (at-start .args .end) (at-start .args .pool .now) (after-namesake .before .before .loop .inv) (after-namesake .before .loop-test .taken)
-    (after-namesake .namesake .result) (after-namesake .namesake .ensures) (c .before .before .before .row .given .1)
+    (at-start .args .end) (at-start .args .pool .now) (after-find-named .before .before .before .loop .inv) (after-find-named .before .before .loop-test .taken)
+    (after-find-named .find-named .result) (after-find-named .before .name .ensures)
+    (after-find-named .find-named .ensures) (c .before .before .before .named .given .1)
     (c .before .below .ensures) (c .if1 .taken)
 
 below-fields-add-i
     : (t : ℕ) → below-fields-lts.Need-add-i (below-fields-claims t) (below-fields-at t) below-fields.Reads.Post below-fields-Inv-loop below-fields-μ-loop
 below-fields-add-i t c =
-    let in-loop = c .before .before .before .before .before .before .before in
+    let in-loop = c .before .before .before .before .before .before .before .before in
     let at-start = in-loop .before .before .before .before .before in
     let s = named.walk-step (at-start .args .first .now) (at-start .args .from) (at-start .args .to) (at-start .args .second .now) (at-start .args .at)
     (at-start .args .end) (at-start .args .pool .now) (in-loop .before .loop .inv) (in-loop .loop-test .taken) (at-start .pre .1) in
@@ -267,7 +278,7 @@ below-fields-add-i t c =
 below-fields-loop-less
     : (t : ℕ) → below-fields-lts.Need-loop-less (below-fields-claims t) (below-fields-at t) below-fields.Reads.Post below-fields-Inv-loop below-fields-μ-loop
 below-fields-loop-less t c =
-    let in-loop = c .before .before .before .before .before .before .before in
+    let in-loop = c .before .before .before .before .before .before .before .before in
     let at-start = in-loop .before .before .before .before .before in
     let s = named.walk-step (at-start .args .first .now) (at-start .args .from) (at-start .args .to) (at-start .args .second .now) (at-start .args .at)
     (at-start .args .end) (at-start .args .pool .now) (in-loop .before .loop .inv) (in-loop .loop-test .taken) (at-start .pre .1) in
@@ -276,12 +287,13 @@ below-fields-loop-less t c =
 below-fields-loop-again
     : (t : ℕ) → below-fields-lts.Need-loop-again (below-fields-claims t) (below-fields-at t) below-fields.Reads.Post below-fields-Inv-loop below-fields-μ-loop
 below-fields-loop-again t c =
-    let after-row = c .before .before .before .before in
-    let after-namesake = after-row .before .before in
-    let at-start = after-namesake .before .before .before .before .before .before in
+    let after-named = c .before .before .before .before in
+    let after-find-named = after-named .before .before in
+    let at-start = after-find-named .before .before .before .before .before .before .before in
     named.walk-on (at-start .args .first .now) (at-start .args .from) (at-start .args .to) (at-start .args .second .now) (at-start .args .at)
-    (at-start .args .end) (at-start .args .pool .now) (after-namesake .before .before .loop .inv) (after-namesake .before .loop-test .taken)
-    (after-namesake .namesake .result) (after-namesake .namesake .ensures) (after-row .row .given .1)
+    (at-start .args .end) (at-start .args .pool .now) (after-find-named .before .before .before .loop .inv) (after-find-named .before .before .loop-test .taken)
+    (after-find-named .find-named .result) (after-find-named .before .name .ensures)
+    (after-find-named .find-named .ensures) (after-named .named .given .1)
     (c .before .before .below .ensures) (c .before .if1 .left) (c .size .ensures)
 
 below-fields-returns-3
@@ -408,7 +420,7 @@ pub +below+below-element+below-fields+below-record-spec : {M : Type 1} → state
     close μ-below μ-below-element μ-below-fields μ-below-record (λ t. below-lts.spec (below-claims t)
     (below-at t)
     below.Reads.Post
-    (λ c κs. search needs) (λ c κs. search needs)
+    (λ c κs. search needs) (λ c κs. search needs) (λ c κs. search needs)
     (below-returns t)
     (below-below-element-requires t)
     (below-returns-2 t)
@@ -430,7 +442,8 @@ pub +below+below-element+below-fields+below-record-spec : {M : Type 1} → state
     below-fields-Inv-loop
     below-fields-μ-loop
     (below-fields-loop-holds t)
-    (below-fields-namesake-requires t)
+    (λ c κs. search needs)
+    (below-fields-find-named-requires t)
     (λ c. search needs) (λ c. search needs)
     (below-fields-returns t)
     (below-fields-below-requires t)

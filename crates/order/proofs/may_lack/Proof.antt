@@ -13,20 +13,24 @@ returns c =
 
 returns-2 : tie.Need-returns-2
 returns-2 c =
-    let after-namesake = c .before .before in
-    let at-start = after-namesake .before .before .before .before .before .before .before in
+    let after-find-named = c .before .before in
+    let after-kinds = after-find-named .before .before .before .before in
+    let at-start = after-kinds .before .before .before .before in
     listed-told (at-start .args .first .now) (at-start .args .from) (at-start .args .to) (at-start .args .second .now) (at-start .args .row)
-    (at-start .args .pool .now) (after-namesake .before .before .before .kinds .ensures)
-    (after-namesake .before .before .has .ensures) (after-namesake .before .if1 .left) (after-namesake .namesake .result) (after-namesake .namesake .ensures)
+    (at-start .args .pool .now) (after-kinds .kinds .ensures)
+    (after-find-named .before .before .before .has .ensures) (after-find-named .before .before .if1 .left)
+    (after-find-named .find-named .result) (after-find-named .before .name .ensures) (after-find-named .find-named .ensures)
     (c .enum-told .given .1)
 
 returns-3 : tie.Need-returns-3
 returns-3 c =
-    let after-namesake = c .before .before in
-    let at-start = after-namesake .before .before .before .before .before .before .before in
+    let after-find-named = c .before .before in
+    let after-kinds = after-find-named .before .before .before .before in
+    let at-start = after-kinds .before .before .before .before in
     unlisted-told (at-start .args .first .now) (at-start .args .from) (at-start .args .to) (at-start .args .second .now) (at-start .args .row)
-    (at-start .args .pool .now) (after-namesake .before .before .before .kinds .ensures)
-    (after-namesake .before .before .has .ensures) (after-namesake .before .if1 .left) (after-namesake .namesake .result) (after-namesake .namesake .ensures)
+    (at-start .args .pool .now) (after-kinds .kinds .ensures)
+    (after-find-named .before .before .before .has .ensures) (after-find-named .before .before .if1 .left)
+    (after-find-named .find-named .result) (after-find-named .before .name .ensures) (after-find-named .find-named .ensures)
     (c .enum-told2 .given .1)
 
 pub may-lack-spec : {M : Type 1} → statement M
@@ -35,6 +39,6 @@ may-lack-spec =
     (tie.spec
     (λ c κs. search needs) (λ c κs. search needs)
     returns
-    (λ c κs. search needs) (λ c. search needs) (λ c. search needs)
+    (λ c κs. search needs) (λ c κs. search needs) (λ c. search needs) (λ c. search needs)
     returns-2
     returns-3)

@@ -5,7 +5,7 @@ use Rattle.shapes.proofs.put_head.Statement.{statement}
 use Rattle.shapes.proofs.put_head.Tie as tie
 
 returns : tie.Need-returns
-returns c = head-put (c .args .shapes .now) (c .args .row) _ (c .pre .0)
+returns c = head-put (c .before .args .shapes .now) (c .before .args .row) _ (c .before .pre .0)
 
 pub put-head-spec : {M : Type 1} → statement M
 put-head-spec =

@@ -8,10 +8,15 @@ use Rattle.shapes.proofs.put_row.Statement.{statement}
 use Rattle.shapes.proofs.put_row.Tie as tie
 
 slice-write-shapes-2 : tie.Need-slice-write-shapes-2
-slice-write-shapes-2 c = omega (arith, length-set (c .args .shapes .now) (c .args .row) (c .args .kinds + 128 * c .args .size), c .pre .0)
+slice-write-shapes-2 c =
+    omega (
+      arith,
+      length-set (c .before .args .shapes .now) (c .before .args .row) (c .before .args .kinds .kinds + 128 * c .before .args .size),
+      c .before .pre .0,
+    )
 
 returns : tie.Need-returns
-returns c = row-put (c .args .shapes .now) (c .args .row) _ (c .args .name) (c .pre .0)
+returns c = row-put (c .before .args .shapes .now) (c .before .args .row) _ (c .before .args .name) (c .before .pre .0)
 
 pub put-row-spec : {M : Type 1} → statement M
 put-row-spec =

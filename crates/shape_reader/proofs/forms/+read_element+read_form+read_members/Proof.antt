@@ -312,8 +312,8 @@ read-form-same-length-7 t c = read-form-returns-4 t c .sized .pool-kept
 
 abbrev read-members-Inv-loop : read-members-lts.InvT-loop
 read-members-Inv-loop text shapes₀ pool₀ values left kinds turn₀ shapes pool turn =
-    (c : Cursor) (ss ps : List ℕ) → Turn-answer left values text ss ps shapes₀ pool₀ kinds c turn₀
-    → Turn-answer left values text ss ps shapes pool kinds c turn
+    (c : Cursor) (ss ps : List ℕ) → Turn-answer left values text ss ps shapes₀ pool₀ (kinds .kinds) c turn₀
+    → Turn-answer left values text ss ps shapes pool (kinds .kinds) c turn
 
 abbrev read-members-μ-loop : read-members-lts.MeasureT-loop
 read-members-μ-loop text shapes₀ pool₀ values left kinds turn₀ shapes pool turn = to-read text turn
@@ -339,7 +339,7 @@ read-members-read-form-requires t c κs =
       member-ready (at-start .args .c) (after-turn .turn .given .0 .0)
           (subst (λ (u : Turn).
           Turn-answer (at-start .args .left) (at-start .args .values) (at-start .args .text .now) (at-start .args .shapes .now) (at-start .args .pool .now)
-          (at-loop .loop .shapes) (at-loop .loop .pool) (at-start .args .kinds) (at-start .args .c) u) (after-turn .turn .given .1)
+          (at-loop .loop .shapes) (at-loop .loop .pool) (at-start .args .kinds .kinds) (at-start .args .c) u) (after-turn .turn .given .1)
           (at-loop .loop .inv (at-start .args .c) (at-start .args .shapes .now) (at-start .args .pool .now)
           (members-start (at-start .args .left) (at-start .args .c) (at-start .pre .1) (at-loop .before .before .before .next-member .ensures))))
           (at-start .pre .1),
@@ -355,7 +355,7 @@ read-members-returns t c =
     member-refused (at-start .args .c) (after-turn .turn .given .0 .0)
     (subst (λ (u : Turn).
     Turn-answer (at-start .args .left) (at-start .args .values) (at-start .args .text .now) (at-start .args .shapes .now) (at-start .args .pool .now)
-    (at-loop .loop .shapes) (at-loop .loop .pool) (at-start .args .kinds) (at-start .args .c) u) (after-turn .turn .given .1)
+    (at-loop .loop .shapes) (at-loop .loop .pool) (at-start .args .kinds .kinds) (at-start .args .c) u) (after-turn .turn .given .1)
     (at-loop .loop .inv (at-start .args .c) (at-start .args .shapes .now) (at-start .args .pool .now)
     (members-start (at-start .args .left) (at-start .args .c) (at-start .pre .1) (at-loop .before .before .before .next-member .ensures))))
     (after-read-form .read-form .ensures) (c .enum-told .given .1)
@@ -379,7 +379,7 @@ read-members-behind-member-requires t c κs =
     form-ready (at-start .args .c) (after-turn .turn .given .0 .0)
     (subst (λ (u : Turn).
     Turn-answer (at-start .args .left) (at-start .args .values) (at-start .args .text .now) (at-start .args .shapes .now) (at-start .args .pool .now)
-    (at-loop .loop .shapes) (at-loop .loop .pool) (at-start .args .kinds) (at-start .args .c) u) (after-turn .turn .given .1)
+    (at-loop .loop .shapes) (at-loop .loop .pool) (at-start .args .kinds .kinds) (at-start .args .c) u) (after-turn .turn .given .1)
     (at-loop .loop .inv (at-start .args .c) (at-start .args .shapes .now) (at-start .args .pool .now)
     (members-start (at-start .args .left) (at-start .args .c) (at-start .pre .1) (at-loop .before .before .before .next-member .ensures))))
     (after-read-form .read-form .ensures) (c .before .before .r .given .1) (at-start .pre .1) .placed
@@ -399,7 +399,7 @@ read-members-loop-less t c =
     (done (at-start .args .c) (after-turn .turn .given .0 .0)
     (subst (λ (u : Turn).
     Turn-answer (at-start .args .left) (at-start .args .values) (at-start .args .text .now) (at-start .args .shapes .now) (at-start .args .pool .now)
-    (at-loop .loop .shapes) (at-loop .loop .pool) (at-start .args .kinds) (at-start .args .c) u) (after-turn .turn .given .1)
+    (at-loop .loop .shapes) (at-loop .loop .pool) (at-start .args .kinds .kinds) (at-start .args .c) u) (after-turn .turn .given .1)
     (at-loop .loop .inv (at-start .args .c) (at-start .args .shapes .now) (at-start .args .pool .now)
     (members-start (at-start .args .left) (at-start .args .c) (at-start .pre .1) (at-loop .before .before .before .next-member .ensures))))
     (after-read-form .read-form .ensures) (after-r .r .given .1))
@@ -417,7 +417,7 @@ read-members-loop-again t c =
     member-read k (after-turn .turn .given .0 .0)
     (subst (λ (u : Turn).
     Turn-answer (at-start .args .left) (at-start .args .values) (at-start .args .text .now) ss ps (at-loop .loop .shapes) (at-loop .loop .pool)
-    (at-start .args .kinds) k u) (after-turn .turn .given .1)
+    (at-start .args .kinds .kinds) k u) (after-turn .turn .given .1)
     (at-loop .loop .inv k ss ps h))
     (after-read-form .read-form .ensures) (after-r .r .given .1) (c .before .before .behind-member .ensures)
 
@@ -428,7 +428,7 @@ read-members-returns-2 t c =
     let at-start = at-loop .before .before .before .before .before .before .before .before in
     subst (λ (u : Turn).
     Turn-answer (at-start .args .left) (at-start .args .values) (at-start .args .text .now) (at-start .args .shapes .now) (at-start .args .pool .now)
-    (at-loop .loop .shapes) (at-loop .loop .pool) (at-start .args .kinds) (at-start .args .c) u) (c .before .turn2 .given .1)
+    (at-loop .loop .shapes) (at-loop .loop .pool) (at-start .args .kinds .kinds) (at-start .args .c) u) (c .before .turn2 .given .1)
     (at-loop .loop .inv (at-start .args .c) (at-start .args .shapes .now) (at-start .args .pool .now)
     (members-start (at-start .args .left) (at-start .args .c) (at-start .pre .1) (at-loop .before .before .before .next-member .ensures)))
 

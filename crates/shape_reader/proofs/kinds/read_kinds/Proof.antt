@@ -5,16 +5,18 @@ use mathlib.Core.Path.{refl, subst}
 use mathlib.Core.Bool.{Bool}
 use native.Mathlib.Omega.{arith}
 use lib.ListN.{length}
-use Rattle.shape_reader.specs.ShapeParts.{Kept, Follows}
+use Rattle.tokens.specs.Expecting.{Kept}
+use Rattle.shape_reader.specs.ShapeParts.{Follows}
 use Rattle.shape_reader.proofs.KindSets.{held-small}
 use Rattle.shape_reader.proofs.KindReading.{Kinds-so-far, no-kinds, one-kind, no-kind-word, kinds-end}
 use Rattle.shape_reader.proofs.Steps.{next-room}
-use Rattle.shape_reader.proofs.Openings.{next-kept, kept-then, placed-further, found-word}
+use Rattle.tokens.specs.ReadingLaws.{kept-then, placed-further}
+use Rattle.shape_reader.proofs.Openings.{next-kept, found-word}
 use Rattle.shape_reader.proofs.kinds.read_kinds.Statement.{statement}
 use Rattle.shape_reader.proofs.kinds.read_kinds.Tie as tie
 
 abbrev Inv-loop : tie.InvT-loop
-Inv-loop text pool₀ at top kinds₀ i₀ pool kinds i = Kinds-so-far text at kinds i × Kept pool₀ pool top
+Inv-loop text pool₀ at top kinds₀ i₀ pool kinds i = Kinds-so-far text at (kinds .kinds) i × Kept pool₀ pool top
 
 abbrev μ-loop : tie.MeasureT-loop
 μ-loop text pool₀ at top kinds₀ i₀ pool kinds i = length text - i
@@ -41,31 +43,33 @@ kind-of-requires c κs =
     let after-next = c .before .before .before .before .before in
     let f = found-word (after-next .next .ensures) (c .before .t .given .1) in (omega (arith, f .ahead), f .within)
 
-add-kinds : tie.Need-add-kinds Inv-loop μ-loop
-add-kinds c =
-    let after-kind-of = c .before .before in
+add-t14 : tie.Need-add-t14 Inv-loop μ-loop
+add-t14 c =
+    let after-kind-of = c .before .before .before .before in
     let after-next = after-kind-of .before .before .before .before .before .before in
     let at-loop = after-next .before .before in
     omega (
       arith,
       held-small (one-kind (at-loop .loop .inv .0) (found-word (after-next .next .ensures) (after-kind-of .before .before .t .given .1))
           (after-kind-of .kind-of .ensures)
-          (subst (λ (b : Bool). Follows (at-loop .loop .kinds) (after-kind-of .kind-of .result) b) (c .if1 .taken) (c .before .may-come .ensures)) .held),
+          (subst (λ (b : Bool). Follows (at-loop .loop .kinds .kinds) (after-kind-of .kind-of .result .kinds) b) (c .before .before .if1 .taken)
+          (c .before .before .before .may-come .ensures)) .held),
     )
 
 loop-less : tie.Need-loop-less Inv-loop μ-loop
 loop-less c =
-    let after-t = c .before .before .before .before in
+    let after-t = c .before .before .before .before .before .before in
     let after-next = after-t .before .before .before .before in
     let f = found-word (after-next .next .ensures) (after-t .t .given .1) in omega (arith, f .from, f .ahead, f .within)
 
 loop-again : tie.Need-loop-again Inv-loop μ-loop
 loop-again c =
-    let after-kind-of = c .before .before in
+    let after-kind-of = c .before .before .before .before in
     let after-next = after-kind-of .before .before .before .before .before .before in
     let at-loop = after-next .before .before in (
       one-kind (at-loop .loop .inv .0) (found-word (after-next .next .ensures) (after-kind-of .before .before .t .given .1)) (after-kind-of .kind-of .ensures)
-          (subst (λ (b : Bool). Follows (at-loop .loop .kinds) (after-kind-of .kind-of .result) b) (c .if1 .taken) (c .before .may-come .ensures)),
+          (subst (λ (b : Bool). Follows (at-loop .loop .kinds .kinds) (after-kind-of .kind-of .result .kinds) b) (c .before .before .if1 .taken)
+          (c .before .before .before .may-come .ensures)),
       kept-then (at-loop .loop .inv .1) (next-kept (after-next .next .ensures)),
     )
 
@@ -78,7 +82,7 @@ returns-2 c =
       answer =
           no-kind-word (at-loop .loop .inv .0) (found-word (after-next .next .ensures) (after-kind-of .before .before .t .given .1))
           (after-kind-of .kind-of .ensures)
-          (subst (λ (b : Bool). Follows (at-loop .loop .kinds) (after-kind-of .kind-of .result) b) (c .if1 .left) (c .before .may-come .ensures));
+          (subst (λ (b : Bool). Follows (at-loop .loop .kinds .kinds) (after-kind-of .kind-of .result .kinds) b) (c .if1 .left) (c .before .may-come .ensures));
       kept = kept-then (at-loop .loop .inv .1) (next-kept (after-next .next .ensures));
     }
 
@@ -94,7 +98,7 @@ read-kinds-spec =
     returns
     kind-of-requires
     (λ c κs. search needs)
-    add-kinds
+    add-t14
     loop-less
     loop-again
     (λ c. search needs)

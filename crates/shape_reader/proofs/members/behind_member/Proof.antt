@@ -13,7 +13,7 @@ returns : tie.Need-returns
 returns c =
     let after-next = c .before .before .before .before .before in
     let at-start = after-next .before .before .before .before in
-    member-unclosed (at-start .args .latest) (at-start .args .kinds) (at-start .args .c) (after-next .next .ensures) (c .before .before .match .keys2)
+    member-unclosed (at-start .args .latest) (at-start .args .kinds .kinds) (at-start .args .c) (after-next .next .ensures) (c .before .before .match .keys2)
     (c .before .place .ensures) (c .refuse .ensures)
 
 add-t13 : tie.Need-add-t13
@@ -23,7 +23,7 @@ add-t13 c =
     omega (
       arith,
       at-start .pre .short,
-      behind-room (at-start .args .latest) (at-start .args .kinds) (at-start .args .c) (after-next .next .ensures) (c .before .t .given .1)
+      behind-room (at-start .args .latest) (at-start .args .kinds .kinds) (at-start .args .c) (after-next .next .ensures) (c .before .t .given .1)
           (at-start .pre) .within,
     )
 
@@ -31,7 +31,7 @@ next-member-requires : tie.Need-next-member-requires
 next-member-requires c κs =
     let after-next = c .before .before .before .before .before .before in
     let at-start = after-next .before .before .before .before in
-    behind-room (at-start .args .latest) (at-start .args .kinds) (at-start .args .c) (after-next .next .ensures)
+    behind-room (at-start .args .latest) (at-start .args .kinds .kinds) (at-start .args .c) (after-next .next .ensures)
     (c .before .before .t .given .1) (at-start .pre)
 
 returns-2 : tie.Need-returns-2
@@ -39,7 +39,7 @@ returns-2 c =
     let after-t = c .before .before .before .before .before in
     let after-next = after-t .before .before .before .before in
     let at-start = after-next .before .before .before .before in
-    member-closed (at-start .args .latest) (at-start .args .kinds) (at-start .args .c) (after-next .next .ensures) (after-t .t .given .1)
+    member-closed (at-start .args .latest) (at-start .args .kinds .kinds) (at-start .args .c) (after-next .next .ensures) (after-t .t .given .1)
     (c .before .before .next-member .ensures)
 
 pub behind-member-spec : {M : Type 1} → statement M

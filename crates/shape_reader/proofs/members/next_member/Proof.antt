@@ -16,7 +16,7 @@ add-t13 c =
     omega (
       arith,
       at-start .pre .short,
-      shape-closed (at-start .args .first) (at-start .args .latest) (at-start .args .kinds) (at-start .args .c) (after-next .next .ensures)
+      shape-closed (at-start .args .first) (at-start .args .latest) (at-start .args .kinds .kinds) (at-start .args .c) (after-next .next .ensures)
           (c .before .t .given .1) .answer .within,
     )
 
@@ -24,14 +24,14 @@ returns : tie.Need-returns
 returns c =
     let after-next = c .before .before .before .before .before in
     let at-start = after-next .before .before .before .before in
-    shape-closed (at-start .args .first) (at-start .args .latest) (at-start .args .kinds) (at-start .args .c) (after-next .next .ensures)
+    shape-closed (at-start .args .first) (at-start .args .latest) (at-start .args .kinds .kinds) (at-start .args .c) (after-next .next .ensures)
     (c .before .t .given .1)
 
 returns-2 : tie.Need-returns-2
 returns-2 c =
     let after-next = c .before .before .before .before .before .before in
     let at-start = after-next .before .before .before .before in
-    neither-bracket (at-start .args .first) (at-start .args .latest) (at-start .args .kinds) (at-start .args .c) (after-next .next .ensures)
+    neither-bracket (at-start .args .first) (at-start .args .latest) (at-start .args .kinds .kinds) (at-start .args .c) (after-next .next .ensures)
     (c .before .before .before .match .keys2) (c .before .before .match2 .keys2) (c .before .place .ensures) (c .refuse .ensures)
 
 add-member-shape : tie.Need-add-member-shape
@@ -42,7 +42,7 @@ add-member-shape c =
     omega (
       arith,
       at-start .pre .short,
-      member-room (at-start .args .first) (at-start .args .latest) (at-start .args .kinds) (at-start .args .c) (after-next .next .ensures)
+      member-room (at-start .args .first) (at-start .args .latest) (at-start .args .kinds .kinds) (at-start .args .c) (after-next .next .ensures)
           (after-t2 .t2 .given .1) (at-start .pre) .0 .within,
     )
 
@@ -51,7 +51,7 @@ member-shape-requires c κs =
     let after-t2 = c .before .before .before .before in
     let after-next = after-t2 .before .before .before .before .before in
     let at-start = after-next .before .before .before .before in
-    member-room (at-start .args .first) (at-start .args .latest) (at-start .args .kinds) (at-start .args .c) (after-next .next .ensures)
+    member-room (at-start .args .first) (at-start .args .latest) (at-start .args .kinds .kinds) (at-start .args .c) (after-next .next .ensures)
     (after-t2 .t2 .given .1) (at-start .pre)
 
 returns-3 : tie.Need-returns-3
@@ -59,7 +59,7 @@ returns-3 c =
     let then1 = c .before .before .before .before in
     let after-next = then1 .before .before .before .before .before .before .before .before in
     let at-start = after-next .before .before .before .before in
-    member-opened (at-start .args .first) (at-start .args .latest) (at-start .args .kinds) (at-start .args .c) (after-next .next .ensures)
+    member-opened (at-start .args .first) (at-start .args .latest) (at-start .args .kinds .kinds) (at-start .args .c) (after-next .next .ensures)
     (then1 .before .before .before .t2 .given .1) (then1 .before .has .ensures) (then1 .if1 .taken) (c .before .before .member-shape .ensures)
 
 returns-4 : tie.Need-returns-4
@@ -67,7 +67,8 @@ returns-4 c =
     let after-t2 = c .before .before .before .before in
     let after-next = after-t2 .before .before .before .before .before in
     let at-start = after-next .before .before .before .before in
-    no-record (at-start .args .first) (at-start .args .latest) (at-start .args .kinds) (at-start .args .c) (after-next .next .ensures) (after-t2 .t2 .given .1)
+    no-record (at-start .args .first) (at-start .args .latest) (at-start .args .kinds .kinds) (at-start .args .c) (after-next .next .ensures)
+    (after-t2 .t2 .given .1)
     (c .before .before .has .ensures) (c .before .if1 .left) (c .refuse2 .ensures)
 
 pub next-member-spec : {M : Type 1} → statement M

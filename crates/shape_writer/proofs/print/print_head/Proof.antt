@@ -10,14 +10,14 @@ use Rattle.shape_writer.proofs.print.print_head.Tie as tie
 print-requires : tie.Need-print-requires
 print-requires c κs =
     let at-start = c .before .before .before in
-    omega (arith, at-start .pre, length-head (at-start .args .kinds))
+    omega (arith, at-start .pre, length-head (at-start .args .kinds .kinds))
 
 print-word-requires : tie.Need-print-word-requires
 unfolding bytes
 print-word-requires c κs =
     let after-print = c .before .before .before .before in
     let at-start = after-print .before .before .before .before in
-    omega (arith, at-start .pre, length-head (at-start .args .kinds), after-print .print .ensures .end)
+    omega (arith, at-start .pre, length-head (at-start .args .kinds .kinds), after-print .print .ensures .end)
 
 print-word-requires-2 : tie.Need-print-word-requires-2
 unfolding bytes
@@ -25,7 +25,13 @@ print-word-requires-2 c κs =
     let after-print-word = c .before .before .before .before in
     let after-print = after-print-word .before .before .before .before .before in
     let at-start = after-print .before .before .before .before in
-    omega (arith, at-start .pre, length-head (at-start .args .kinds), after-print .print .ensures .end, after-print-word .print-word .ensures .printed .end)
+    omega (
+      arith,
+      at-start .pre,
+      length-head (at-start .args .kinds .kinds),
+      after-print .print .ensures .end,
+      after-print-word .print-word .ensures .printed .end,
+    )
 
 print-word-requires-3 : tie.Need-print-word-requires-3
 unfolding bytes
@@ -37,7 +43,7 @@ print-word-requires-3 c κs =
     omega (
       arith,
       at-start .pre,
-      length-head (at-start .args .kinds),
+      length-head (at-start .args .kinds .kinds),
       after-print .print .ensures .end,
       after-print-word .print-word .ensures .printed .end,
       after-print-word2 .print-word2 .ensures .printed .end,
@@ -54,7 +60,7 @@ print-word-requires-4 c κs =
     omega (
       arith,
       at-start .pre,
-      length-head (at-start .args .kinds),
+      length-head (at-start .args .kinds .kinds),
       after-print .print .ensures .end,
       after-print-word .print-word .ensures .printed .end,
       after-print-word2 .print-word2 .ensures .printed .end,
@@ -73,7 +79,7 @@ print-word-requires-5 c κs =
     omega (
       arith,
       at-start .pre,
-      length-head (at-start .args .kinds),
+      length-head (at-start .args .kinds .kinds),
       after-print .print .ensures .end,
       after-print-word .print-word .ensures .printed .end,
       after-print-word2 .print-word2 .ensures .printed .end,
@@ -94,7 +100,7 @@ print-word-requires-6 c κs =
     omega (
       arith,
       at-start .pre,
-      length-head (at-start .args .kinds),
+      length-head (at-start .args .kinds .kinds),
       after-print .print .ensures .end,
       after-print-word .print-word .ensures .printed .end,
       after-print-word2 .print-word2 .ensures .printed .end,
@@ -117,7 +123,7 @@ print-word-requires-7 c κs =
     omega (
       arith,
       at-start .pre,
-      length-head (at-start .args .kinds),
+      length-head (at-start .args .kinds .kinds),
       after-print .print .ensures .end,
       after-print-word .print-word .ensures .printed .end,
       after-print-word2 .print-word2 .ensures .printed .end,
@@ -153,7 +159,7 @@ returns c =
     let after-print = after-print-word .before .before .before .before .before in
     let at-start = after-print .before .before .before .before in
     prints-head
-    (at-start .args .kinds)
+    (at-start .args .kinds .kinds)
     (after-print .print .ensures)
     (word-to 1 (bytes " null") (after-print-word .print-word .ensures) refl refl)
     (word-to 2 (bytes " bool") (after-print-word2 .print-word2 .ensures) refl refl)

@@ -16,7 +16,7 @@ print-requires c κs =
     omega (
       arith,
       at-start .pre,
-      ap length (word-there (has-bit (at-start .args .kinds) (at-start .args .kind)) (now (at-start .args .word))
+      ap length (word-there (has-bit (at-start .args .kinds .kinds) (at-start .args .kind .kinds)) (now (at-start .args .word))
           (sym (c .before .before .has .ensures) ∙ c .before .if1 .taken)),
     )
 
@@ -26,7 +26,7 @@ returns c =
     let at-start = then1 .before .before .before .before in
     record {
       printed = prints-as
-          (word-there (has-bit (at-start .args .kinds) (at-start .args .kind)) (now (at-start .args .word))
+          (word-there (has-bit (at-start .args .kinds .kinds) (at-start .args .kind .kinds)) (now (at-start .args .word))
           (sym (then1 .before .has .ensures) ∙ then1 .if1 .taken))
           (c .before .before .print .ensures);
     }
@@ -36,7 +36,8 @@ returns-2 c =
     let at-start = c .before .before .before .before in
     record {
       printed = prints-as
-          (word-gone (has-bit (at-start .args .kinds) (at-start .args .kind)) (now (at-start .args .word)) (sym (c .before .has .ensures) ∙ c .if1 .left))
+          (word-gone (has-bit (at-start .args .kinds .kinds) (at-start .args .kind .kinds)) (now (at-start .args .word))
+          (sym (c .before .has .ensures) ∙ c .if1 .left))
           (prints-none _ _);
     }
 

@@ -1,0 +1,15 @@
+pub mod Kinds
+pub mod KindLaws
+pub mod Codes
+pub mod Bindings
+pub mod BindingsLaws
+pub mod Members
+pub mod Walk
+pub mod PlaceLaws
+pub mod FormLaws
+pub mod Rows
+pub mod Lengths
+pub mod Singles
+pub mod Depth
+pub mod Run
+pub mod RunEnds
