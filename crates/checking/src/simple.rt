@@ -34,15 +34,15 @@ fn conversion_kinds(code: u64) -> u64
     ensures told { λ r. ⌜ Tells-conversion code r ⌝ }
 {
     if code == forms::INT {
-        return Shape::INT;
+        return Shape::INT.kinds;
     }
     if code == forms::DEC {
-        return Shape::INT | Shape::DEC;
+        return Shape::INT.kinds | Shape::DEC.kinds;
     }
     if code == forms::BOOL {
-        return Shape::BOOL;
+        return Shape::BOOL.kinds;
     }
-    Shape::TEXT
+    Shape::TEXT.kinds
 }
 
 // The kinds of a literal.
@@ -51,18 +51,18 @@ pub fn literal_kinds(code: u64, operand: u64) -> u64
 {
     if code == forms::NUM {
         return if nodes::is_int(operand) {
-            Shape::INT
+            Shape::INT.kinds
         } else {
-            Shape::INT | Shape::DEC
+            Shape::INT.kinds | Shape::DEC.kinds
         };
     }
     if code == forms::STR {
-        return Shape::TEXT;
+        return Shape::TEXT.kinds;
     }
     if code == forms::NONE {
-        return Shape::NULL;
+        return Shape::NULL.kinds;
     }
-    Shape::BOOL
+    Shape::BOOL.kinds
 }
 
 // Checks a form whose one part is a place.
@@ -88,7 +88,7 @@ fn check_place(
     }
     let place = forms::place(forms, row);
     if code == forms::COUNT {
-        return want(kinds, Shape::LIST | Shape::NULL, Shape::INT, place);
+        return want(kinds, Shape::LIST.kinds | Shape::NULL.kinds, Shape::INT.kinds, place);
     }
     let converted = conversion_kinds(code);
     want(kinds, converted, converted, place)

@@ -1,6 +1,7 @@
 -- A cause is enough: where one stands, reading is refused, and with the least. Assumes nothing.
-use Prim.Native.Nat.{ℕ}
+use Prim.Native.Nat.{ℕ, _<_}
 use mathlib.Core.Path.{_≡_, refl, sym, _∙_, subst}
+use lib.Dec.{lit<}
 use Rattle.definitions.specs.declared.Limits.{Limits}
 use Rattle.definitions.specs.Bytes.{Bytes}
 use Rattle.definitions.specs.Outcome.{Outcome, ok, refused, placed}
@@ -63,3 +64,11 @@ shape-cause-refuses l s m q c = refuses (read-shape l s) (λ v e. shape-causeles
 pub reader-cause-refuses : (l : Limits) (s : Bytes) (m q : ℕ) → Reader-cause l s m q → Refused-first (read-reader l s) m q
 reader-cause-refuses l s m q c =
     refuses (read-reader l s) (λ v e. reader-causeless l s v m q e c) (λ n p e. reader-least l s n p m q e c)
+
+-- ---- every cause has a number
+
+pub cause-numbered : {l : Limits} {s : Bytes} {n p : ℕ} → Cause l s n p → 0 < n
+cause-numbered (cause-3 pre r e b) = lit< tt
+cause-numbered (cause-4 pre r e b) = lit< tt
+cause-numbered (cause-5 pre r e b) = lit< tt
+cause-numbered (cause-6 pre r e b) = lit< tt

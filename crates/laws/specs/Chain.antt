@@ -86,10 +86,11 @@ pub record Long-enough (published : List ℕ) (text : Bytes) (c : Call) : Type 0
   pub room : length text ≤ length (c .output)
 
 -- how run ends on a value: it gives the plain JSON of a value that the result shape admits, or 1, 13, 14 or 15 under its
--- cause, and then the output is as it was
+-- cause, and then the output is as it was. One of the five, since each has what the ones judged before it lack
 pub data Ends (published lent : List ℕ) (l : Limits) (r : Result) (v : Value) (u : Shape) (output : Bytes) : Done → Type 0 where
   gives
-      : (x : Ran Value) → run-reader r l v ≡ ok x → admits u (x .result) ≡ true
+      : (x : Ran Value) → slices-short published lent ≡ false → run-reader r l v ≡ ok x → admits u (x .result) ≡ true
+      → over l (size (x .result)) (nesting (x .result)) ≡ false → length (plain (x .result)) ≤ length output
       → Ends published lent l r v u output
       (record {
         answer = written (length (plain (x .result))) (x .steps) false;
@@ -98,14 +99,15 @@ pub data Ends (published lent : List ℕ) (l : Limits) (r : Result) (v : Value) 
   short-work
       : slices-short published lent ≡ true → Ends published lent l r v u output (record { answer = refusal 1 0 0; output = output })
   out-of-steps
-      : (p : ℕ) → run-reader r l v ≡ refused 13 p
+      : (p : ℕ) → slices-short published lent ≡ false → run-reader r l v ≡ refused 13 p
       → Ends published lent l r v u output (record { answer = refusal 13 1 p; output = output })
   too-large
-      : (x : Ran Value) → run-reader r l v ≡ ok x
+      : (x : Ran Value) → slices-short published lent ≡ false → run-reader r l v ≡ ok x
       → over l (size (x .result)) (nesting (x .result)) ≡ true
       → Ends published lent l r v u output (record { answer = refusal 14 0 0; output = output })
   no-room
-      : (x : Ran Value) → run-reader r l v ≡ ok x → length output < length (plain (x .result))
+      : (x : Ran Value) → slices-short published lent ≡ false → run-reader r l v ≡ ok x
+      → over l (size (x .result)) (nesting (x .result)) ≡ false → length output < length (plain (x .result))
       → Ends published lent l r v u output (record { answer = output-short (length (plain (x .result))); output = output })
 
 -- a reader that passed: the result shape, which check wrote, and how run ends on every document that is read without

@@ -17,7 +17,7 @@ use Rattle.definitions.specs.ShapeText.{read-shape, write-shape}
 use Rattle.definitions.specs.Reader.{Result, read-reader}
 use Rattle.definitions.specs.Checking.{check-reader}
 use Rattle.definitions.specs.Running.{Ran, run-reader}
-use Rattle.definitions.specs.Operations.{Done, Source, Judged, passed, _>>=_, refusal, in-text, slices-short, prelude, Text-out}
+use Rattle.definitions.specs.Operations.{Done, Source, Judged, passed, _>>=_, refusal, written, in-text, slices-short, prelude, Text-out}
 use Rattle.definitions.specs.Operations.{to-write, result-out, deliver, finish, check-judged, run-judged, check-operation, run-operation}
 use Rattle.laws.specs.Good.{Good-shape}
 use Rattle.laws.specs.Readers.{Safe}
@@ -25,10 +25,13 @@ use Rattle.laws.specs.Soundness.{sound}
 use Rattle.laws.specs.SoundShapes.{check-ascending}
 use Rattle.laws.specs.ReaderFacts.{reader-scoped, reader-proper}
 use Rattle.laws.specs.RoundLaws.{reader-read-good, check-good, shape-reads-back}
-use Rattle.laws.specs.Tests.{ltb-lt}
-use Rattle.laws.specs.Judging.{Positive, bind-positive, prelude-positive, both-positive, in-text-positive, shape-out-positive, bind-passed, bind-of}
-use Rattle.laws.specs.Judging.{prelude-short, prelude-long, prelude-passed, both-read, both-passed, in-text-passed, shape-over, shape-out-passed}
-use Rattle.laws.specs.Judging.{shape-fits, result-over, result-out-over, result-out-fits, deliver-short, deliver-room, finish-zero, finish-written, front}
+use Rattle.laws.specs.Tests.{ltb-lt, ltb-le}
+use Rattle.laws.specs.Judging.{Positive, bind-positive, prelude-positive, both-positive, in-text-positive, shape-out-positive}
+use Rattle.laws.specs.Judging.{bind-passed, bind-of}
+use Rattle.laws.specs.Judging.{prelude-short, prelude-long, prelude-passed, both-read, both-passed, in-text-passed, shape-over}
+use Rattle.laws.specs.Judging.{shape-out-passed}
+use Rattle.laws.specs.Judging.{shape-fits, result-over, result-out-over, result-out-fits, deliver-short, deliver-room, finish-zero}
+use Rattle.laws.specs.Judging.{finish-written, front}
 use Rattle.laws.specs.Numbered.{numbered-shape, numbered-reader, numbered-check-reader}
 use Rattle.laws.specs.Chain.{Reads, Ends, gives, short-work, out-of-steps, too-large, no-room, Passes, Proper-source}
 use Rattle.laws.specs.ChainReached.{Stands, stands-reads, ok-same}
@@ -49,11 +52,13 @@ module _ (published lent : List ℕ) (l : Limits) where
 
   -- why a check gave 0
   pub record Passed (reader text output : Bytes) (r : Result) (s u : Shape) : Type 0 where
+    pub work : slices-short published lent ≡ false
     pub short-reader : length reader ≤ l .bytes
     pub reads-reader : read-reader l reader ≡ ok r
     pub reads-shape : read-shape l text ≡ ok s
     pub checks : check-reader r s ≡ ok u
     pub fits : shape-over l u ≡ false
+    pub answer : check-operation published lent l reader text output .answer ≡ written (length (write-shape u)) 0 false
     pub wrote
         : take (check-operation published lent l reader text output .answer .length) (check-operation published lent l reader text output .output)
         ≡ write-shape u
@@ -71,11 +76,15 @@ module _ (published lent : List ℕ) (l : Limits) where
         s,
         u,
         record {
+          work = w;
           short-reader = p .first-short;
           reads-reader = p .first-read;
           reads-shape = p .second-read;
           checks = in-text-passed 1 (check-reader r s) u g;
           fits = x;
+          answer =
+              ap (λ (d : Done). d .answer) (finish-written output o e room)
+              ∙ ap (λ (t : Text-out). written (length (t .bytes)) (t .steps) (t .told)) y;
           wrote =
               front output o (check-operation published lent l reader text output) (finish-written output o e room) .1
               ∙ ap (λ (t : Text-out). t .bytes) y;
@@ -120,32 +129,34 @@ module _ (source : Source) (published lent : List ℕ) (l : Limits) where
           ∙ bind-of _
           (both-read l read-reader reader source document r v short-reader reads-reader (reads .short-enough) (reads .value))
 
-      ends-delivered : (x : Ran Value) → run-reader r l v ≡ ok x → admits u (x .result) ≡ true
-          → End (deliver output (to-write (plain (x .result)) (x .steps)))
-      ends-delivered x e a = go (ltb (length output) (length (plain (x .result)))) refl
-        where
-          o : Text-out
-          o = to-write (plain (x .result)) (x .steps)
+      module _ (long : slices-short published lent ≡ false) where
+        ends-delivered
+            : (x : Ran Value) → run-reader r l v ≡ ok x → admits u (x .result) ≡ true → result-over l (x .result) ≡ false
+            → End (deliver output (to-write (plain (x .result)) (x .steps)))
+        ends-delivered x e a f = go (ltb (length output) (length (plain (x .result)))) refl
+          where
+            o : Text-out
+            o = to-write (plain (x .result)) (x .steps)
 
-          go : (b : Bool) → ltb (length output) (length (plain (x .result))) ≡ b → End (deliver output o)
-          go true q = subst End (sym (deliver-short output o q)) (no-room x e (ltb-lt _ _ q))
-          go false q = subst End (sym (deliver-room output o q)) (gives x e a)
+            go : (b : Bool) → ltb (length output) (length (plain (x .result))) ≡ b → End (deliver output o)
+            go true q = subst End (sym (deliver-short output o q)) (no-room x long e f (ltb-lt _ _ q))
+            go false q = subst End (sym (deliver-room output o q)) (gives x long e a f (ltb-le _ _ q))
 
-      ends-result : (x : Ran Value) → run-reader r l v ≡ ok x → admits u (x .result) ≡ true → End (finish output (result-out l x))
-      unfolding finish
-      ends-result x e a = go (result-over l (x .result)) refl
-        where
-          go : (b : Bool) → result-over l (x .result) ≡ b → End (finish output (result-out l x))
-          go true q = subst (λ (m : Judged Text-out). End (finish output m)) (sym (result-out-over l x q)) (too-large x e q)
-          go false q = subst (λ (m : Judged Text-out). End (finish output m)) (sym (result-out-fits l x q)) (ends-delivered x e a)
+        ends-result : (x : Ran Value) → run-reader r l v ≡ ok x → admits u (x .result) ≡ true → End (finish output (result-out l x))
+        unfolding finish
+        ends-result x e a = go (result-over l (x .result)) refl
+          where
+            go : (b : Bool) → result-over l (x .result) ≡ b → End (finish output (result-out l x))
+            go true q = subst (λ (m : Judged Text-out). End (finish output m)) (sym (result-out-over l x q)) (too-large x long e q)
+            go false q = subst (λ (m : Judged Text-out). End (finish output m)) (sym (result-out-fits l x q)) (ends-delivered x e a q)
 
-      ends-run
-          : (o : Outcome ℕ (Ran Value)) → run-reader r l v ≡ o → Safe u o → End (finish output (in-text 1 o >>= λ x. result-out l x))
-      unfolding finish in-text _>>=_
-      ends-run (ok x) e h = ends-result x e (h .0)
-      ends-run (refused n p) e h =
-          subst (λ (k : ℕ). End (record { answer = refusal k 1 p; output = output })) (sym h)
-          (out-of-steps p (subst (λ (k : ℕ). run-reader r l v ≡ refused k p) h e))
+        ends-run
+            : (o : Outcome ℕ (Ran Value)) → run-reader r l v ≡ o → Safe u o → End (finish output (in-text 1 o >>= λ x. result-out l x))
+        unfolding finish in-text _>>=_
+        ends-run (ok x) e h = ends-result x e (h .0)
+        ends-run (refused n p) e h =
+            subst (λ (k : ℕ). End (record { answer = refusal k 1 p; output = output })) (sym h)
+            (out-of-steps p long (subst (λ (k : ℕ). run-reader r l v ≡ refused k p) h e))
 
       pub run-ends : Safe u (run-reader r l v) → End (run-operation source published lent l reader document output)
       unfolding finish in-text _>>=_
@@ -154,7 +165,7 @@ module _ (source : Source) (published lent : List ℕ) (l : Limits) where
           go : (b : Bool) → slices-short published lent ≡ b → End (finish output (ran reader document))
           go true q =
               subst (λ (m : Judged Text-out). End (finish output m)) (sym (prelude-short published lent (run-judged source l reader document) q)) (short-work q)
-          go false q = subst (λ (m : Judged Text-out). End (finish output m)) (sym (ran-runs q)) (ends-run (run-reader r l v) refl h)
+          go false q = subst (λ (m : Judged Text-out). End (finish output m)) (sym (ran-runs q)) (ends-run q (run-reader r l v) refl h)
 
 -- ---- both
 

@@ -2,8 +2,8 @@
 use Prim.Native.Nat.{ℕ, _≤_}
 use mathlib.Core.Path.{_≡_, refl, _∙_, subst}
 use mathlib.Core.Bool.{true, false}
-use mathlib.Core.List.{List}
-use lib.ListN.{length, take}
+use mathlib.Core.List.{List, _++_}
+use lib.ListN.{length, take, drop}
 use Rattle.definitions.specs.declared.Limits.{Limits}
 use Rattle.definitions.specs.Bytes.{Bytes}
 use Rattle.definitions.specs.Outcome.{Outcome, ok, refused}
@@ -11,10 +11,12 @@ use Rattle.definitions.specs.Value.{Value}
 use Rattle.definitions.specs.Shape.{Shape}
 use Rattle.definitions.specs.Join.{join, shape-of}
 use Rattle.definitions.specs.ShapeText.{read-shape, write-shape}
-use Rattle.definitions.specs.Operations.{Source, Judged, passed, slices-short, prelude, Text-out, to-write, finish, infer-judged, infer-operation}
+use Rattle.definitions.specs.Operations.{Source, Judged, passed, written, slices-short, prelude, Text-out, to-write, finish, infer-judged}
+use Rattle.definitions.specs.Operations.{infer-operation}
 use Rattle.laws.specs.Tests.{eqb-eq, eq-eqb}
 use Rattle.laws.specs.Judging.{Numbered, Positive, bind-of, bind-positive, prelude-positive, both-positive, shape-out-positive, prelude-long}
-use Rattle.laws.specs.Judging.{prelude-passed, both-read, both-passed, shape-over, shape-out-passed, shape-out-fits, finish-zero, finish-written, front}
+use Rattle.laws.specs.Judging.{prelude-passed, both-read, both-passed, shape-over, shape-out-passed, shape-out-fits, finish-zero}
+use Rattle.laws.specs.Judging.{finish-written, front}
 use Rattle.laws.specs.Chain.{Call, infers, takes, left-by, Reads, Proper-source}
 
 module _ (source : Source) (published : List ℕ) (l : Limits) where
@@ -47,14 +49,24 @@ module _ (source : Source) (published : List ℕ) (l : Limits) where
       (a .reads-sample .value))
       ∙ shape-out-fits l (join s (shape-of v)) (a .fits)
 
+  -- the answer and the output of an accepted call
+  pub infers-written
+      : (c : Call) (t : Bytes) (s : Shape) (v : Value) → Accepted c t s v
+      → infers source published l c t
+      ≡ record {
+        answer = written (length (write-shape (join s (shape-of v)))) 0 false;
+        output = write-shape (join s (shape-of v)) ++ drop (length (write-shape (join s (shape-of v)))) (c .output);
+      }
+  unfolding infers infer-operation
+  infers-written c t s v a =
+      finish-written (c .output) (to-write (write-shape (join s (shape-of v))) 0) (judged-accepted c t s v a) (a .room)
+
   infers-accepted
       : (c : Call) (t : Bytes) (s : Shape) (v : Value) → Accepted c t s v
       → (infers source published l c t .answer .number ≡ 0)
       × (take (infers source published l c t .answer .length) (infers source published l c t .output) ≡ write-shape (join s (shape-of v)))
-  unfolding infers infer-operation
   infers-accepted c t s v a =
-      let o : Text-out = to-write (write-shape (join s (shape-of v))) 0 in
-      front (c .output) o (infers source published l c t) (finish-written (c .output) o (judged-accepted c t s v a) (a .room))
+      front (c .output) (to-write (write-shape (join s (shape-of v))) 0) (infers source published l c t) (infers-written c t s v a)
 
   -- an accepted call leaves the text of the join
   pub accepted-left

@@ -7,6 +7,7 @@ use Rattle.definitions.specs.Shape.{Record, no-rec, rec-of, has-int, has-dec, h
 use Rattle.definitions.specs.Reader.{Conversion, Test}
 use Rattle.definitions.specs.Checking.{convert-kinds, convert-shape, element-shape, test-kinds, stay-numeric, stay-element, stay-record, stay}
 use Rattle.definitions.specs.Checking.{cut-to, taken-out}
+use Rattle.laws.specs.OrderLaws.{numeric-eq}
 use Rattle.laws.specs.CheckRules.{Converts, by-int, by-bool, by-text, by-dec, Element-shape, element, absent, Means, Holds-as, Cut, Taken-out}
 
 -- ---- conversions, elements, kinds
@@ -60,18 +61,6 @@ means-as Means.rec = refl
 
 -- ---- a shape is told by its kinds and what list and rec hold
 
-numeric-same : (m k : Numeric) → has-int m ≡ has-int k → has-dec m ≡ has-dec k → m ≡ k
-unfolding has-int has-dec
-numeric-same no-number no-number i d = refl
-numeric-same no-number int-only i d = absurd (false≢true i)
-numeric-same no-number int-and-dec i d = absurd (false≢true i)
-numeric-same int-only no-number i d = absurd (true≢false i)
-numeric-same int-only int-only i d = refl
-numeric-same int-only int-and-dec i d = absurd (false≢true d)
-numeric-same int-and-dec no-number i d = absurd (true≢false i)
-numeric-same int-and-dec int-only i d = absurd (true≢false d)
-numeric-same int-and-dec int-and-dec i d = refl
-
 element-same
     : (a b e : Element) → has-list a ≡ has-list b → (has-list a ≡ true → a ≡ e) → (has-list b ≡ true → b ≡ e) → a ≡ b
 unfolding has-list
@@ -93,7 +82,7 @@ unfolding has element-of record-of
 shape-same s (shape n b m t e r) (shape n′ b′ m′ t′ e′ r′) f g h =
     ap (λ (x : Bool). shape x b m t e r) (h Kind.null)
     ∙ ap (λ (x : Bool). shape n′ x m t e r) (h Kind.bool)
-    ∙ ap (λ (x : Numeric). shape n′ b′ x t e r) (numeric-same m m′ (h Kind.int) (h Kind.dec))
+    ∙ ap (λ (x : Numeric). shape n′ b′ x t e r) (numeric-eq m m′ (h Kind.int) (h Kind.dec))
     ∙ ap (λ (x : Bool). shape n′ b′ m′ x e r) (h Kind.text)
     ∙ ap (λ (x : Element). shape n′ b′ m′ t′ x r) (element-same e e′ (element-of s) (h Kind.list) (f .element) (g .element))
     ∙ ap (λ (x : Record). shape n′ b′ m′ t′ e′ x) (record-same r r′ (record-of s) (h Kind.rec) (f .members) (g .members))

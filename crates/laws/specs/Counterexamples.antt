@@ -33,22 +33,22 @@ use Rattle.laws.specs.Chain.{Each, each-none, each-one, Call, start, inf
 
 -- ---- values and shapes that serve below
 
-an-int : Value
+unfoldable pub an-int : Value
 an-int = Value.number (record { negative = false; coefficient = 1; scale = 0 })
 
 -- a record with the name a twice, the second time a text
-twice : Value
+unfoldable pub twice : Value
 twice = Value.rec (member (bytes "a") an-int (member (bytes "a") (Value.text []) no-members))
 
-int-shape : Shape
+unfoldable pub int-shape : Shape
 int-shape = only-numeric int-only
 
 -- a rec whose a is an int
-with-a : Shape
+unfoldable pub with-a : Shape
 with-a = only-rec (rec-of (field (bytes "a") int-shape no-fields))
 
 -- one outcome is not two
-clash : {A : Type 0} {o : Outcome ℕ A} {a : A} {n p : ℕ} → o ≡ refused n p → o ≡ ok a → ⊥
+pub clash : {A : Type 0} {o : Outcome ℕ A} {a : A} {n p : ℕ} → o ≡ refused n p → o ≡ ok a → ⊥
 clash {A} {o} {a} {n} {p} e f = subst Is-ok (sym f ∙ e) tt
   where
     Is-ok : Outcome ℕ A → Type 0
@@ -202,7 +202,7 @@ short-output-loses-a-sample h =
     one-left (x ∷ y ∷ zs) = true
 
 -- from a source with a refusal whose number is 0, the text reached is no shape text
-zero-source : Source
+unfoldable pub zero-source : Source
 zero-source l document = refused 0 0
 
 pub unnumbered-refusal-loses-the-shape
@@ -214,7 +214,7 @@ unnumbered-refusal-loses-the-shape h =
     clash {n = 7} {p = 0} refl (h zero-source (λ l d v e. absurd (clash refl e)) (ample [] ∷ []) .1)
 
 -- from a source that gives a name twice, the shape reached does not admit the sample
-twice-source : Source
+unfoldable pub twice-source : Source
 twice-source l document = ok twice
 
 pub repeated-name-is-not-admitted
@@ -228,10 +228,10 @@ repeated-name-is-not-admitted h =
     (h twice-source (record { sample = []; output = replicate 60 0; lent = [] } ∷ []) with-a twice [] refl refl refl)
 
 -- every document is a record with one name, which is no UTF-8
-odd-source : Source
+unfoldable pub odd-source : Source
 odd-source l document = ok (Value.rec (member (0xFF ∷ []) Value.null no-members))
 
-odd-distinct : (l : Limits) (document : Bytes) (v : Value) → odd-source l document ≡ ok v → distinct v ≡ true
+pub odd-distinct : (l : Limits) (document : Bytes) (v : Value) → odd-source l document ≡ ok v → distinct v ≡ true
 unfolding evaluate odd-source distinct
 odd-distinct l document v e = subst Distinct-ok e refl
   where

@@ -136,7 +136,7 @@ below-trans s = shape-induction s Transitive transitive
 
 -- ---- antisymmetric
 
-numeric-eq : (m k : Numeric) → has-int m ≡ has-int k → has-dec m ≡ has-dec k → m ≡ k
+pub numeric-eq : (m k : Numeric) → has-int m ≡ has-int k → has-dec m ≡ has-dec k → m ≡ k
 unfolding has-int has-dec
 numeric-eq no-number no-number p q = refl
 numeric-eq no-number int-only p q = absurd (false≢true p)

@@ -15,6 +15,7 @@ use Rattle.definitions.specs.Reader.{Place, Conversion, Test, Result, Pairs, no
 use Rattle.definitions.specs.Checking.{field-kinds, convert-kinds, list-kinds, test-kinds}
 use Rattle.definitions.specs.Running.{Ran, gives, stuck-unless, field-value, converted, items-of, int-value, truth}
 use Rattle.definitions.specs.Running.{run-place, run-items, run, run-pairs, run-reader}
+use Rattle.laws.specs.SoundSteps.{enter-within}
 use Rattle.laws.specs.RuleTells.{Tells, gave, told, told-refused, tells-map, tells-bind, tells-either, bind-ok, bind-refused}
 use Rattle.laws.specs.CheckRules.{Converts, Means}
 use Rattle.laws.specs.CheckRulesKinds.{converts, converts-as, means, means-as}
@@ -26,7 +27,7 @@ use Rattle.laws.specs.RunRules.{convert-stuck, keep-part, count-part, co
 use Rattle.laws.specs.RunRules.{when-second, if-part, if-stuck, if-true, if-false, pack-part, Items-halt, this-item, later-item, Pairs-halt}
 use Rattle.laws.specs.RunRules.{this-pair, later-pair, Stuck, Out-of-steps}
 use Rattle.laws.specs.RunRulesKinds.{field-is, field-kind, field-as, elements-is, elements-kind, elements-as, truth-none, tells-enter}
-use Rattle.laws.specs.RunRulesKinds.{tells-stuck, tells-truth, entered, not-entered, stuck-met, stuck-unmet}
+use Rattle.laws.specs.RunRulesKinds.{tells-stuck, tells-truth, not-entered, stuck-met, stuck-unmet}
 
 -- ---- what running comes to is what the rules say
 
@@ -124,17 +125,17 @@ module _ (l : Limits) where
 
   place-gives : (p : Place) {env : List Value} {n m : ℕ} {v : Value} → Place-runs l env n p v m → run-place p l env n ≡ ran v m
   unfolding run-place gives
-  place-gives (Place.it at k) {n = n} (runs-it e) = bind-ok _ (entered l at n e)
+  place-gives (Place.it at k) {n = n} (runs-it e) = bind-ok _ (enter-within l at n e)
   place-gives (Place.field at name p) {n = n} (runs-field e d f) =
-      bind-ok _ (entered l at n e) ∙ bind-ok _ (place-gives p d) ∙ bind-ok _ (field-gives at f)
+      bind-ok _ (enter-within l at n e) ∙ bind-ok _ (place-gives p d) ∙ bind-ok _ (field-gives at f)
 
   place-halts : (p : Place) {env : List Value} {n m q : ℕ} → Place-halts l env n p m q → run-place p l env n ≡ refused m q
   unfolding run-place gives field-value field-kinds
   place-halts (Place.it at k) {n = n} (place-out o) = bind-refused _ (not-entered l at n o)
   place-halts (Place.field at name p) {n = n} (place-out o) = bind-refused _ (not-entered l at n o)
-  place-halts (Place.field at name p) {n = n} (field-part e h) = bind-ok _ (entered l at n e) ∙ bind-refused _ (place-halts p h)
+  place-halts (Place.field at name p) {n = n} (field-part e h) = bind-ok _ (enter-within l at n e) ∙ bind-refused _ (place-halts p h)
   place-halts (Place.field at name p) {n = n} (field-stuck {v = v} e d s) =
-      bind-ok _ (entered l at n e) ∙ bind-ok _ (place-gives p d) ∙ bind-refused _ (stuck-unmet at field-kinds v _ s)
+      bind-ok _ (enter-within l at n e) ∙ bind-ok _ (place-gives p d) ∙ bind-refused _ (stuck-unmet at field-kinds v _ s)
 
   -- the elements one by one, if what is run on each is told by the rules
   abbrev Body-gives : Result → List Value → Type 0
@@ -193,28 +194,28 @@ module _ (l : Limits) where
 
     run-gives : (r : Result) {env : List Value} {n m : ℕ} {v : Value} → Runs l env n r v m → run r l env n ≡ ran v m
     run-gives (Result.convert at c p) {n = n} {m} {v} (runs-convert e d h s) =
-        bind-ok _ (entered l at n e) ∙ bind-ok _ (place-gives p d) ∙ converted-met at m v h s
-    run-gives (Result.keep at p) {n = n} (runs-keep e d) = bind-ok _ (entered l at n e) ∙ place-gives p d
+        bind-ok _ (enter-within l at n e) ∙ bind-ok _ (place-gives p d) ∙ converted-met at m v h s
+    run-gives (Result.keep at p) {n = n} (runs-keep e d) = bind-ok _ (enter-within l at n e) ∙ place-gives p d
     run-gives (Result.count at p) {n = n} {m} (runs-count {v = v} e d f) =
-        bind-ok _ (entered l at n e)
+        bind-ok _ (enter-within l at n e)
         ∙ bind-ok _ (place-gives p d)
         ∙ stuck-met at list-kinds v _ (elements-kind f)
         ∙ count-as m f
     run-gives (Result.each at p r) {env} {n} (runs-each {m = m} {v = v} {vs = vs} e d f ds) =
-        bind-ok _ (entered l at n e)
+        bind-ok _ (enter-within l at n e)
         ∙ bind-ok _ (place-gives p d)
         ∙ stuck-met at list-kinds v _ (elements-kind f)
         ∙ bind-ok _ (through r env m f (items-give r env (λ a b i j h. run-gives r h) vs ds))
     run-gives (Result.when at k p r₁ r₂) {n = n} (runs-when-first {v = v} e d h s f) =
-        bind-ok _ (entered l at n e) ∙ bind-ok _ (place-gives p d) ∙ chosen-first _ _ v h s (run-gives r₁ f)
+        bind-ok _ (enter-within l at n e) ∙ bind-ok _ (place-gives p d) ∙ chosen-first _ _ v h s (run-gives r₁ f)
     run-gives (Result.when at k p r₁ r₂) {n = n} (runs-when-second {v = v} e d h s f) =
-        bind-ok _ (entered l at n e) ∙ bind-ok _ (place-gives p d) ∙ chosen-second _ _ v h s (run-gives r₂ f)
+        bind-ok _ (enter-within l at n e) ∙ bind-ok _ (place-gives p d) ∙ chosen-second _ _ v h s (run-gives r₂ f)
     run-gives (Result.choose at r₁ r₂ r₃) {n = n} (runs-if-true e d f) =
-        bind-ok _ (entered l at n e) ∙ bind-ok _ (run-gives r₁ d) ∙ run-gives r₂ f
+        bind-ok _ (enter-within l at n e) ∙ bind-ok _ (run-gives r₁ d) ∙ run-gives r₂ f
     run-gives (Result.choose at r₁ r₂ r₃) {n = n} (runs-if-false e d f) =
-        bind-ok _ (entered l at n e) ∙ bind-ok _ (run-gives r₁ d) ∙ run-gives r₃ f
-    run-gives (Result.literal at v) {n = n} (runs-literal e) = bind-ok _ (entered l at n e)
-    run-gives (Result.pack at ps) {n = n} (runs-pack e d) = bind-ok _ (entered l at n e) ∙ bind-ok _ (pairs-give ps d)
+        bind-ok _ (enter-within l at n e) ∙ bind-ok _ (run-gives r₁ d) ∙ run-gives r₃ f
+    run-gives (Result.literal at v) {n = n} (runs-literal e) = bind-ok _ (enter-within l at n e)
+    run-gives (Result.pack at ps) {n = n} (runs-pack e d) = bind-ok _ (enter-within l at n e) ∙ bind-ok _ (pairs-give ps d)
 
     pairs-give : (ps : Pairs) {env : List Value} {n m : ℕ} {ms : Members} → Pairs-run l env n ps ms m → run-pairs ps l env n ≡ ran ms m
     pairs-give no-pairs runs-no-pairs = refl
@@ -231,41 +232,41 @@ module _ (l : Limits) where
 
     run-halts : (r : Result) {env : List Value} {n m q : ℕ} → Halts l env n r m q → run r l env n ≡ refused m q
     run-halts (Result.convert at c p) {n = n} (out o) = bind-refused _ (not-entered l at n o)
-    run-halts (Result.convert at c p) {n = n} (convert-part e h) = bind-ok _ (entered l at n e) ∙ bind-refused _ (place-halts p h)
+    run-halts (Result.convert at c p) {n = n} (convert-part e h) = bind-ok _ (enter-within l at n e) ∙ bind-refused _ (place-halts p h)
     run-halts (Result.convert at c p) {n = n} (convert-stuck {m = m} {v = v} e d h s) =
-        bind-ok _ (entered l at n e) ∙ bind-ok _ (place-gives p d) ∙ converted-unmet at m v h s
+        bind-ok _ (enter-within l at n e) ∙ bind-ok _ (place-gives p d) ∙ converted-unmet at m v h s
     run-halts (Result.keep at p) {n = n} (out o) = bind-refused _ (not-entered l at n o)
-    run-halts (Result.keep at p) {n = n} (keep-part e h) = bind-ok _ (entered l at n e) ∙ place-halts p h
+    run-halts (Result.keep at p) {n = n} (keep-part e h) = bind-ok _ (enter-within l at n e) ∙ place-halts p h
     run-halts (Result.count at p) {n = n} (out o) = bind-refused _ (not-entered l at n o)
-    run-halts (Result.count at p) {n = n} (count-part e h) = bind-ok _ (entered l at n e) ∙ bind-refused _ (place-halts p h)
+    run-halts (Result.count at p) {n = n} (count-part e h) = bind-ok _ (enter-within l at n e) ∙ bind-refused _ (place-halts p h)
     run-halts (Result.count at p) {n = n} (count-stuck {v = v} e d s) =
-        bind-ok _ (entered l at n e) ∙ bind-ok _ (place-gives p d) ∙ stuck-unmet at list-kinds v _ s
+        bind-ok _ (enter-within l at n e) ∙ bind-ok _ (place-gives p d) ∙ stuck-unmet at list-kinds v _ s
     run-halts (Result.each at p r) {n = n} (out o) = bind-refused _ (not-entered l at n o)
-    run-halts (Result.each at p r) {n = n} (each-part e h) = bind-ok _ (entered l at n e) ∙ bind-refused _ (place-halts p h)
+    run-halts (Result.each at p r) {n = n} (each-part e h) = bind-ok _ (enter-within l at n e) ∙ bind-refused _ (place-halts p h)
     run-halts (Result.each at p r) {n = n} (each-stuck {v = v} e d s) =
-        bind-ok _ (entered l at n e) ∙ bind-ok _ (place-gives p d) ∙ stuck-unmet at list-kinds v _ s
+        bind-ok _ (enter-within l at n e) ∙ bind-ok _ (place-gives p d) ∙ stuck-unmet at list-kinds v _ s
     run-halts (Result.each at p r) {env} {n} (each-items {i = i} {v = v} {vs = vs} e d f h) =
-        bind-ok _ (entered l at n e)
+        bind-ok _ (enter-within l at n e)
         ∙ bind-ok _ (place-gives p d)
         ∙ stuck-met at list-kinds v _ (elements-kind f)
         ∙ bind-refused _ (through r env i f (items-halt r env (λ a b x y g. run-gives r g) (λ a x y z g. run-halts r g) vs h))
     run-halts (Result.when at k p r₁ r₂) {n = n} (out o) = bind-refused _ (not-entered l at n o)
-    run-halts (Result.when at k p r₁ r₂) {n = n} (when-part e h) = bind-ok _ (entered l at n e) ∙ bind-refused _ (place-halts p h)
+    run-halts (Result.when at k p r₁ r₂) {n = n} (when-part e h) = bind-ok _ (enter-within l at n e) ∙ bind-refused _ (place-halts p h)
     run-halts (Result.when at k p r₁ r₂) {n = n} (when-first {v = v} e d h s f) =
-        bind-ok _ (entered l at n e) ∙ bind-ok _ (place-gives p d) ∙ chosen-first _ _ v h s (run-halts r₁ f)
+        bind-ok _ (enter-within l at n e) ∙ bind-ok _ (place-gives p d) ∙ chosen-first _ _ v h s (run-halts r₁ f)
     run-halts (Result.when at k p r₁ r₂) {n = n} (when-second {v = v} e d h s f) =
-        bind-ok _ (entered l at n e) ∙ bind-ok _ (place-gives p d) ∙ chosen-second _ _ v h s (run-halts r₂ f)
+        bind-ok _ (enter-within l at n e) ∙ bind-ok _ (place-gives p d) ∙ chosen-second _ _ v h s (run-halts r₂ f)
     run-halts (Result.choose at r₁ r₂ r₃) {n = n} (out o) = bind-refused _ (not-entered l at n o)
-    run-halts (Result.choose at r₁ r₂ r₃) {n = n} (if-part e h) = bind-ok _ (entered l at n e) ∙ bind-refused _ (run-halts r₁ h)
+    run-halts (Result.choose at r₁ r₂ r₃) {n = n} (if-part e h) = bind-ok _ (enter-within l at n e) ∙ bind-refused _ (run-halts r₁ h)
     run-halts (Result.choose at r₁ r₂ r₃) {n = n} (if-stuck {v = v} e d s) =
-        bind-ok _ (entered l at n e) ∙ bind-ok _ (run-gives r₁ d) ∙ if-none at v _ _ s
+        bind-ok _ (enter-within l at n e) ∙ bind-ok _ (run-gives r₁ d) ∙ if-none at v _ _ s
     run-halts (Result.choose at r₁ r₂ r₃) {n = n} (if-true e d h) =
-        bind-ok _ (entered l at n e) ∙ bind-ok _ (run-gives r₁ d) ∙ run-halts r₂ h
+        bind-ok _ (enter-within l at n e) ∙ bind-ok _ (run-gives r₁ d) ∙ run-halts r₂ h
     run-halts (Result.choose at r₁ r₂ r₃) {n = n} (if-false e d h) =
-        bind-ok _ (entered l at n e) ∙ bind-ok _ (run-gives r₁ d) ∙ run-halts r₃ h
+        bind-ok _ (enter-within l at n e) ∙ bind-ok _ (run-gives r₁ d) ∙ run-halts r₃ h
     run-halts (Result.literal at v) {n = n} (out o) = bind-refused _ (not-entered l at n o)
     run-halts (Result.pack at ps) {n = n} (out o) = bind-refused _ (not-entered l at n o)
-    run-halts (Result.pack at ps) {n = n} (pack-part e h) = bind-ok _ (entered l at n e) ∙ bind-refused _ (pairs-halt ps h)
+    run-halts (Result.pack at ps) {n = n} (pack-part e h) = bind-ok _ (enter-within l at n e) ∙ bind-refused _ (pairs-halt ps h)
 
     pairs-halt : (ps : Pairs) {env : List Value} {n m q : ℕ} → Pairs-halt l env n ps m q → run-pairs ps l env n ≡ refused m q
     pairs-halt (pair name r ps) (this-pair h) = bind-refused _ (run-halts r h)
@@ -279,10 +280,13 @@ pub runs-exactly
 unfolding run-reader
 runs-exactly r l v x = (told (run-tells l r (v ∷ []) 0), run-gives l r)
 
-pub stuck-exactly : (r : Result) (l : Limits) (v : Value) (p : ℕ) → (run-reader r l v ≡ refused 12 p) ↔ Stuck l (v ∷ []) 0 r p
+pub halts-exactly
+    : (r : Result) (l : Limits) (v : Value) (n p : ℕ) → (run-reader r l v ≡ refused n p) ↔ Halts l (v ∷ []) 0 r n p
 unfolding run-reader
-stuck-exactly r l v p = (told-refused (run-tells l r (v ∷ []) 0), run-halts l r)
+halts-exactly r l v n p = (told-refused (run-tells l r (v ∷ []) 0), run-halts l r)
+
+pub stuck-exactly : (r : Result) (l : Limits) (v : Value) (p : ℕ) → (run-reader r l v ≡ refused 12 p) ↔ Stuck l (v ∷ []) 0 r p
+stuck-exactly r l v p = halts-exactly r l v 12 p
 
 pub out-exactly : (r : Result) (l : Limits) (v : Value) (p : ℕ) → (run-reader r l v ≡ refused 13 p) ↔ Out-of-steps l (v ∷ []) 0 r p
-unfolding run-reader
-out-exactly r l v p = (told-refused (run-tells l r (v ∷ []) 0), run-halts l r)
+out-exactly r l v p = halts-exactly r l v 13 p

@@ -1,6 +1,6 @@
 -- What the forms read of a value, as the rules say it and as running computes it, and the steps of running. Assumes nothing.
 use Prim.Native.Nat.{ℕ, suc, _<_, _≤_}
-use mathlib.Core.Path.{_≡_, refl, sym, _∙_}
+use mathlib.Core.Path.{_≡_, refl}
 use mathlib.Core.Bool.{Bool, true, false, false≢true, true≢false}
 use mathlib.Core.List.{List, [], _∷_}
 use mathlib.Core.Option.{none, some}
@@ -13,7 +13,8 @@ use Rattle.definitions.specs.Value.{Value, Items, Members, no-members, member}
 use Rattle.definitions.specs.Shape.{Kind, rank, among}
 use Rattle.definitions.specs.Admits.{kind-of}
 use Rattle.definitions.specs.Running.{enter, stuck-unless, member-of, members-of, items-of, truth}
-use Rattle.laws.specs.Tests.{ltb-lt, ltb-le, lt-ltb, le-ltb}
+use Rattle.laws.specs.Bools.{clash}
+use Rattle.laws.specs.Tests.{ltb-lt, ltb-le, le-ltb}
 use Rattle.laws.specs.RuleTells.{Tells, stopped, tells-either}
 use Rattle.laws.specs.RunRules.{Is, Is-not, Member, missing, this, later, Field, of-record, Elements, of-list, of-null}
 
@@ -44,9 +45,6 @@ number-not x ks i d = go (is-int x)
     go : (b : Bool) → among (elim b [ true ↦ Kind.int | false ↦ Kind.dec ]) ks ≡ false
     go true = i
     go false = d
-
-clash : {b : Bool} {X : Type 0} → b ≡ true → b ≡ false → X
-clash e f = absurd (true≢false (sym e ∙ f))
 
 pub field-is : (n : Bytes) (v : Value) → Is (Kind.rec ∷ []) v → Field n v (member-of n (members-of v))
 unfolding kind-of among rank members-of
@@ -124,10 +122,6 @@ module _ {A : Type 0} {G : A → Type 0} {R : ℕ → ℕ → Type 0} where
   tells-truth at (Value.text z) s t f = stopped (s refl)
   tells-truth at (Value.list vs) s t f = stopped (s refl)
   tells-truth at (Value.rec ms) s t f = stopped (s refl)
-
-pub entered : (l : Limits) (at n : ℕ) → n < l .steps → enter l at n ≡ ok (suc n)
-unfolding enter
-entered l at n h = rw (lt-ltb _ _ h, enter) refl
 
 pub not-entered : (l : Limits) (at n : ℕ) → l .steps ≤ n → enter l at n ≡ refused 13 at
 unfolding enter

@@ -49,7 +49,7 @@ repeats-bind {g = g} (ended {x} a b h) r = repeats-after (r x b) a b (λ y. ap (
 repeats-bind {g = g} (halted h) r = halted (λ y. ap (λ q. q >>= g) (h y))
 repeats-bind spent r = spent
 
-enter-within : (l : Limits) (at n : ℕ) → n < l .steps → enter l at n ≡ ok (suc n)
+pub enter-within : (l : Limits) (at n : ℕ) → n < l .steps → enter l at n ≡ ok (suc n)
 unfolding enter
 enter-within l at n h =
     let e : ltb n (l .steps) ≡ true = passed (ltb n (l .steps)) (lt→ltb n (l .steps) h) in

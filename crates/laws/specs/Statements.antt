@@ -1,15 +1,16 @@
 -- The promises of `definitions`, each tied to its demand (document 00). Everything that a reader has to believe of the
 -- theorems stands here and in what these statements name: `definitions`, the grammars (Rfc3629, Rfc8259, TokenGrammar, FormGrammar), the
--- causes (Causes, FormCauses), the rules of checking and running (CheckRules, RunRules), trees and what fits (Tree), values of the
--- paper (Distinct, Good, Readers) and the chain of calls (Chain). They hold for every set of limits where no range is named.
+-- causes (Causes, FormCauses, OperationCauses), the rules of checking and running (CheckRules, RunRules), trees and what fits (Tree), values of the
+-- paper (Distinct, Good, Readers) and the chain of calls (Chain, AnswerWords, HostChain). They hold for every set of limits where no range is named.
 -- Theorems proves them. Assumes nothing.
-use Prim.Native.Nat.{ℕ, _≤_}
+use Prim.Native.Nat.{ℕ, _≤_, _<_}
 use mathlib.Core.Path.{_≡_}
 use mathlib.Core.Logic.{_⊎_, _↔_}
-use mathlib.Core.Bool.{true}
-use mathlib.Core.List.{List, [], _∷_}
-use lib.ListN.{length, take}
+use mathlib.Core.Bool.{Bool, true}
+use mathlib.Core.List.{List, [], _∷_, _++_}
+use lib.ListN.{length, take, drop}
 use Rattle.definitions.specs.declared.Limits.{Limits}
+use Rattle.definitions.specs.declared.Answer.{Answer}
 use Rattle.definitions.specs.Limits.{standard}
 use Rattle.definitions.specs.Bytes.{Bytes}
 use Rattle.definitions.specs.Outcome.{ok, refused}
@@ -25,7 +26,10 @@ use Rattle.definitions.specs.ShapeText.{read-shape, write-shape}
 use Rattle.definitions.specs.Reader.{Result, read-reader}
 use Rattle.definitions.specs.Checking.{check-reader}
 use Rattle.definitions.specs.Running.{Ran, run-reader}
-use Rattle.definitions.specs.Operations.{Done, Source, Judged, Text-out, finish, infer-operation, join-operation, check-operation}
+use Rattle.definitions.specs.Operations.{Done, Source, Judged, prelude, Text-out, finish, say, plain-operation, infer-operation, join-operation}
+use Rattle.definitions.specs.Operations.{below-operation, admits-operation, check-operation, run-operation}
+use Rattle.definitions.specs.Calls.{Called, answer-words, answered, call, quiet, buffer-published, buffer-lent, plain-call, infer-call, join-call}
+use Rattle.definitions.specs.Calls.{check-call, run-call}
 use Rattle.laws.specs.Distinct.{distinct}
 use Rattle.laws.specs.Tree.{Tree, meaning, Fits}
 use Rattle.laws.specs.Rfc8259.{JSON-text}
@@ -38,6 +42,10 @@ use Rattle.laws.specs.Readers.{scoped, proper, Safe}
 use Rattle.laws.specs.CheckRules.{Checks, Refuses}
 use Rattle.laws.specs.RunRules.{Runs, Stuck, Out-of-steps}
 use Rattle.laws.specs.Chain.{Call, Proper-source, In-range, Demand-3}
+use Rattle.laws.specs.OperationCauses.{Refused-with-the-first, Plain-cause, Infer-cause, Join-cause, Below-cause, Admits-cause}
+use Rattle.laws.specs.OperationCauses.{Check-cause, Run-cause}
+use Rattle.laws.specs.AnswerWords.{In-word, Words-of}
+use Rattle.laws.specs.HostChain.{Infer-call, handed-on, Call-ends, Demand-3-over-calls}
 
 -- ---- documents: demand 2, "Documents are read as RFC 8259 and RFC 3629 define them"
 
@@ -142,12 +150,79 @@ pub record Written-shapes-read-back : Type 0 where
       → (r : Result) × (s : Shape) × (u : Shape) × (read-reader l reader ≡ ok r) × (read-shape l shape ≡ ok s)
       × (check-reader r s ≡ ok u) × (read-shape l (wrote (check-operation published lent l reader shape output)) ≡ ok u)
 
+-- what plain writes reads back as the document's value, what run writes as the value that it gave, in the steps answered
+pub record Written-documents-read-back : Type 0 where
+  pub by-plain
+      : (published lent : List ℕ) (l : Limits) (document output : Bytes)
+      → plain-operation read-json published lent l document output .answer .number ≡ 0
+      → (v : Value) × (read-json l document ≡ ok v)
+      × (read-json l (wrote (plain-operation read-json published lent l document output)) ≡ ok v)
+  pub by-run
+      : (published lent : List ℕ) (l : Limits) → In-range l → (reader document output : Bytes)
+      → run-operation read-json published lent l reader document output .answer .number ≡ 0
+      → (r : Result) × (v : Value) × (x : Ran Value) × (read-reader l reader ≡ ok r) × (read-json l document ≡ ok v) × (run-reader r l v ≡ ok x)
+      × (run-operation read-json published lent l reader document output .answer .steps ≡ x .steps)
+      × (read-json l (wrote (run-operation read-json published lent l reader document output)) ≡ ok (x .result))
+
 -- ---- demand 1, "no refusal changes a byte of the output buffer"
 
 -- whatever was judged: every operation that writes ends in `finish`
 abbrev pub Refusals-keep-the-output : Type 0
 Refusals-keep-the-output =
     (output : Bytes) (j : Judged Text-out) → (finish output j .answer .number ≡ 0 → ⊥) → finish output j .output ≡ output
+
+-- and so every C call that writes
+pub record Calls-keep-the-output : Type 0 where
+  pub by-plain
+      : (l : Limits) (source : Source) (document output buffer : Bytes) → (plain-call source l document output buffer .number ≡ 0 → ⊥)
+      → plain-call source l document output buffer .output ≡ output
+  pub by-infer
+      : (l : Limits) (source : Source) (shape document output buffer : Bytes)
+      → (infer-call source l shape document output buffer .number ≡ 0 → ⊥)
+      → infer-call source l shape document output buffer .output ≡ output
+  pub by-join
+      : (l : Limits) (first second output buffer : Bytes) → (join-call l first second output buffer .number ≡ 0 → ⊥)
+      → join-call l first second output buffer .output ≡ output
+  pub by-check
+      : (l : Limits) (reader shape output buffer : Bytes) → (check-call l reader shape output buffer .number ≡ 0 → ⊥)
+      → check-call l reader shape output buffer .output ≡ output
+  pub by-run
+      : (l : Limits) (source : Source) (reader document output buffer : Bytes)
+      → (run-call source l reader document output buffer .number ≡ 0 → ⊥)
+      → run-call source l reader document output buffer .output ≡ output
+
+-- ---- demand 1, "each is given by its number and place under its stated cause, and under no other", of all numbers
+
+-- each operation is refused with the first of its causes, or none stands and it succeeds; a C call is the operation with the answer
+-- buffer's 40 bytes for work slices
+pub record Refused-with-the-first-cause : Type 0 where
+  pub by-plain
+      : (published lent : List ℕ) (l : Limits) (document output : Bytes)
+      → Refused-with-the-first
+      (Plain-cause published lent l document output)
+      (plain-operation read-json published lent l document output .answer)
+  pub by-infer
+      : (published lent : List ℕ) (l : Limits) (shape document output : Bytes)
+      → Refused-with-the-first
+      (Infer-cause published lent l shape document output)
+      (infer-operation read-json published lent l shape document output .answer)
+  pub by-join
+      : (published lent : List ℕ) (l : Limits) (first second output : Bytes)
+      → Refused-with-the-first (Join-cause published lent l first second output) (join-operation published lent l first second output .answer)
+  pub by-below
+      : (published lent : List ℕ) (l : Limits) (first second : Bytes)
+      → Refused-with-the-first (Below-cause published lent l first second) (below-operation published lent l first second)
+  pub by-admits
+      : (published lent : List ℕ) (l : Limits) (shape document : Bytes)
+      → Refused-with-the-first (Admits-cause published lent l shape document) (admits-operation read-json published lent l shape document)
+  pub by-check
+      : (published lent : List ℕ) (l : Limits) (reader shape output : Bytes)
+      → Refused-with-the-first (Check-cause published lent l reader shape output) (check-operation published lent l reader shape output .answer)
+  pub by-run
+      : (published lent : List ℕ) (l : Limits) (reader document output : Bytes)
+      → Refused-with-the-first
+      (Run-cause published lent l reader document output)
+      (run-operation read-json published lent l reader document output .answer)
 
 -- ---- order and join: demand 2, "inferring, ordering .. give just the answers that document 01 defines", and what demand 3
 -- stands on
@@ -207,6 +282,18 @@ pub record Running-by-the-rules : Type 0 where
   pub numbers : (r : Result) (l : Limits) (v : Value) (n p : ℕ) → run-reader r l v ≡ refused n p → (n ≡ 12) ⊎ (n ≡ 13)
   pub within-the-limit : (r : Result) (l : Limits) (v : Value) (x : Ran Value) → run-reader r l v ≡ ok x → x .steps ≤ l .steps
 
+-- of the limits running knows the steps alone: a value is given, in as many steps, under every limit that has them; what is stuck stays so
+-- under every limit that is no smaller; and 13 means that there were too few
+pub record Only-the-steps-run-out : Type 0 where
+  pub given-again
+      : (r : Result) (l m : Limits) (v : Value) (x : Ran Value) → run-reader r l v ≡ ok x → x .steps ≤ m .steps → run-reader r m v ≡ ok x
+  pub stuck-again
+      : (r : Result) (l m : Limits) (v : Value) (p : ℕ) → run-reader r l v ≡ refused 12 p → l .steps ≤ m .steps
+      → run-reader r m v ≡ refused 12 p
+  pub too-few
+      : (r : Result) (l m : Limits) (v : Value) (p : ℕ) (x : Ran Value) → run-reader r l v ≡ refused 13 p → run-reader r m v ≡ ok x
+      → l .steps < x .steps
+
 -- ---- soundness: demand 3, "the reader never gets stuck on it: it gives a value that its own result shape admits, or
 -- meets the step .. limit"
 
@@ -229,6 +316,52 @@ Demand-3-from-every-source = (source : Source) → Proper-source source → Dema
 -- and so for JSON documents
 abbrev pub Demand-3-for-documents : Type 0
 Demand-3-for-documents = Demand-3-from read-json
+
+-- ---- demand 3 over C calls
+
+-- a call is its operation behind the prelude, whatever is judged of its texts: under 40 bytes of answer buffer it is 1 and nothing is
+-- written; else the number is returned, and text, place, length, steps and yes are put into the buffer
+pub record Calls-are-operations : Type 0 where
+  pub writes-short
+      : (buffer output : Bytes) (j : Judged Text-out) → length buffer < 40
+      → call buffer (finish output (prelude buffer-published (buffer-lent buffer) j)) ≡ record { number = 1; answer = buffer; output = output }
+  pub writes-long
+      : (buffer output : Bytes) (j : Judged Text-out) → 40 ≤ length buffer
+      → call buffer (finish output (prelude buffer-published (buffer-lent buffer) j))
+      ≡ record {
+        number = finish output j .answer .number;
+        answer = answer-words (finish output j .answer) ++ drop 40 buffer;
+        output = finish output j .output;
+      }
+  pub says-short
+      : (buffer : Bytes) (j : Judged Bool) → length buffer < 40
+      → call buffer (quiet (say (prelude buffer-published (buffer-lent buffer) j))) ≡ record { number = 1; answer = buffer; output = [] }
+  pub says-long
+      : (buffer : Bytes) (j : Judged Bool) → 40 ≤ length buffer
+      → call buffer (quiet (say (prelude buffer-published (buffer-lent buffer) j)))
+      ≡ record { number = say j .number; answer = answer-words (say j) ++ drop 40 buffer; output = [] }
+
+-- what a call put into a buffer of 40 bytes or more is read from it, where the numbers fit into words
+abbrev pub Answers-read-back : Type 0
+Answers-read-back =
+    (buffer : Bytes) (a : Answer) → 40 ≤ length buffer → In-word (a .text) → In-word (a .place) → In-word (a .length) → In-word (a .steps)
+    → Words-of (answered buffer a) a
+
+-- for every source that keeps to what is asked of one, every set of limits in range and every list of infer calls as a host makes them
+abbrev pub Demand-3-of-calls-from-every-source : Type 0
+Demand-3-of-calls-from-every-source =
+    (source : Source) → Proper-source source → (l : Limits) → In-range l → (list : List Infer-call) → Demand-3-over-calls source l list
+
+-- and so for JSON documents
+abbrev pub Demand-3-of-calls : Type 0
+Demand-3-of-calls = (l : Limits) → In-range l → (list : List Infer-call) → Demand-3-over-calls read-json l list
+
+-- what the host then reads behind a run call that returned 0 is the plain JSON of the value, in every output that a word can count
+abbrev pub Results-handed-on : Type 0
+Results-handed-on =
+    (l : Limits) (r : Result) (v : Value) (u : Shape) (output answer : Bytes) (c : Called) → Call-ends l r v u output answer c
+    → c .number ≡ 0 → In-word (length output)
+    → (x : Ran Value) × (run-reader r l v ≡ ok x) × (admits u (x .result) ≡ true) × (handed-on c ≡ plain (x .result))
 
 -- the paper's own limits are in range
 abbrev pub Standard-in-range : Type 0

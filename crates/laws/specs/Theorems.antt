@@ -1,37 +1,37 @@
 -- The statements of Statements.antt, proved: each by the lemmas of the files that it cites. Assumes nothing.
-use Prim.Native.Nat.{ℕ, _≤_, _<_}
-use native.Mathlib.Nat.{le-trans}
-use mathlib.Core.Path.{_≡_, ap, _∙_, subst}
+use mathlib.Core.Path.{ap, _∙_}
 use lib.Dec.{lit≤}
-use Rattle.definitions.specs.declared.Limits.{Limits}
 use Rattle.definitions.specs.Limits.{standard}
-use Rattle.definitions.specs.Bytes.{Bytes}
 use Rattle.definitions.specs.Outcome.{ok}
-use Rattle.definitions.specs.Number.{most-coefficient}
-use Rattle.definitions.specs.Value.{Value, size}
 use Rattle.definitions.specs.Json.{read-json}
 use Rattle.laws.specs.JsonAdequate.{json-accepted-to, json-accepted-from, json-distinct, json-refused}
 use Rattle.laws.specs.TokenLaws.{tokens-are-derived}
 use Rattle.laws.specs.ShapeForms.{shape-accepted-to, shape-accepted-from, shape-ascending}
 use Rattle.laws.specs.ShapeCauses.{shape-refused}
-use Rattle.laws.specs.CauseRefuses.{json-cause-refuses, shape-cause-refuses, reader-cause-refuses}
+use Rattle.laws.specs.CauseRefuses.{json-cause-refuses, shape-cause-refuses, reader-cause-refuses, cause-numbered}
 use Rattle.laws.specs.WrittenShapes.{refusal-keeps, infer-reads-back, join-reads-back, check-reads-back}
 use Rattle.laws.specs.ReaderForms.{reader-accepted-to, reader-accepted-from}
 use Rattle.laws.specs.ReaderCauses.{reader-refused}
-use Rattle.laws.specs.ReaderFacts.{reader-proper}
-use Rattle.laws.specs.RoundLaws.{plain-reads-back, plain-idempotent, plain-not-longer, json-read-good, reader-read-good}
-use Rattle.laws.specs.RoundLaws.{run-good, shape-reads-back, shape-idempotent, shape-read-good, shape-of-good}
-use Rattle.laws.specs.RunLaws.{run-distinct, run-refusals, run-steps-bounded}
+use Rattle.laws.specs.RoundLaws.{plain-reads-back, plain-idempotent, plain-not-longer, json-read-good}
+use Rattle.laws.specs.RoundLaws.{shape-reads-back, shape-idempotent, shape-read-good, shape-of-good}
+use Rattle.laws.specs.WrittenDocuments.{result-reads-back, plain-operation-reads-back, run-operation-reads-back}
+use Rattle.laws.specs.WrittenDocuments.{plain-keeps, infer-keeps, join-keeps, check-keeps, run-keeps}
+use Rattle.laws.specs.OperationCausesHold.{plain-first, infer-first, join-first, below-first, admits-first}
+use Rattle.laws.specs.OperationCausesReaders.{check-first, run-first}
+use Rattle.laws.specs.RunLaws.{run-refusals, run-steps-bounded}
 use Rattle.laws.specs.OrderLaws.{below-refl, below-trans, below-antisym}
 use Rattle.laws.specs.JoinLaws.{join-ascending, join-upper-left, join-upper-right, join-least}
 use Rattle.laws.specs.AdmitsLaws.{admits-below, below-admits}
 use Rattle.laws.specs.SizeLaws.{forms-mono, levels-mono, write-mono}
 use Rattle.laws.specs.CheckRulesHold.{checks-exactly, refuses-exactly, check-refusals}
 use Rattle.laws.specs.RunRulesHold.{runs-exactly, stuck-exactly, out-exactly}
+use Rattle.laws.specs.SoundSteps.{run-enough, run-stuck, run-13}
 use Rattle.laws.specs.Soundness.{sound}
-use Rattle.laws.specs.Causes.{Cause, cause-3, cause-4, cause-5, cause-6}
-use Rattle.laws.specs.Chain.{Proper-source, In-range}
+use Rattle.laws.specs.Chain.{Proper-source}
 use Rattle.laws.specs.Demand3.{demand-3}
+use Rattle.laws.specs.CallLaws.{writes-short, writes-long, says-short, says-long}
+use Rattle.laws.specs.AnswerWordsRead.{words-read-back}
+use Rattle.laws.specs.HostDemand3.{demand-3-over-calls, result-handed-on}
 use Rattle.laws.specs.Statements.{Documents-by-the-RFC, Documents-refused-for-cause, Documents-refused-for-the-least}
 use Rattle.laws.specs.Statements.{Tokens-by-the-grammar, Shapes-refused-for-cause, Shapes-refused-for-the-least, Shapes-by-the-grammar}
 use Rattle.laws.specs.Statements.{Readers-by-the-grammar, Readers-refused-for-cause, Readers-refused-for-the-least, Documents-read-back}
@@ -39,6 +39,9 @@ use Rattle.laws.specs.Statements.{Results-read-back, Values-read-back, S
 use Rattle.laws.specs.Statements.{Refusals-keep-the-output, Partial-order, Least-upper-bound, Admits-is-below, Sizes-grow}
 use Rattle.laws.specs.Statements.{Checking-by-the-rules, Running-by-the-rules, Checked-readers-are-safe, Demand-3-from-every-source}
 use Rattle.laws.specs.Statements.{Demand-3-for-documents, Standard-in-range}
+use Rattle.laws.specs.Statements.{Written-documents-read-back, Calls-keep-the-output, Refused-with-the-first-cause}
+use Rattle.laws.specs.Statements.{Calls-are-operations, Answers-read-back, Demand-3-of-calls-from-every-source, Demand-3-of-calls}
+use Rattle.laws.specs.Statements.{Only-the-steps-run-out, Results-handed-on}
 
 -- ---- reading
 
@@ -78,22 +81,8 @@ readers-refused-for-the-least = reader-cause-refuses
 pub documents-read-back : Documents-read-back
 documents-read-back l s v e = (plain-idempotent l s v e, plain-not-longer l s v e)
 
--- a document that was read has no more values than a coefficient can count
-read-small : (l : Limits) → In-range l → (s : Bytes) (v : Value) → read-json l s ≡ ok v → size v ≤ most-coefficient
-unfolding most-coefficient
-read-small l r s v e =
-    let (x, h, f, m) = json-accepted-to l s v e in
-    let k : size v ≤ l .values = subst (λ (w : Value). size w ≤ l .values) m (f .values) in
-    let n : l .values ≤ 512 = r .values .1 in
-    le-trans (le-trans k n) (lit≤ tt)
-
 pub results-read-back : Results-read-back
-results-read-back l range text s r v x t e run small shallow =
-    plain-reads-back l (x .result)
-    (run-good r l v x (reader-read-good l text r t) (json-read-good l s v e) (read-small l range s v e) run)
-    (run-distinct r l v x (json-distinct l s v e) (reader-proper l text r t) run)
-    small
-    shallow
+results-read-back = result-reads-back
 
 pub values-read-back : Values-read-back
 values-read-back = plain-reads-back
@@ -107,8 +96,29 @@ read-shapes-read-back l s t e = (shape-ascending l s t e, shape-read-good l s t 
 pub written-shapes-read-back : Written-shapes-read-back
 written-shapes-read-back = record { by-infer = infer-reads-back; by-join = join-reads-back; by-check = check-reads-back }
 
+pub written-documents-read-back : Written-documents-read-back
+written-documents-read-back = record { by-plain = plain-operation-reads-back; by-run = run-operation-reads-back }
+
+-- ---- refusals
+
 pub refusals-keep-the-output : Refusals-keep-the-output
 refusals-keep-the-output = refusal-keeps
+
+pub calls-keep-the-output : Calls-keep-the-output
+calls-keep-the-output =
+    record { by-plain = plain-keeps; by-infer = infer-keeps; by-join = join-keeps; by-check = check-keeps; by-run = run-keeps }
+
+pub refused-with-the-first-cause : Refused-with-the-first-cause
+refused-with-the-first-cause =
+    record {
+      by-plain = plain-first;
+      by-infer = infer-first;
+      by-join = join-first;
+      by-below = below-first;
+      by-admits = admits-first;
+      by-check = check-first;
+      by-run = run-first;
+    }
 
 -- ---- order and join
 
@@ -142,6 +152,9 @@ running-by-the-rules =
       within-the-limit = run-steps-bounded;
     }
 
+pub only-the-steps-run-out : Only-the-steps-run-out
+only-the-steps-run-out = record { given-again = run-enough; stuck-again = run-stuck; too-few = run-13 }
+
 -- ---- soundness and demand 3
 
 pub checked-readers-are-safe : Checked-readers-are-safe
@@ -149,12 +162,6 @@ checked-readers-are-safe = sound
 
 pub demand-3-from-every-source : Demand-3-from-every-source
 demand-3-from-every-source = demand-3
-
-cause-numbered : {l : Limits} {s : Bytes} {n p : ℕ} → Cause l s n p → 0 < n
-cause-numbered (cause-3 pre r e b) = lit≤ tt
-cause-numbered (cause-4 pre r e b) = lit≤ tt
-cause-numbered (cause-5 pre r e b) = lit≤ tt
-cause-numbered (cause-6 pre r e b) = lit≤ tt
 
 -- JSON keeps to what is asked of a source
 pub json-proper : Proper-source read-json
@@ -167,6 +174,24 @@ json-proper =
 
 pub demand-3-for-documents : Demand-3-for-documents
 demand-3-for-documents = demand-3 read-json json-proper
+
+-- ---- demand 3 over C calls
+
+pub calls-are-operations : Calls-are-operations
+calls-are-operations =
+    record { writes-short = writes-short; writes-long = writes-long; says-short = says-short; says-long = says-long }
+
+pub answers-read-back : Answers-read-back
+answers-read-back = words-read-back
+
+pub demand-3-of-calls-from-every-source : Demand-3-of-calls-from-every-source
+demand-3-of-calls-from-every-source = demand-3-over-calls
+
+pub demand-3-of-calls : Demand-3-of-calls
+demand-3-of-calls = demand-3-over-calls read-json json-proper
+
+pub results-handed-on : Results-handed-on
+results-handed-on l r v u output answer c e z small = result-handed-on e z small
 
 pub standard-in-range : Standard-in-range
 unfolding standard

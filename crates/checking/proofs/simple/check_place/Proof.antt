@@ -1,7 +1,7 @@
 -- `checking::simple::check_place` meets its contract. Assumes nothing.
-use borrow.Author.Needs.{needs}
 use native.Mathlib.Omega.{arith}
 use Rattle.checking.proofs.SimpleForms.{simple-within, place-asked, place-refused, keep-told, count-told, convert-told}
+use borrow.Author.Needs.{needs}
 use Rattle.checking.proofs.simple.check_place.Statement.{statement}
 use Rattle.checking.proofs.simple.check_place.Tie as tie
 
@@ -34,12 +34,13 @@ returns-2 c =
 
 returns-3 : tie.Need-returns-3
 returns-3 c =
-    let after-found = c .before .before .before .before .before in
-    let after-locate = after-found .before .before in
+    let after-place = c .before .before .before .before in
+    let after-locate = after-place .before .before .before .before .before in
     let at-start = after-locate .before .before .before .before .before in
-    count-told (at-start .args .forms .now) (at-start .args .shapes .now) (at-start .args .pool .now) (at-start .args .bindings .now) (at-start .args .row)
-    (at-start .pre .1 .0) (at-start .pre .1 .1) (after-locate .locate .result) (after-locate .locate .ensures) (after-found .found .given .1)
-    (c .before .before .place .ensures) (c .want .result) (c .before .if2 .taken) (c .want .ensures)
+    count-told (at-start .args .forms .now) (at-start .args .shapes .now) (at-start .args .pool .now) (at-start .args .bindings .now)
+    (at-start .args .row) (at-start .pre .1 .0) (at-start .pre .1 .1) (after-locate .locate .result) (after-locate .locate .ensures)
+    (after-place .before .before .before .found .given .1) (after-place .place .ensures) (c .want .result)
+    (c .before .before .before .if2 .taken) (c .want .ensures)
 
 returns-4 : tie.Need-returns-4
 returns-4 c =

@@ -9,7 +9,8 @@ returns c =
 
 returns-2 : tie.Need-returns-2
 returns-2 c =
-    dec-converts (c .before .before .args .code) (c .if2 .taken)
+    let at-start = c .before .before .before .before in
+    dec-converts (at-start .args .code) (c .before .before .if2 .taken)
 
 returns-3 : tie.Need-returns-3
 returns-3 c =

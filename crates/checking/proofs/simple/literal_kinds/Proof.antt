@@ -1,6 +1,6 @@
 -- `checking::simple::literal_kinds` meets its contract. Assumes nothing.
-use borrow.Author.Needs.{needs}
 use Rattle.checking.proofs.SimpleForms.{int-literal, decimal-literal, text-literal, null-literal, bool-literal}
+use borrow.Author.Needs.{needs}
 use Rattle.checking.proofs.simple.literal_kinds.Statement.{statement}
 use Rattle.checking.proofs.simple.literal_kinds.Tie as tie
 
@@ -11,8 +11,9 @@ returns c =
 
 returns-2 : tie.Need-returns-2
 returns-2 c =
-    let at-start = c .before .before .before in
-    decimal-literal (at-start .args .code) (at-start .args .operand) (c .before .before .if1 .taken) (c .before .is-int .ensures) (c .if2 .left)
+    let then1 = c .before .before .before .before in
+    decimal-literal (then1 .before .args .code) (then1 .before .args .operand) (then1 .if1 .taken) (c .before .before .before .is-int .ensures)
+    (c .before .before .if2 .left)
 
 returns-3 : tie.Need-returns-3
 returns-3 c =
