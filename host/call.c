@@ -32,6 +32,11 @@ uint64_t call_admits(const struct text *texts, struct output output, uint8_t *an
     return runvestol_admits(LEND(texts[0]), LEND(texts[1]), answer, RUNVESTOL_ANSWER_BYTES);
 }
 
+uint64_t call_check(const struct text *texts, struct output output, uint8_t *answer)
+{
+    return runvestol_check(LEND(texts[0]), LEND(texts[1]), LEND(output), answer, RUNVESTOL_ANSWER_BYTES);
+}
+
 static uint64_t word(const uint8_t *bytes)
 {
     uint64_t value = 0;

@@ -25,7 +25,7 @@ struct outcome {
 /* A call on its texts, in the order of its parameters; one that has no output leaves that alone. */
 typedef uint64_t library_call(const struct text *texts, struct output output, uint8_t *answer);
 
-library_call call_plain, call_infer, call_join, call_below, call_admits;
+library_call call_plain, call_infer, call_join, call_below, call_admits, call_check;
 
 struct outcome make_call(library_call *call, const struct text *texts, struct output output);
 

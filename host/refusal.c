@@ -2,6 +2,7 @@
 
 #include <inttypes.h>
 
+#include "characters.h"
 #include "runvestol.h"
 
 /* the most characters shown before the place, and from it on, so that a long line fits a terminal */
@@ -43,43 +44,6 @@ static struct meaning meaning_of(const struct text *text, uint64_t number, size_
     return meanings[number];
 }
 
-/* RFC 3629's heads of more than one byte: their range, that of the second byte, and how many bytes follow. */
-static const struct head {
-    uint8_t first, last, low, high, tails;
-} heads[] = {
-    {0xC2, 0xDF, 0x80, 0xBF, 1}, {0xE0, 0xE0, 0xA0, 0xBF, 2}, {0xE1, 0xEC, 0x80, 0xBF, 2}, {0xED, 0xED, 0x80, 0x9F, 2},
-    {0xEE, 0xEF, 0x80, 0xBF, 2}, {0xF0, 0xF0, 0x90, 0xBF, 3}, {0xF1, 0xF3, 0x80, 0xBF, 3}, {0xF4, 0xF4, 0x80, 0x8F, 3},
-};
-
-static const struct head *head_of(uint8_t byte)
-{
-    for (size_t i = 0; i < sizeof heads / sizeof *heads; i++)
-        if (heads[i].first <= byte && byte <= heads[i].last)
-            return &heads[i];
-    return NULL;
-}
-
-/* How many bytes the character at a place has; a byte that is no part of UTF-8 stands for itself. */
-static size_t character(const struct text *text, size_t at)
-{
-    const uint8_t *bytes = text->bytes + at;
-    const struct head *head = head_of(bytes[0]);
-    if (head == NULL || head->tails >= text->length - at || bytes[1] < head->low || bytes[1] > head->high)
-        return 1;
-    for (size_t i = 2; i <= head->tails; i++)
-        if (bytes[i] < 0x80 || bytes[i] > 0xBF)
-            return 1;
-    return head->tails + 1u;
-}
-
-/* Whether a terminal may be handed a character: no control character but the tab, and no stray byte. */
-static bool is_shown(const uint8_t *bytes, size_t length)
-{
-    if (length == 1)
-        return bytes[0] == '\t' || (bytes[0] >= 0x20 && bytes[0] < 0x7F);
-    return bytes[0] != 0xC2 || bytes[1] >= 0xA0;
-}
-
 /* A place in a text, for a person: its line's number and first byte, and the characters of the line before it. */
 struct position {
     size_t line, start, characters;
@@ -105,14 +69,6 @@ static size_t end_of_line(const struct text *text, size_t from)
     while (end < text->length && text->bytes[end] != '\n')
         end++;
     return end > from && text->bytes[end - 1] == '\r' ? end - 1 : end;
-}
-
-static void show_character(FILE *to, const uint8_t *bytes, size_t length)
-{
-    if (is_shown(bytes, length))
-        fwrite(bytes, 1, length, to);
-    else
-        putc('?', to);
 }
 
 /* The line from a byte on, until it ends or a count of characters is shown. */
@@ -150,12 +106,23 @@ static void show_excerpt(FILE *to, const struct text *text, struct position p)
     show_caret(to, text, from, count);
 }
 
-void refusal_show(FILE *to, const struct text *text, uint64_t number, size_t place)
+/* Characters one behind the other, whatever line they are of. */
+static void show_words(FILE *to, const struct text *words)
+{
+    for (size_t at = 0; at < words->length; at += character(words, at))
+        show_character(to, words->bytes + at, character(words, at));
+}
+
+void refusal_show(FILE *to, const struct text *text, uint64_t number, size_t place, const struct text *words)
 {
     struct meaning meaning = meaning_of(text, number, place);
     struct position p = position_of(text, place);
-    fprintf(to, "%s:%zu:%zu: refused %" PRIu64 " at %zu: %s\n", text->name, p.line, p.characters + 1, number, place,
-            meaning.words);
+    fprintf(to, "%s:%zu:%zu: refused %" PRIu64 " at %zu: ", text->name, p.line, p.characters + 1, number, place);
+    if (words == NULL)
+        fputs(meaning.words, to);
+    else
+        show_words(to, words);
+    putc('\n', to);
     if (meaning.has_place)
         show_excerpt(to, text, p);
 }

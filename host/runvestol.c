@@ -4,6 +4,7 @@
 #include <string.h>
 
 #include "call.h"
+#include "reason.h"
 #include "refusal.h"
 #include "runvestol.h"
 #include "samples.h"
@@ -24,9 +25,10 @@ struct command {
     int least, most; /* files, --from apart; most is 0 for any number */
     bool has_from;
     enum status (*run)(const struct command *command, const struct files *files);
-    /* of a command that is one call: that call, and how its success is shown */
+    /* of a command that is one call: that call, how its success is shown, and what says more of a refusal, or NULL */
     library_call *call;
     enum status (*show)(const struct output *output, const struct outcome *o);
+    bool (*reason)(struct text *words, const struct text *texts, const struct outcome *o);
 };
 
 static enum status run_once(const struct command *command, const struct files *files);
@@ -34,15 +36,17 @@ static enum status run_infer(const struct command *command, const struct files *
 static enum status show_written(const struct output *output, const struct outcome *o);
 static enum status show_verdict(const struct output *output, const struct outcome *o);
 
-#define ONE_CALL(texts, call, show) texts, texts, false, run_once, call, show
+#define ONE_CALL(texts, call, show) texts, texts, false, run_once, call, show, NULL
 
 static const struct command commands[] = {
     {"plain", "FILE", "write the JSON document of FILE as plain JSON", ONE_CALL(1, call_plain, show_written)},
     {"infer", "[--from SHAPE] DOCUMENT...", "write the shape that the documents reach, from (shape) or from SHAPE on",
-     1, 0, true, run_infer, NULL, NULL},
+     1, 0, true, run_infer, NULL, NULL, NULL},
     {"join", "A B", "write the join of the shapes of A and B", ONE_CALL(2, call_join, show_written)},
     {"below", "A B", "say whether the shape of A is below that of B", ONE_CALL(2, call_below, show_verdict)},
     {"admits", "SHAPE DOCUMENT", "say whether the shape admits the document", ONE_CALL(2, call_admits, show_verdict)},
+    {"check", "READER SHAPE", "check the reader against the shape, and write its result shape",
+     2, 2, false, run_once, call_check, show_written, reason_of_check},
 };
 
 enum { COMMANDS = sizeof commands / sizeof *commands };
@@ -74,7 +78,8 @@ static void help(FILE *to)
           "with the line and a caret under the place. P counts bytes from 0. LINE and COLUMN count from 1: lines end at\n"
           "line feeds, and a column is a character, as a tab is one; a byte that is not UTF-8 is one too. In the line\n"
           "shown, such bytes and control characters are ?, and a long line is cut. Where a refusal has no place it is\n"
-          "1:1 at 0, without a line: of a text that is too long, and of the last file where the join is too large.\n"
+          "1:1 at 0, without a line: of a text that is too long, and of the last file where the shape to be written is\n"
+          "too large. check says what the form wants that is refused, and what it meets where that can be told.\n"
           "\n"
           "infer leaves out the documents that are refused, and writes the shape that the others reach.\n"
           "\n"
@@ -126,6 +131,14 @@ static bool call(const struct command *command, const struct text *texts, struct
 }
 
 /* A refusal that is of no text, as that of too large a join, is shown of the last one. */
+static void show_refusal(const struct command *command, const struct text *texts, int count, const struct outcome *o)
+{
+    struct text words = {NULL, NULL, 0};
+    bool told = command->reason != NULL && command->reason(&words, texts, o);
+    refusal_show(stderr, &texts[o->text == 1 ? 0 : count - 1], o->number, o->place, told ? &words : NULL);
+    text_free(&words);
+}
+
 static enum status operate(const struct command *command, const struct text *texts, int count)
 {
     struct output output = {NULL, 0};
@@ -136,7 +149,7 @@ static enum status operate(const struct command *command, const struct text *tex
     else if (o.number == RUNVESTOL_OK)
         status = command->show(&output, &o);
     else
-        refusal_show(stderr, &texts[o.text == 1 ? 0 : count - 1], o.number, o.place);
+        show_refusal(command, texts, count, &o);
     free(output.bytes);
     return status;
 }

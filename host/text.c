@@ -50,6 +50,17 @@ bool text_put(struct text *text, const uint8_t *bytes, size_t length)
     return true;
 }
 
+bool text_add(struct text *text, const void *bytes, size_t length)
+{
+    if (length == 0)
+        return true;
+    if (!grow(text, text->length + length))
+        return false;
+    memcpy(text->bytes + text->length, bytes, length);
+    text->length += length;
+    return true;
+}
+
 void text_free(struct text *text)
 {
     free(text->bytes);

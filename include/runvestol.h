@@ -3,7 +3,8 @@
  *
  * What the library does so far: it checks a JSON document and rewrites it as plain JSON (runvestol_plain); it infers
  * the shape of documents, sample by sample (runvestol_infer), joins two shapes (runvestol_join), and tells whether one
- * shape is below another (runvestol_below) and whether a shape admits a document (runvestol_admits).
+ * shape is below another (runvestol_below) and whether a shape admits a document (runvestol_admits); it checks a reader
+ * against a shape (runvestol_check).
  *
  * JSON is that of RFC 8259 in the UTF-8 of RFC 3629; docs/CONFORMANCE.md goes through both, section by section, and
  * docs/LIMITS.md has every limit. Stricter than the RFCs:
@@ -23,6 +24,21 @@
  * (member "name" SHAPE), the decoded names strictly ascending by bytes. JSON's white space may stand between tokens. A
  * shape has at most 16,384 bytes and 512 shape forms, nested at most 32 deep; members count for neither. `(shape)` has
  * no kind and is the shape to begin with. Written, a shape has one form a line, as above, and a line feed at its end.
+ *
+ * A reader is a small program over a document, and is handed over as a text of one result form:
+ *   (each (field "sessions" (it 0)) (when null (field "laps" (it 0)) (num 0) (dec (it 0))))
+ * A place P is (it N), the N-th binding outward, 0 the innermost and the document the outermost; or (field "name" P).
+ * A result R is one of
+ *   (int P) (dec P) (bool P) (text P)   the value at P, which has to be of that kind; dec takes an int too
+ *   (keep P)                            the value at P, whatever it is
+ *   (count P)                           how many elements the list at P has; null has 0
+ *   (each P R)                          a list: R with each element of the list at P bound; null has none
+ *   (when K P R R)                      the value at P bound in both R: the first where it is a K, else the second
+ *   (if R R R)                          the second R where the first is true, the third where it is false
+ *   (num N) (str "t") (yes) (no) (none) a number, a text, true, false, null
+ *   (pack "name" R ...)                 a record of zero or more members, the decoded names distinct
+ * K is null, bool, int, num, text, list or rec. A member that a record lacks reads as null. White space and names are as
+ * in shapes. A reader has at most 16,384 bytes and 512 forms, places too, nested at most 32 deep.
  *
  * What it does not do: it allocates nothing, opens nothing, keeps nothing from one call to the next, and touches no
  * memory of the host but what is lent to the call. It has no floating point numbers and no streams: a text is
@@ -50,7 +66,7 @@ extern "C" {
 
 #define RUNVESTOL_VERSION "0.1.0"
 
-/* The most bytes of a text that is read, a document or a shape, and of a shape that is written. */
+/* The most bytes of a text that is read, a document, a shape or a reader, and of a shape that is written. */
 #define RUNVESTOL_TEXT_BYTES 16384
 
 /* The bytes of an answer. */
@@ -64,13 +80,15 @@ extern "C" {
  *   join      63,168
  *   below     62,992
  *   admits    71,200
+ *   check     76,800
  */
 #define RUNVESTOL_PLAIN_STACK_BYTES 49152
 #define RUNVESTOL_INFER_STACK_BYTES 73728
 #define RUNVESTOL_JOIN_STACK_BYTES 65536
 #define RUNVESTOL_BELOW_STACK_BYTES 65536
 #define RUNVESTOL_ADMITS_STACK_BYTES 73728
-#define RUNVESTOL_STACK_BYTES 73728
+#define RUNVESTOL_CHECK_STACK_BYTES 81920
+#define RUNVESTOL_STACK_BYTES 81920
 
 /*
  * What a call returns: 0, or why it refused. These numbers never change; new ones are added behind the last. Each call's
@@ -133,7 +151,7 @@ uint64_t runvestol_plain(const uint8_t *document, size_t document_length,
                          uint8_t *answer, size_t answer_length);
 
 /*
- * The rules that the calls on shapes have in common.
+ * The rules that the calls on two texts have in common.
  *
  * Two texts are judged one behind the other: whatever there is to refuse in text 1 goes before anything in text 2.
  * Within one text RUNVESTOL_TEXT_TOO_LONG goes first, then the smallest place, and at one place the smallest number.
@@ -238,6 +256,38 @@ uint64_t runvestol_below(const uint8_t *first, size_t first_length,
 uint64_t runvestol_admits(const uint8_t *shape, size_t shape_length,
                           const uint8_t *document, size_t document_length,
                           uint8_t *answer, size_t answer_length);
+
+/*
+ * Checks a reader against the shape of the documents that it is to run over: no form meets a kind of value that it does not
+ * want, and no name that the shape does not list, whatever document the shape admits. Writes the result shape, which admits
+ * whatever comes of the reader on such a document.
+ *
+ * field wants rec and a name that is listed, int, bool and text want their own kind, dec wants int or dec, count and each
+ * want list or null, and the first R of if wants bool: a form's place or part may have no other kind there. In the first R
+ * of when the value bound has the kinds of K alone, in the second the others, where int stays beside dec.
+ *
+ *   reader, reader_length   text 1, the reader.
+ *   shape, shape_length     text 2, the shape.
+ *   output, output_length   where the result shape's text goes. RUNVESTOL_TEXT_BYTES are always enough.
+ *   answer, answer_length   where the answer goes, RUNVESTOL_ANSWER_BYTES or more. Bytes behind those are kept.
+ *
+ * Returns
+ *   RUNVESTOL_OK                 The reader passes. The first `length` bytes of the output are the result shape's text; the
+ *                                others are as before.
+ *   RUNVESTOL_ANSWER_TOO_SHORT   The answer is not written either: this is judged before all else.
+ *   RUNVESTOL_TEXT_TOO_LONG      text is 1 or 2.
+ *   RUNVESTOL_FORM_SYNTAX, RUNVESTOL_FORM_LIMIT
+ *                                text is 1 or 2, place is where.
+ *   RUNVESTOL_UNWANTED_KIND, RUNVESTOL_UNLISTED_NAME
+ *                                text is 1, place is that of the form. Parts are checked from left to right and then the
+ *                                form itself, and the first that is met is given; at one form RUNVESTOL_UNWANTED_KIND.
+ *   RUNVESTOL_SHAPE_LIMIT        The reader passes, and its result shape is too large to be written; all words are 0.
+ *   RUNVESTOL_OUTPUT_TOO_SHORT   length is what the output needs.
+ */
+uint64_t runvestol_check(const uint8_t *reader, size_t reader_length,
+                         const uint8_t *shape, size_t shape_length,
+                         uint8_t *output, size_t output_length,
+                         uint8_t *answer, size_t answer_length);
 
 #ifdef __cplusplus
 }

@@ -9,7 +9,7 @@ struct loan {
     struct lent texts[2], output, answer;
 };
 
-enum text_kind { NO_TEXT, DOCUMENT, SHAPE };
+enum text_kind { NO_TEXT, DOCUMENT, SHAPE, READER };
 
 struct operation {
     const char *name;

@@ -2,25 +2,14 @@
    lengths from which on a call holds longer work slices. */
 #include <string.h>
 
+#include "bounds.h"
 #include "calls.h"
 #include "check.h"
 #include "draft.h"
-#include "right.h"
 #include "runvestol.h"
 #include "suites.h"
 
-enum { FORMS = 512, LEVELS = 32, BYTES_MOST = RUNVESTOL_TEXT_BYTES };
-
-static const struct outcome too_large = {.number = RUNVESTOL_SHAPE_LIMIT};
 static const struct bytes nothing = BYTES("(shape)");
-
-static struct draft first, second, result;
-
-static void expect_call(const char *operation, struct bytes text_1, struct bytes text_2, const struct outcome *expected)
-{
-    const struct bytes texts[] = {text_1, text_2};
-    expect_of_texts(operation_named(operation), texts, expected->length, expected);
-}
 
 static void expect_verdict(const char *operation, struct bytes text_1, struct bytes text_2, bool yes)
 {
@@ -28,74 +17,7 @@ static void expect_verdict(const char *operation, struct bytes text_1, struct by
     expect_call(operation, text_1, text_2, &expected);
 }
 
-/* Expects the result to be written, and refused where the output is one byte short. */
-static void expect_result(const char *operation, struct bytes text_1, struct bytes text_2)
-{
-    const struct bytes texts[] = {text_1, text_2};
-    const struct outcome done = {.length = result.length, .written = drafted(&result)};
-    const struct outcome too_short = {.number = RUNVESTOL_OUTPUT_TOO_SHORT, .length = result.length};
-    expect_call(operation, text_1, text_2, &done);
-    expect_of_texts(operation_named(operation), texts, result.length - 1, &too_short);
-}
-
-/* 11 goes before 15: it is refused with every output. */
-static void expect_too_large(const char *operation, struct bytes text_1, struct bytes text_2)
-{
-    const struct bytes texts[] = {text_1, text_2};
-    expect_of_texts(operation_named(operation), texts, 0, &too_large);
-    expect_of_texts(operation_named(operation), texts, BYTES_MOST + 100, &too_large);
-}
-
-/* Expects a refusal of a shape wherever a call takes one. */
-static void expect_shape_refused(struct bytes shape, uint64_t number, size_t place)
-{
-    for (size_t i = 0; i < operation_count; i++) {
-        const struct right_call *right = right_call_of(&operations[i]);
-        for (int text = 0; text < text_count(&operations[i]); text++) {
-            struct bytes texts[] = {right->texts[0], right->texts[1]};
-            const struct outcome refused = {.number = number, .text = (uint64_t)text + 1, .place = place};
-            if (operations[i].texts[text] != SHAPE)
-                continue;
-            texts[text] = shape;
-            expect_of_texts(&operations[i], texts, 0, &refused);
-        }
-    }
-}
-
 /* ---- forms */
-
-/* A record's shape whose members are the numbers from one on, each a step on, up to an end. Gives its last bracket. */
-static size_t put_members(struct draft *to, size_t from, size_t end, size_t step, const char *shape)
-{
-    size_t last = 0;
-    to->length = 0;
-    put(to, "(shape rec");
-    for (size_t i = from; i < end; i += step) {
-        put(to, " (member \"");
-        put_number(to, i, 3);
-        put(to, "\" ");
-        last = to->length;
-        put(to, shape);
-        put(to, ")");
-    }
-    put(to, ")");
-    return last;
-}
-
-/* The result: the same members as they are written. */
-static void put_written_members(size_t count, const char *shape)
-{
-    result.length = 0;
-    put(&result, "(shape rec");
-    for (size_t i = 0; i < count; i++) {
-        put(&result, "\n (member \"");
-        put_number(&result, i, 3);
-        put(&result, "\"\n  ");
-        put(&result, shape);
-        put(&result, ")");
-    }
-    put(&result, ")\n");
-}
 
 static void a_shape_of_512_forms_is_read_and_written(void)
 {
@@ -116,13 +38,13 @@ static void a_shape_of_512_forms_is_read_and_written(void)
 static void the_513th_form_is_refused_at_its_bracket(void)
 {
     size_t place = put_members(&first, 0, FORMS, 1, "(shape)");
-    expect_shape_refused(drafted(&first), RUNVESTOL_FORM_LIMIT, place);
+    expect_text_refused(SHAPE, drafted(&first), RUNVESTOL_FORM_LIMIT, place);
     first.length = place;
     put(&first, "( what follows does not matter");
-    expect_shape_refused(drafted(&first), RUNVESTOL_FORM_LIMIT, place);
+    expect_text_refused(SHAPE, drafted(&first), RUNVESTOL_FORM_LIMIT, place);
     first.length = place;
     put(&first, "shape");
-    expect_shape_refused(drafted(&first), RUNVESTOL_FORM_SYNTAX, place);
+    expect_text_refused(SHAPE, drafted(&first), RUNVESTOL_FORM_SYNTAX, place);
 }
 
 /* Even and odd names in turns, so that each of the second shape's takes its place amid the first's. */
@@ -208,28 +130,6 @@ static void a_document_of_few_values_may_have_too_large_a_shape(void)
 
 /* ---- nesting */
 
-/* A shape nested in lists to so many levels. */
-static void put_lists(struct draft *to, size_t levels)
-{
-    to->length = 0;
-    put_times(to, "(shape list ", levels - 1);
-    put(to, "(shape)");
-    put_times(to, ")", levels - 1);
-}
-
-/* The result: the same as it is written. */
-static void put_written_lists(size_t levels, const char *innermost)
-{
-    result.length = 0;
-    for (size_t i = 1; i < levels; i++) {
-        put(&result, "(shape list\n");
-        put_times(&result, " ", i);
-    }
-    put(&result, innermost);
-    put_times(&result, ")", levels - 1);
-    put(&result, "\n");
-}
-
 /* A document: so many lists in each other around a value. */
 static void put_list_document(struct draft *to, size_t lists, const char *innermost)
 {
@@ -261,7 +161,7 @@ static void a_shape_of_32_levels_is_read_and_written(void)
 static void a_form_at_level_33_is_refused_at_its_bracket(void)
 {
     put_lists(&first, LEVELS + 1);
-    expect_shape_refused(drafted(&first), RUNVESTOL_FORM_LIMIT, LEVELS * strlen("(shape list "));
+    expect_text_refused(SHAPE, drafted(&first), RUNVESTOL_FORM_LIMIT, LEVELS * strlen("(shape list "));
 }
 
 static void members_count_for_no_level_of_their_own(void)
@@ -273,7 +173,7 @@ static void members_count_for_no_level_of_their_own(void)
         put(&first, "(shape)");
         put_times(&first, "))", levels - 1);
         if (levels > LEVELS)
-            expect_shape_refused(drafted(&first), RUNVESTOL_FORM_LIMIT, LEVELS * strlen(level));
+            expect_text_refused(SHAPE, drafted(&first), RUNVESTOL_FORM_LIMIT, LEVELS * strlen(level));
         else
             expect_verdict("below", drafted(&first), drafted(&first), true);
     }
@@ -325,31 +225,11 @@ static void an_empty_record_at_level_32_is_written_and_an_empty_list_is_too_larg
 
 /* ---- bytes */
 
-static void put_long_name(struct draft *to, const char *front, size_t name, const char *back)
-{
-    to->length = 0;
-    put(to, front);
-    put_times(to, "a", name);
-    put(to, back);
-}
-
-static size_t put_written_name(size_t name)
-{
-    put_long_name(&result, "(shape rec\n (member \"", name, "\"\n  (shape int)))\n");
-    return result.length;
-}
-
 /* Given with less white space than it is written with: a text may hold a shape that is too long to be written. */
 static void put_given_name(size_t name)
 {
     put_long_name(&first, "(shape rec(member\"", name, "\"(shape int)))");
     put_long_name(&second, "{\"", name, "\":4}");
-}
-
-/* How long a name is in the longest shape of one name that is written. */
-static size_t longest_name(void)
-{
-    return BYTES_MOST - put_written_name(0);
 }
 
 static void a_shape_of_16384_bytes_is_written(void)
@@ -457,7 +337,7 @@ static void texts_that_fill_the_most_words_have_their_answers(void)
     put_long_name(&first, "(shape rec(member\"", 16356, "\"(shape)))");
     put_long_name(&second, "\"", BYTES_MOST - 1, "");
     EXPECT(first.length == BYTES_MOST && second.length == BYTES_MOST);
-    expect_shape_refused(drafted(&second), RUNVESTOL_FORM_SYNTAX, 0);
+    expect_text_refused(SHAPE, drafted(&second), RUNVESTOL_FORM_SYNTAX, 0);
     expect_call("join", drafted(&first), drafted(&second), &no_shape);
     expect_call("below", drafted(&first), drafted(&second), &no_shape);
     expect_verdict("below", drafted(&first), drafted(&first), true);
@@ -470,33 +350,12 @@ static void texts_that_fill_the_most_words_have_their_answers(void)
 
 /* ---- where the work slices of short texts end */
 
-/* A record's shape with one member of a long name, so many bytes in all; a record of that member; the shape as it is written. */
-static size_t put_shape_of(struct draft *to, size_t length)
-{
-    const size_t around = strlen("(shape rec(member\"\"(shape int)))");
-    to->length = 0;
-    put(to, "(shape rec(member\"");
-    put_times(to, "n", length - around);
-    put(to, "\"(shape int)))");
-    return length - around;
-}
-
+/* A record of such a member, so many bytes in all. */
 static void put_record_of(struct draft *to, size_t name, size_t length)
 {
-    to->length = 0;
-    put(to, "{\"");
-    put_times(to, "n", name);
-    put(to, "\":4");
+    put_long_name(to, "{\"", name, "\":4");
     put_times(to, " ", length - to->length - 1);
     put(to, "}");
-}
-
-static void put_written_of(size_t name)
-{
-    result.length = 0;
-    put(&result, "(shape rec\n (member \"");
-    put_times(&result, "n", name);
-    put(&result, "\"\n  (shape int)))\n");
 }
 
 static void a_shape_about_1024_bytes_and_a_document_about_4096_are_joined(void)
@@ -505,7 +364,7 @@ static void a_shape_about_1024_bytes_and_a_document_about_4096_are_joined(void)
         for (size_t document = 4092; document <= 4100; document++) {
             size_t name = put_shape_of(&first, shape);
             put_record_of(&second, name, document);
-            put_written_of(name);
+            put_written_name(name);
             expect_result("infer", drafted(&first), drafted(&second));
             expect_verdict("admits", drafted(&first), drafted(&second), true);
         }
@@ -518,7 +377,7 @@ static void two_shapes_about_1024_bytes_are_joined(void)
             size_t name = put_shape_of(&first, length);
             put_shape_of(&second, other);
             expect_verdict("below", drafted(&first), drafted(&second), length == other);
-            put_written_of(name);
+            put_written_name(name);
             if (length == other)
                 expect_result("join", drafted(&first), drafted(&second));
         }

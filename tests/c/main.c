@@ -16,10 +16,12 @@ int main(int count, char **words)
     seed_with(strtoull(words[1], NULL, 10));
     plain_suite();
     shapes_suite();
+    readers_suite();
     chain_suite();
     buffers_suite();
     sizes_suite();
     limits_suite();
+    reader_limits_suite();
     stack_suite();
     for (int i = 2; i < count; i++)
         run_vectors(words[i]);

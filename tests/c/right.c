@@ -15,6 +15,8 @@ static const struct right_call calls[] = {
     {"join", {BYTES("(shape text)"), BYTES("(shape int)")}, WRITES("(shape int text)\n")},
     {"below", {BYTES("(shape int)"), BYTES("(shape int text)")}, SAYS_YES},
     {"admits", {BYTES("(shape list (shape int dec))"), BYTES("[4, 4.5]")}, SAYS_YES},
+    {"check", {BYTES("(each (it 0) (dec (it 0)))"), BYTES("(shape null list (shape int))")},
+     WRITES("(shape list\n (shape int dec))\n")},
 };
 
 const struct right_call *right_call_of(const struct operation *operation)

@@ -1,23 +1,9 @@
 /* What the calls on shapes write, say and refuse: texts and their outcome side by side. */
-#include <string.h>
-
 #include "calls.h"
 #include "check.h"
 #include "runvestol.h"
 #include "suites.h"
-
-struct shape_case {
-    const char *name;
-    const char *operation, *texts[2];
-    const char *written; /* NULL where nothing is */
-    uint64_t yes, number, text, place;
-};
-
-#define WRITES(shape) shape "\n", 0, RUNVESTOL_OK, 0, 0
-#define SAYS_YES NULL, 1, RUNVESTOL_OK, 0, 0
-#define SAYS_NO NULL, 0, RUNVESTOL_OK, 0, 0
-#define REFUSES(number, text, place) NULL, 0, RUNVESTOL_##number, text, place
-#define TOO_LARGE NULL, 0, RUNVESTOL_SHAPE_LIMIT, 0, 0
+#include "table.h"
 
 /* the shape of {"a":1} and then {"a":1,"b":"s"} */
 #define A_THEN_B "(shape rec (member \"a\" (shape int)) (member \"b\" (shape null text)))"
@@ -27,7 +13,7 @@ struct shape_case {
 #define ENDS_8 "]]]]]]]]"
 #define ENDS_31 ENDS_8 ENDS_8 ENDS_8 "]]]]]]]"
 
-static const struct shape_case cases[] = {
+static const struct table_case cases[] = {
     /* infer */
     {"infer_writes_the_shape_of_the_first_sample_of_the_sheet", "infer",
      {"(shape)\n", "[{\"bay\":4,\"due\":null},{\"bay\":4.5},{\"due\":\"jan\"}]"},
@@ -156,19 +142,6 @@ static const struct shape_case cases[] = {
     {"admits_refuses_a_broken_shape_in_the_first_text", "admits", {"(shape num)", "nulx"}, REFUSES(FORM_SYNTAX, 1, 7)},
 };
 
-static void run_shape_case(const struct shape_case *c)
-{
-    const struct bytes texts[] = {bytes_of(c->texts[0]), bytes_of(c->texts[1])};
-    struct outcome expected = {.number = c->number, .text = c->text, .place = c->place, .yes = c->yes};
-    if (c->written != NULL) {
-        expected.written = bytes_of(c->written);
-        expected.length = expected.written.length;
-    }
-    case_begin(c->name);
-    expect_of_texts(operation_named(c->operation), texts, expected.length, &expected);
-    case_end();
-}
-
 static void a_zero_byte_is_a_word_of_no_shape(void)
 {
     const struct bytes texts[] = {BYTES("(shape \0)"), BYTES("(shape)")};
@@ -179,7 +152,6 @@ static void a_zero_byte_is_a_word_of_no_shape(void)
 
 void shapes_suite(void)
 {
-    for (size_t i = 0; i < sizeof cases / sizeof *cases; i++)
-        run_shape_case(&cases[i]);
+    run_table(cases, sizeof cases / sizeof *cases);
     RUN(a_zero_byte_is_a_word_of_no_shape);
 }

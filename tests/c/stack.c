@@ -54,24 +54,52 @@ static const char *const patterns[] = {"[", "{", "[{", "{[", "[[{", "{{["};
 
 enum { PATTERNS = sizeof patterns / sizeof *patterns };
 
-/* what a document's and a shape's last value is, right and wrong */
+/* What each pattern puts around a reader's innermost form, level by level; the first makes one place. The levels leave room
+   for the forms within one. With the last of the second text's values each goes with the next pattern's, which it goes down. */
+static const struct {
+    const char *open, *close;
+    size_t levels;
+} wrappers[PATTERNS] = {
+    {"(field \"name\\n\" ", ")", DEPTH - 2},
+    {"(when null (field \"name\\n\" (it 0)) (none) ", ")", DEPTH - 2},
+    {"(pack \"\\u0061\" (no) \"name\\n\" ", ")", DEPTH - 1},
+    {"(when rec (it 0) ", " (keep (it 0)))", DEPTH - 2},
+    {"(if ", " (yes) (no))", DEPTH - 1},
+    {"(each (it 0) (when list (it 0) ", " (none)))", DEPTH / 2 - 1},
+};
+
+static void put_reader(struct draft *to, size_t pattern, const char *innermost)
+{
+    bool is_place = pattern == 0;
+    put(to, is_place ? "(keep " : "");
+    put_times(to, wrappers[pattern].open, wrappers[pattern].levels);
+    put(to, is_place ? "(it 0)" : innermost);
+    put_times(to, wrappers[pattern].close, wrappers[pattern].levels);
+    put(to, is_place ? ")" : "");
+}
+
+/* what a text's last value, shape or form is, right and wrong */
 static const char *const innermost[][9] = {
     [DOCUMENT] = {"null", "-123456789.123456789", "\"\\ud83d\\ude00\\u0000\xE2\x82\xAC\"", "[]", "{}", "1e5",
                   "\"\\ud83d\\u0041\"", "[1]", "{\"\\ud83d\\ude00\": 1}"},
     [SHAPE] = {"(shape)", "(shape null bool int dec text rec)", "(shape rec (member \"\\ud83d\\ude00\" (shape)))",
                "(shape list (shape))", "(shape dec)", "(shape \"", "(", "(shape int)", "(shape int dec)"},
+    [READER] = {"(yes)", "(num -123456789.123456789)", "(str \"\\ud83d\\ude00\\u0000\xE2\x82\xAC\")", "(none)", "(pack)", "(num 1e5)",
+                "(str \"\\ud83d\\u0041\")", "(keep (it 0))", "(pack \"\\ud83d\\ude00\" (yes))"},
 };
 
 enum { INNERMOST = sizeof *innermost / sizeof **innermost };
 
-static void put_text(int text, const char *pattern, size_t last)
+static void put_text(int text, size_t pattern, size_t last)
 {
     enum text_kind kind = operation->texts[text];
     texts[text].length = 0;
     if (kind == DOCUMENT)
-        put_document(&texts[text], pattern, innermost[kind][last]);
+        put_document(&texts[text], patterns[pattern], innermost[kind][last]);
     if (kind == SHAPE)
-        put_shape(&texts[text], pattern, innermost[kind][last]);
+        put_shape(&texts[text], patterns[pattern], innermost[kind][last]);
+    if (kind == READER)
+        put_reader(&texts[text], pattern, innermost[kind][last]);
 }
 
 /* With the texts as they are, and as long as may be: a call may take less stack for short ones. */
@@ -89,8 +117,8 @@ static void for_each_deep_call(void (*run)(void))
     size_t seconds = text_count(operation) < 2 ? 1 : INNERMOST;
     for (size_t i = 0; i < PATTERNS * INNERMOST; i++) {
         for (size_t j = 0; j < seconds; j++) {
-            put_text(0, patterns[i % PATTERNS], i / PATTERNS);
-            put_text(1, patterns[(i + (j == INNERMOST - 1)) % PATTERNS], j);
+            put_text(0, i % PATTERNS, i / PATTERNS);
+            put_text(1, (i + (j == INNERMOST - 1)) % PATTERNS, j);
             run_short_and_long(run);
         }
     }

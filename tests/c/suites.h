@@ -4,10 +4,12 @@
 
 void plain_suite(void);
 void shapes_suite(void);
+void readers_suite(void);
 void chain_suite(void);
 void buffers_suite(void);
 void sizes_suite(void);
 void limits_suite(void);
+void reader_limits_suite(void);
 void stack_suite(void);
 
 #endif

@@ -8,7 +8,7 @@ use lib.ListN.{length, getD, set}
 use Rattle.definitions.specs.Shape.{Kind, Shape, shape, no-list, list-of, has, has-list, element-of}
 use Rattle.definitions.specs.Checking.{element-shape}
 use Rattle.laws.specs.Bools.{clash}
-use Rattle.shapes.specs.Shapes.{kind-bit, kind-bits, has-bit}
+use Rattle.shapes.specs.Shapes.{kind-bit, has-bit}
 use Rattle.shapes.specs.ShapesLaws.{has-kind, stands-row}
 use Rattle.checking.specs.Bindings.{Bound, binding, Binds, Some-bound, Binds-element}
 use Rattle.checking.specs.BindingsLaws.{bound-nothing, bound-element, binds}

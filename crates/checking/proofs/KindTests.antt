@@ -5,9 +5,9 @@ use mathlib.Core.Bool.{true, false}
 use native.Mathlib.Omega.{arith}
 use lib.Bits.{bitAnd}
 use lib.Pow.{pow-mono}
-use Rattle.definitions.specs.Shape.{Kind, Shape, among, rank, has}
+use Rattle.definitions.specs.Shape.{Kind, among, rank}
 use Rattle.definitions.specs.Reader.{Test}
-use Rattle.definitions.specs.Checking.{test-kinds, cut-to, taken-out}
+use Rattle.definitions.specs.Checking.{test-kinds, taken-out}
 use Rattle.shapes.specs.Shapes.{bit, kind-bit, kind-bits, has-bit}
 use Rattle.shapes.specs.ShapesLaws.{has-kind}
 use Rattle.forms.specs.Forms.{test-code}

@@ -3,3 +3,10 @@ pub mod Elements
 pub mod Members
 pub mod PlaceWalk
 pub mod SimpleForms
+pub mod FormWalk
+pub mod EachWalk
+pub mod WhenWalk
+pub mod ChooseWalk
+pub mod PackWalk
+pub mod FormKinds
+pub mod ReaderWalk

@@ -1,27 +1,26 @@
 -- The member that `field` gives, as it is looked for in the table. Assumes nothing.
-use Prim.Native.Nat.{ℕ, _+_, _*_, _/_, _%_, _≤_, _<_}
-use mathlib.Core.Path.{_≡_, refl, sym, ap, ap₂, subst, _∙_}
+use Prim.Native.Nat.{ℕ, _+_, _/_, _%_, _≤_}
+use mathlib.Core.Path.{_≡_, refl, sym, ap, subst, _∙_}
 use mathlib.Core.Bool.{Bool, true, false, not}
 use mathlib.Core.List.{List}
-use mathlib.Core.Option.{none}
 use native.Mathlib.Omega.{arith}
 use lib.Bits.{bitAnd}
 use lib.Dec.{eqb}
 use lib.ListN.{length, getD}
 use Rattle.definitions.specs.Bytes.{Bytes}
-use Rattle.definitions.specs.Shape.{Kind, Shape, rec-of, Fields, find, within, record-of, has, forms}
-use Rattle.definitions.specs.Checking.{field-kinds, field-shape}
+use Rattle.definitions.specs.Shape.{Kind, Shape, rec-of, Fields, within, record-of, has}
+use Rattle.definitions.specs.Checking.{field-kinds}
 use Rattle.laws.specs.Bools.{clash}
 use Rattle.pool.specs.Pool.{text-in}
 use Rattle.nodes.specs.StandingLaws.{text-referred}
 use Rattle.shapes.specs.Shapes.{kind-bit, has-bit, members-at, size-at}
 use Rattle.shapes.specs.ShapesLaws.{has-kind, stands-row, stands-size, stands-within}
-use Rattle.shapes.specs.Members.{Listed, Some-listed, Tells, Found-at, Names}
+use Rattle.shapes.specs.Members.{Listed, Some-listed, Tells, Names}
 use Rattle.shapes.specs.declared.Member.{Member}
 use Rattle.shapes.specs.declared.Member.the-variants as member
 use Rattle.checking.specs.declared.places.Located.the-variants as located
 use Rattle.checking.specs.Bindings.{Bound}
-use Rattle.checking.specs.BindingsLaws.{Members-bound, bound-members, found-bound}
+use Rattle.checking.specs.BindingsLaws.{bound-members, found-bound}
 use Rattle.checking.specs.WantsLaws.{within-told, rec-wanted, field-unmet, field-nothing, field-missing, field-found, rec-there, rec-lacks}
 use Rattle.checking.specs.CheckContracts.{Meets-field, Field-asked, Gives-field}
 

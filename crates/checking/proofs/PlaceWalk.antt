@@ -1,10 +1,10 @@
 -- The shape of a place, as its rows are walked. Assumes nothing.
-use Prim.Native.Nat.{ℕ, _+_, _-_, _*_, _/_, _%_, _≤_, _<_}
+use Prim.Native.Nat.{ℕ, _+_, _/_, _%_, _≤_}
 use mathlib.Core.Path.{_≡_, refl, sym, ap, subst, _∙_}
 use mathlib.Core.List.{List}
 use native.Mathlib.Omega.{arith}
 use lib.ListN.{length, getD}
-use Rattle.definitions.specs.Outcome.{Outcome, ok, refused, _>>=_}
+use Rattle.definitions.specs.Outcome.{Outcome, _>>=_}
 use Rattle.definitions.specs.Shape.{Shape, nothing}
 use Rattle.definitions.specs.Reader.{Place}
 use Rattle.definitions.specs.Checking.{field-shape, check-place}
@@ -14,7 +14,6 @@ use Rattle.forms.specs.FormsLaws.{place-forms-some, place-stands-code, place-st
 use Rattle.forms.specs.PartsLaws.{it-slot, field-name, field-place}
 use Rattle.checking.specs.declared.places.Located.{Located}
 use Rattle.checking.specs.declared.places.Located.the-variants as located
-use Rattle.checking.specs.Bindings.{Bound}
 use Rattle.checking.specs.BindingsLaws.{binding-held}
 use Rattle.checking.specs.CheckContracts.{Locates, Meets-field, Field-asked, Gives-field, Meets-place, Place-asked, Gives-place}
 

@@ -1,5 +1,5 @@
 -- Forms without results inside, as they are checked. Assumes nothing.
-use Prim.Native.Nat.{ℕ, _+_, _*_, _/_, _%_, _≤_, _<_}
+use Prim.Native.Nat.{ℕ, _+_, _/_, _%_, _≤_, _<_}
 use mathlib.Core.Path.{_≡_, refl, sym, ap, subst, _∙_}
 use mathlib.Core.Bool.{Bool, true, false}
 use mathlib.Core.List.{List}
@@ -10,13 +10,14 @@ use lib.ListN.{length, getD}
 use Rattle.definitions.specs.Outcome.{Outcome, ok, refused, _>>=_}
 use Rattle.definitions.specs.Number.{Number, is-int}
 use Rattle.definitions.specs.Value.{Value}
-use Rattle.definitions.specs.Shape.{Kind, among, rank, Shape, int-only, int-and-dec, has-list, has-rec, within, only-null, only-bool, only-numeric, only-text}
+use Rattle.definitions.specs.Shape.{among, rank, Shape, int-only, int-and-dec, has-list, has-rec, only-null, only-bool, only-numeric, only-text}
 use Rattle.definitions.specs.Join.{numeric-of, shape-of}
 use Rattle.definitions.specs.Reader.{Place, Conversion, to-int, to-dec, to-bool, to-text, Result}
 use Rattle.definitions.specs.Checking.{wants, convert-kinds, convert-shape, list-kinds, check-place, check}
 use Rattle.nodes.specs.Nodes.{number-bits}
 use Rattle.shapes.specs.Shapes.{bit, numeric-bits, kind-bits}
-use Rattle.forms.specs.Forms.{conversion-code, literal-code, form-code, form-operand, form-at, Place-stands, Form-stands, Literal-payload, null-payload, yes-payload}
+use Rattle.forms.specs.Forms.{conversion-code, literal-code, form-code, form-operand, form-at}
+use Rattle.forms.specs.Forms.{Place-stands, Form-stands, Literal-payload, null-payload, yes-payload}
 use Rattle.forms.specs.Forms.{no-payload, number-payload, text-payload}
 use Rattle.forms.specs.FormsLaws.{forms-some, stands-code, stands-operand, stands-at, stands-within}
 use Rattle.forms.specs.PartsLaws.{convert-place, keep-place, count-place, literal-stands}
@@ -26,7 +27,7 @@ use Rattle.checking.specs.declared.Checked.{Checked}
 use Rattle.checking.specs.declared.Checked.the-variants as checked
 use Rattle.checking.specs.KindSets.{flags}
 use Rattle.checking.specs.WantsLaws.{wanted, within-told, wants-met, wants-unmet}
-use Rattle.checking.specs.CheckContracts.{Locates, Checks, Meets-place, Place-asked, Gives-place, Tells-want, Tells-conversion, Tells-literal, Passes-up}
+use Rattle.checking.specs.CheckContracts.{Locates, Checks, Place-asked, Gives-place, Tells-want, Tells-conversion, Tells-literal, Passes-up}
 use Rattle.checking.specs.CheckContracts.{Simple, simple-convert, simple-keep, simple-count, simple-literal, Meets-simple, Simple-asked, Gives-simple}
 
 -- ---- a place that is refused
@@ -185,7 +186,7 @@ pub simple-within : {forms shapes pool bindings : List ℕ} {row : ℕ} → Simp
 simple-within h = omega (arith, stands-within (h .meets .stands), forms-some (h .form))
 
 -- the codes of literals that stand in a table
-literal-code-ge : {p : List ℕ} (v : Value) {k : ℕ} → Literal-payload p v k → 12 ≤ literal-code v
+pub literal-code-ge : {p : List ℕ} (v : Value) {k : ℕ} → Literal-payload p v k → 12 ≤ literal-code v
 unfolding literal-code
 literal-code-ge Value.null null-payload = omega arith
 literal-code-ge (Value.bool true) yes-payload = omega arith
@@ -193,7 +194,7 @@ literal-code-ge (Value.bool false) no-payload = omega arith
 literal-code-ge (Value.number x) number-payload = omega arith
 literal-code-ge (Value.text t) (text-payload f) = omega arith
 
-conversion-code-le : (c : Conversion) → conversion-code c ≤ 6
+pub conversion-code-le : (c : Conversion) → conversion-code c ≤ 6
 unfolding conversion-code
 conversion-code-le to-int = omega arith
 conversion-code-le to-dec = omega arith

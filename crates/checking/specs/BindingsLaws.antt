@@ -1,5 +1,5 @@
 -- Laws of bindings. Assumes nothing.
-use Prim.Native.Nat.{ℕ, zero, suc, _+_, _-_, _*_, _/_, _%_, _≤_, _<_}
+use Prim.Native.Nat.{ℕ, zero, suc, _+_, _/_, _%_, _≤_, _<_}
 use mathlib.Core.Path.{_≡_, refl, sym, ap, _∙_}
 use mathlib.Core.Bool.{Bool, true, false}
 use mathlib.Core.List.{List, _∷_}
@@ -9,14 +9,14 @@ use native.Mathlib.Omega.{arith}
 use lib.ListN.{length, getD, take, set, length-set}
 use lib.Seq.{getD-take, getD-set-same, take-set-le}
 use Rattle.definitions.specs.Bytes.{Bytes, same}
-use Rattle.definitions.specs.Shape.{Kind, Shape, shape, Element, no-list, list-of, Record, no-rec, rec-of, Fields, no-fields, field, nothing, find}
+use Rattle.definitions.specs.Shape.{Kind, Shape, shape, no-list, list-of, Record, no-rec, rec-of, Fields, no-fields, field, nothing, find}
 use Rattle.definitions.specs.Shape.{element-of, record-of, ascending, ascending-element, ascending-fields, levels, levels-fields, has-list, has-rec}
 use Rattle.definitions.specs.Reader.{Test}
 use Rattle.definitions.specs.Checking.{stay, cut-to, taken-out, element-shape}
 use Rattle.laws.specs.Bools.{and-left, and-right, clash}
 use Rattle.laws.specs.Fields.{none-some, find-cases, find-none, find-ascending}
 use Rattle.shapes.specs.Shapes.{bit, numeric-bits, kind-bits, Stands, Fields-stand, members-at, size-at}
-use Rattle.shapes.specs.ShapesLaws.{kind-bits-lt, stands-kinds, stands-element, stands-members}
+use Rattle.shapes.specs.ShapesLaws.{stands-kinds, stands-element, stands-members}
 use Rattle.forms.specs.Forms.{slot}
 use Rattle.checking.specs.KindSets.{stay-element-of, stay-record-of}
 use Rattle.checking.specs.Bindings.{Bound, binding, Bindings, Kept, Binds}

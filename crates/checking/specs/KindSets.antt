@@ -9,7 +9,8 @@ use native.Mathlib.Omega.{arith}
 use lib.Bits.{bitAnd, and-block}
 use lib.Dec.{eqb}
 use Rattle.definitions.specs.Shape.{Kind, among, Numeric, no-number, int-only, int-and-dec, Shape, shape, Element, no-list, list-of}
-use Rattle.definitions.specs.Shape.{Record, Fields, no-rec, rec-of, has, has-int, has-dec, has-list, has-rec, within, every, all-kinds, rank, element-of, record-of}
+use Rattle.definitions.specs.Shape.{Record, Fields, no-rec, rec-of, has, has-int, has-dec, has-list}
+use Rattle.definitions.specs.Shape.{has-rec, within, every, all-kinds, rank, element-of, record-of}
 use Rattle.definitions.specs.Reader.{Test}
 use Rattle.definitions.specs.Checking.{test-kinds, stay, stay-numeric, stay-element, stay-record, cut-to, taken-out}
 use Rattle.shapes.specs.Shapes.{bit, numeric-bits, kind-bits}

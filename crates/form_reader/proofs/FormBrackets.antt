@@ -1,14 +1,14 @@
 -- Answers for the brackets of a form and the word behind the first one. Assumes nothing.
-use Prim.Native.Nat.{ℕ, suc, _+_, _≤_}
+use Prim.Native.Nat.{ℕ, suc, _+_}
 use mathlib.Core.Path.{_≡_, refl, sym, _∙_, subst}
 use mathlib.Core.Bool.{Bool, true, false}
 use mathlib.Core.List.{List}
 use native.Mathlib.Omega.{arith}
-use lib.ListN.{length}
 use Rattle.definitions.specs.Bytes.{Bytes}
 use Rattle.definitions.specs.Tokens.{opening, closing}
+use Rattle.tokens.specs.ReadingLaws.{placed-further}
 use Rattle.tokens.specs.TokenRead.{Found}
-use Rattle.tokens.specs.Expecting.{an-opening, a-closing, Kept, Bracket-answer, Expects-opening, Expects-closing, Word-answer, Expects-word, Judges}
+use Rattle.tokens.specs.Expecting.{an-opening, a-closing, Bracket-answer, Expects-opening, Expects-closing, Word-answer, Expects-word, Judges-full}
 use Rattle.tokens.specs.ReadingLaws.{kept-then}
 use Rattle.tokens.specs.declared.expect.Bracket.{Bracket}
 use Rattle.tokens.specs.declared.expect.Bracket.the-variants as Bracket-is
@@ -19,19 +19,9 @@ use Rattle.form_reader.specs.declared.reading.Part.the-variants.{Done, R
 use Rattle.form_reader.specs.declared.opening.Opened.{Opened}
 use Rattle.form_reader.specs.declared.opening.Opened.the-variants as Opened-is
 use Rattle.form_reader.specs.declared.opening.Begun.the-variants as Begun-is
-use Rattle.form_reader.specs.FormParts.{Placed, Bracket-read, Opened-answer, Opens-form, Begins-form, Closes-form}
+use Rattle.tokens.specs.Expecting.{Text-placed}
+use Rattle.form_reader.specs.FormParts.{Bracket-read, Opened-answer, Opens-form, Begins-form, Closes-form}
 use Rattle.form_reader.proofs.Steps.{opens-on, opens-full, no-bracket, closes-on, no-end, no-word}
-
-pub placed-further
-    : {text : Bytes} {p₀ p : List ℕ} {at at′ top : ℕ} → Placed text p₀ at top → Kept p₀ p top → at ≤ at′ → at′ ≤ length text
-    → Placed text p at′ top
-placed-further r k h i =
-    record {
-      short = r .short;
-      within = i;
-      texts = omega (arith, r .texts, k .size);
-      small = omega (arith, r .small);
-    }
 
 -- ---- the opening bracket
 
@@ -44,7 +34,7 @@ module _ (values left : ℕ) (c : Cursor) {text : Bytes} {p₀ p : List ℕ} {b 
         kept = y .kept;
       }
 
-  module _ {place : ℕ} (e : b ≡ Bracket-is.At place) {full : Bool} (j : Judges values left (c .begun) full) where
+  module _ {place : ℕ} (e : b ≡ Bracket-is.At place) {full : Bool} (j : Judges-full values left (c .begun) full) where
     found : Found text (c .at) opening place (place + 1)
     found = subst (Bracket-answer an-opening opening text (c .at)) e (y .answer)
 
@@ -87,7 +77,7 @@ module _ (values left : ℕ) (c : Cursor) {text : Bytes} {p₀ p : List ℕ} {b 
     opened : Bracket-read text values left c place
     opened = subst (Opened-answer text values left c) e (y .answer)
 
-    pub word-room : Placed text p₀ (c .at) (c .top) → Placed text p (place + 1) (c .top)
+    pub word-room : Text-placed text p₀ (c .at) (c .top) → Text-placed text p (place + 1) (c .top)
     word-room r = placed-further r (y .kept) (omega (arith, opened .ahead)) (omega (arith, opened .within))
 
     module _ {p′ : List ℕ} {s : Spelled} (z : Expects-word text (place + 1) p p′ (c .top) s) where

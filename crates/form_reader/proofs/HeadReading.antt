@@ -28,7 +28,8 @@ use Rattle.form_reader.specs.declared.heads.Headed.the-variants as Heade
 use Rattle.form_reader.specs.FormWords.{use-code, use-operand, Result-says}
 use Rattle.form_reader.specs.FormLeads.{Lead, next, Lead-held, place-held, if-held, pack-held, literal-held, Half, placing, bare, after}
 use Rattle.form_reader.specs.FormLeads.{Half-held, placing-held, bare-if, bare-pack, bare-literal}
-use Rattle.form_reader.specs.FormParts.{Job, reading, Within, Place-within, Placed, Ready, Opens-at, Wants-word, Word-read, Begun-answer}
+use Rattle.tokens.specs.Expecting.{Text-placed}
+use Rattle.form_reader.specs.FormParts.{Job, reading, Within, Place-within, Ready, Opens-at, Wants-word, Word-read, Begun-answer}
 use Rattle.form_reader.specs.FormParts.{Begins-form, Operand-read, Operand-answer, Reads-operand, Place-done, Place-answer, Reads-place}
 use Rattle.form_reader.specs.FormParts.{Result-begun, Worded-answer, Begins-result, Head-read, Head-answer, Reads-head, Reads-lead}
 use Rattle.form_reader.proofs.WordTables.{result-none, Known, result-some}
@@ -116,7 +117,7 @@ module _ (values left : ℕ) (c : Cursor) {text : Bytes} {p₀ p : List ℕ} {b 
     begun : Result-begun text values left c code place from
     begun = subst (Worded-answer text values left c) e (y .answer)
 
-    pub operand-room : Placed text p₀ (c .at) (c .top) → Placed text p (from .at) (from .top)
+    pub operand-room : Text-placed text p₀ (c .at) (c .top) → Text-placed text p (from .at) (from .top)
     operand-room r =
         record {
           short = r .short;

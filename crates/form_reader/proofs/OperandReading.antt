@@ -39,7 +39,8 @@ use Rattle.form_reader.specs.declared.operands.Operand.the-variants as O
 use Rattle.form_reader.specs.FormWords.{test-or-none, use-code, use-operand, Started, starts-use, starts-when, starts-if, starts-num}
 use Rattle.form_reader.specs.FormWords.{starts-str, starts-yes, starts-no, starts-none, starts-pack}
 use Rattle.form_reader.specs.FormLeads.{Lead, next, Half, placing, bare, after, Half-held, placing-held, bare-if, bare-pack, bare-literal}
-use Rattle.form_reader.specs.FormParts.{reading, Placed, Wants-word, Wants-text, index-of, Slot-answer, Reads-index, Text-read, Text-answer}
+use Rattle.tokens.specs.Expecting.{Text-placed}
+use Rattle.form_reader.specs.FormParts.{reading, Wants-word, Wants-text, index-of, Slot-answer, Reads-index, Text-read, Text-answer}
 use Rattle.form_reader.specs.FormParts.{Reads-text, Operand-read, Operand-answer, Reads-test, Reads-number, Reads-operand}
 use Rattle.form_reader.proofs.Steps.{word-goes, word-misplaced, no-word, text-goes, no-text}
 
@@ -271,7 +272,7 @@ module _ (c : Cursor) {text : Bytes} {p : List ℕ} {end n : ℕ} where
 
   -- where it stands fits a word
   pub text-small
-      : {p₀ : List ℕ} {place : ℕ} → Placed text p₀ (c .at) (c .top) → Found-text text (c .at) p (c .top) place end n
+      : {p₀ : List ℕ} {place : ℕ} → Text-placed text p₀ (c .at) (c .top) → Found-text text (c .at) p (c .top) place end n
       → (c .top < 65536) × (n ≤ 65536)
   text-small r t = (
     omega (arith, r .small, r .within),

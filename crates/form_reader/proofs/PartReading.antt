@@ -26,10 +26,11 @@ use Rattle.form_reader.specs.declared.reading.Part.the-variants.{Done, R
 use Rattle.form_reader.specs.declared.parts.Turn.{Turn}
 use Rattle.form_reader.specs.declared.parts.Turn.the-variants.{More, Stop}
 use Rattle.form_reader.specs.FormLeads.{Lead, lead-code, named, inner-bound, next, Filled, packed, whole}
-use Rattle.form_reader.specs.FormParts.{Job, reading, Placed, Closes-at, Close-answer, Closes-form, So-far, debt, Turn-is, Pairs-known}
+use Rattle.tokens.specs.Expecting.{Text-placed}
+use Rattle.form_reader.specs.FormParts.{Job, reading, Closes-at, Close-answer, Closes-form, So-far, debt, Turn-is, Pairs-known}
 use Rattle.form_reader.specs.FormParts.{Pair-turns, Parts-known, Turns}
 use Rattle.form_reader.proofs.Steps.{goes-on, misplaced-found, no-pair}
-use Rattle.form_reader.proofs.FormBrackets.{placed-further}
+use Rattle.tokens.specs.ReadingLaws.{placed-further}
 use Rattle.form_reader.proofs.OperandReading.{quoted-refers, text-found}
 use Rattle.form_reader.proofs.LeadLaws.{next-frame, next-close, parts-in-order, among-in-order, pack-lead}
 
@@ -140,7 +141,7 @@ module _ (first : ℕ) (c : Cursor) {text : Bytes} {forms p₀ : List ℕ} (k₀
       lacks-text : Lacks a-text text (c .at) place
       lacks-text = subst (Quoted-answer text (c .at) p (c .top)) e (y .answer)
 
-      pub end-room : Placed text p (c .at) (c .top)
+      pub end-room : Text-placed text p (c .at) (c .top)
       end-room = placed-further (k₀ .placed) (y .kept) (omega arith) (k₀ .placed .within)
 
       module _ {p′ : List ℕ} {b : Bracket} (z : Expects-closing text (c .at) p p′ (c .top) b) where

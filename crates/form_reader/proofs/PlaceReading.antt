@@ -25,7 +25,8 @@ use Rattle.form_reader.specs.declared.operands.Index.the-variants as Ind
 use Rattle.form_reader.specs.declared.operands.Name.{Name}
 use Rattle.form_reader.specs.declared.operands.Name.the-variants as Name-is
 use Rattle.form_reader.specs.FormWords.{Place-says, says-it, says-field, says-no-place}
-use Rattle.form_reader.specs.FormParts.{Job, reading, Place-within, Placed, Ready, Sized, Wants-text, Opens-at, Wants-word, Word-read}
+use Rattle.tokens.specs.Expecting.{Text-placed}
+use Rattle.form_reader.specs.FormParts.{Job, reading, Place-within, Ready, Sized, Wants-text, Opens-at, Wants-word, Word-read}
 use Rattle.form_reader.specs.FormParts.{Begun-answer, Begins-form, Closes-at, Closed, Close-answer, Closes-form, Index-read, Index-answer}
 use Rattle.form_reader.specs.FormParts.{Reads-index, Text-read, Text-answer, Reads-text, Behind-bracket, Place-done, Place-answer, Reads-it}
 use Rattle.form_reader.specs.FormParts.{Reads-field, Reads-place}
@@ -54,7 +55,7 @@ wants-name at o = record { does = λ t. refl }
 -- where the tables are ready the pool has room for any text
 pub ready-placed
     : {text : Bytes} {forms pool : List ℕ} {values bound : ℕ} {c : Cursor} → Ready text forms pool values bound c
-    → Placed text pool (c .at) (c .top)
+    → Text-placed text pool (c .at) (c .top)
 ready-placed r =
     record {
       short = r .short;
@@ -82,7 +83,7 @@ module _
     index : Index-read text bound c s mid
     index = subst (Index-answer text bound c) e (y .answer)
 
-    pub it-room : Placed text p (mid .at) (mid .top)
+    pub it-room : Text-placed text p (mid .at) (mid .top)
     it-room =
         let r = ready-placed (b .ready) in
         record {

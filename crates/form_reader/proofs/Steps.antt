@@ -18,11 +18,12 @@ use Rattle.pool.specs.PoolLaws.{bytes-words}
 use Rattle.tokens.specs.TokenRead.{tokens-from, Found}
 use Rattle.tokens.specs.Expecting.{an-opening, a-closing, a-text, a-word, sort, Lacks, another, none-left}
 use Rattle.tokens.specs.ReadingLaws as Laws
-use Rattle.form_reader.specs.FormParts.{Aim, a-reader, a-place, finished, Job, reading, Placed, Opens-at, Wants-word, Wants-text, Closes-at}
+use Rattle.tokens.specs.Expecting.{Text-placed}
+use Rattle.form_reader.specs.FormParts.{Aim, a-reader, a-place, finished, Job, reading, Opens-at, Wants-word, Wants-text, Closes-at}
 
 -- the pool has room for every token
 pub next-room
-    : {text : Bytes} {pool : List ℕ} {at top : ℕ} → Placed text pool at top
+    : {text : Bytes} {pool : List ℕ} {at top : ℕ} → Text-placed text pool at top
     → (at ≤ length text) × (top + words (length text - at - 1) ≤ length pool)
 next-room {text} {pool} {at} {top} r = (
   r .within,

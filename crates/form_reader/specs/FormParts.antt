@@ -17,6 +17,7 @@ use Rattle.definitions.specs.Reader.{field-name, result-open, State, want, put-
 use Rattle.definitions.specs.Reader.{place-bindings, word-number, index-fits, want-step, step, finished-result, finished-place}
 use Rattle.nodes.specs.Nodes.{Refers}
 use Rattle.forms.specs.Forms.{slot, Place-rows, Form-rows}
+use Rattle.tokens.specs.Expecting.{Text-placed}
 use Rattle.tokens.specs.TokenRead.{tokens-from, word-in, Found}
 use Rattle.tokens.specs.Expecting.{a-text, Lacks, Kept}
 use Rattle.form_reader.specs.FormWords.{Started}
@@ -83,13 +84,6 @@ pub record Place-within (x : Job) (o : Place-around) (values left bound : ℕ) :
   pub bindings : place-bindings o ≡ bound
 
 -- ---- where reading may go on
-
--- the pool has room for any text that may come
-pub record Placed (text : Bytes) (pool : List ℕ) (at top : ℕ) : Type 0 where
-  pub short : length text ≤ 65536
-  pub within : at ≤ length text
-  pub texts : 8 * top + length text ≤ 8 * length pool + at + 1
-  pub small : 8 * top + length text < 524288 + at
 
 -- the tables have room for the forms that may come. A text takes up to 7 bytes more in the pool than it has, of which its
 -- quotes pay 2 and its form 5: those of `str` and of a name are the dearest
@@ -486,7 +480,7 @@ Turn-is lead ps text p c (Stop (Refused number place)) =
 
 -- where a pack's next pair must come: some pairs stand there
 pub record Pairs-known (text : Bytes) (forms pool : List ℕ) (first : ℕ) (c : Cursor) : Type 0 where
-  pub placed : Placed text pool (c .at) (c .top)
+  pub placed : Text-placed text pool (c .at) (c .top)
   pub few : c .begun ≤ 32768
   pub pairs : Pairs
   pub so-far : So-far forms (take (c .top) pool) first (c .begun) Lead.packing pairs
@@ -499,7 +493,7 @@ pub record Pair-turns (text : Bytes) (forms p p′ : List ℕ) (first : ℕ) (c 
 
 -- where a result's next result must come: some results of some lead of this code stand there
 pub record Parts-known (text : Bytes) (forms pool : List ℕ) (code more first : ℕ) (c : Cursor) : Type 0 where
-  pub placed : Placed text pool (c .at) (c .top)
+  pub placed : Text-placed text pool (c .at) (c .top)
   pub few : c .begun ≤ 32768
   pub lead : Lead
   pub coded : lead-code lead ≡ code

@@ -1,5 +1,6 @@
 // What a result begins with: its bracket, its word, its operand and its place.
-ghost use Rattle.form_reader.specs.FormParts.{Placed, Ready, Begins-result, Reads-head, Reads-lead};
+ghost use Rattle.tokens.specs.Expecting.{Text-placed};
+ghost use Rattle.form_reader.specs.FormParts.{Ready, Begins-result, Reads-head, Reads-lead};
 use crate::opening::Begun;
 use crate::opening::begin_form;
 use crate::operands::Operand;
@@ -17,7 +18,7 @@ pub enum Worded {
 
 // Reads the bracket and the word of a result.
 fn begin_result(text: &[u8], pool: &mut [u64], values: usize, left: usize, c: Cursor) -> Worded
-    requires { ⌜ Placed (now text) (now pool) (c .at) (c .top) ⌝ }
+    requires { ⌜ Text-placed (now text) (now pool) (c .at) (c .top) ⌝ }
     ensures read { λ r. ⌜ Begins-result (now (text .entry)) (now (pool .entry)) (now (pool .exit)) values left c r ⌝ }
 {
     match begin_form(text, pool, values, left, c) {
@@ -56,7 +57,7 @@ pub enum Headed {
 
 // Reads a result up to its place or its results.
 fn read_head(text: &[u8], pool: &mut [u64], values: usize, left: usize, c: Cursor) -> Headed
-    requires { ⌜ Placed (now text) (now pool) (c .at) (c .top) ⌝ }
+    requires { ⌜ Text-placed (now text) (now pool) (c .at) (c .top) ⌝ }
     ensures read { λ r. ⌜ Reads-head (now (text .entry)) (now (pool .entry)) (now (pool .exit)) values left c r ⌝ }
 {
     match begin_result(text, pool, values, left, c) {

@@ -1,5 +1,6 @@
 // The brackets of a form, and the word behind the first one.
-ghost use Rattle.form_reader.specs.FormParts.{Placed, Opens-form, Begins-form, Closes-form};
+ghost use Rattle.tokens.specs.Expecting.{Text-placed};
+ghost use Rattle.form_reader.specs.FormParts.{Opens-form, Begins-form, Closes-form};
 use crate::reading::Cursor;
 use crate::reading::Part;
 use tokens::expect;
@@ -14,7 +15,7 @@ pub enum Opened {
 
 // Reads the bracket of a form, with so much nesting left.
 fn open_form(text: &[u8], pool: &mut [u64], values: usize, left: usize, c: Cursor) -> Opened
-    requires { ⌜ Placed (now text) (now pool) (c .at) (c .top) ⌝ }
+    requires { ⌜ Text-placed (now text) (now pool) (c .at) (c .top) ⌝ }
     ensures read { λ r. ⌜ Opens-form (now (text .entry)) (now (pool .entry)) (now (pool .exit)) values left c r ⌝ }
 {
     match expect::next_opening(text, c.at, pool, c.top) {
@@ -37,7 +38,7 @@ pub enum Begun {
 
 // Reads the bracket and the word of a form.
 pub fn begin_form(text: &[u8], pool: &mut [u64], values: usize, left: usize, c: Cursor) -> Begun
-    requires { ⌜ Placed (now text) (now pool) (c .at) (c .top) ⌝ }
+    requires { ⌜ Text-placed (now text) (now pool) (c .at) (c .top) ⌝ }
     ensures read { λ r. ⌜ Begins-form (now (text .entry)) (now (pool .entry)) (now (pool .exit)) values left c r ⌝ }
 {
     match open_form(text, pool, values, left, c) {
@@ -54,7 +55,7 @@ pub fn begin_form(text: &[u8], pool: &mut [u64], values: usize, left: usize, c: 
 
 // Reads the bracket that ends a form.
 pub fn close_form(text: &[u8], pool: &mut [u64], c: Cursor) -> Part
-    requires { ⌜ Placed (now text) (now pool) (c .at) (c .top) ⌝ }
+    requires { ⌜ Text-placed (now text) (now pool) (c .at) (c .top) ⌝ }
     ensures read { λ r. ⌜ Closes-form (now (text .entry)) (now (pool .entry)) (now (pool .exit)) c r ⌝ }
 {
     match expect::next_closing(text, c.at, pool, c.top) {

@@ -2,7 +2,8 @@
 ghost use Prim.Native.Nat.{_≤_, _<_};
 ghost use lib.ListN.{length};
 ghost use Rattle.tokens.specs.TokenRead.{word-in};
-ghost use Rattle.form_reader.specs.FormParts.{Placed, Slot-answer, Reads-index, Reads-text, Reads-test, Reads-number, Reads-operand};
+ghost use Rattle.tokens.specs.Expecting.{Text-placed};
+ghost use Rattle.form_reader.specs.FormParts.{Slot-answer, Reads-index, Reads-text, Reads-test, Reads-number, Reads-operand};
 use crate::reading::Cursor;
 use crate::words::test_code;
 use number::word;
@@ -53,7 +54,7 @@ pub enum Index {
 
 // Reads N of `it`, where there are so many bindings.
 pub fn read_index(text: &[u8], pool: &mut [u64], bound: usize, c: Cursor) -> Index
-    requires { ⌜ Placed (now text) (now pool) (c .at) (c .top) ⌝ }
+    requires { ⌜ Text-placed (now text) (now pool) (c .at) (c .top) ⌝ }
     ensures read { λ r. ⌜ Reads-index (now (text .entry)) (now (pool .entry)) (now (pool .exit)) bound c r ⌝ }
 {
     match expect::next_word(text, c.at, pool, c.top) {
@@ -80,7 +81,7 @@ pub enum Name {
 
 // Reads a text, which goes into the pool.
 pub fn read_text(text: &[u8], pool: &mut [u64], c: Cursor) -> Name
-    requires { ⌜ Placed (now text) (now pool) (c .at) (c .top) ⌝ }
+    requires { ⌜ Text-placed (now text) (now pool) (c .at) (c .top) ⌝ }
     ensures read { λ r. ⌜ Reads-text (now (text .entry)) (now (pool .entry)) (now (pool .exit)) c r ⌝ }
 {
     match expect::next_text(text, c.at, pool, c.top) {
@@ -114,7 +115,7 @@ pub enum Operand {
 
 // Reads K of `when`.
 fn read_test(text: &[u8], pool: &mut [u64], c: Cursor) -> Operand
-    requires { ⌜ Placed (now text) (now pool) (c .at) (c .top) ⌝ }
+    requires { ⌜ Text-placed (now text) (now pool) (c .at) (c .top) ⌝ }
     ensures read { λ r. ⌜ Reads-test (now (text .entry)) (now (pool .entry)) (now (pool .exit)) c r ⌝ }
 {
     match expect::next_word(text, c.at, pool, c.top) {
@@ -141,7 +142,7 @@ fn read_test(text: &[u8], pool: &mut [u64], c: Cursor) -> Operand
 
 // Reads N of `num`.
 fn read_number(text: &[u8], pool: &mut [u64], c: Cursor) -> Operand
-    requires { ⌜ Placed (now text) (now pool) (c .at) (c .top) ⌝ }
+    requires { ⌜ Text-placed (now text) (now pool) (c .at) (c .top) ⌝ }
     ensures read { λ r. ⌜ Reads-number (now (text .entry)) (now (pool .entry)) (now (pool .exit)) c r ⌝ }
 {
     match expect::next_word(text, c.at, pool, c.top) {
@@ -171,7 +172,7 @@ fn read_number(text: &[u8], pool: &mut [u64], c: Cursor) -> Operand
 
 // Reads what stands behind the word of a result of this code, before its place or its results.
 pub fn read_operand(text: &[u8], pool: &mut [u64], code: u64, c: Cursor) -> Operand
-    requires { ⌜ Placed (now text) (now pool) (c .at) (c .top) ⌝ }
+    requires { ⌜ Text-placed (now text) (now pool) (c .at) (c .top) ⌝ }
     ensures read { λ r. ⌜ Reads-operand (now (text .entry)) (now (pool .entry)) (now (pool .exit)) code c r ⌝ }
 {
     if code == forms::WHEN {

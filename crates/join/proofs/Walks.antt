@@ -13,7 +13,7 @@ use Rattle.pool.specs.Pool.{text-in, ordering-of}
 use Rattle.pool.specs.declared.Comparison.{Comparison}
 use Rattle.pool.specs.declared.Comparison.the-variants.{Less, Equal, Greater}
 use Rattle.shapes.specs.ShapesLaws.{stands-name, Some-fields, some-fields, fields-left, fields-none, fields-some, fields-first}
-use Rattle.join.specs.Joining.{Walk, turn-first, turn-second, turn-both, Next}
+use Rattle.join.specs.Joining.{Members-walk, turn-first, turn-second, turn-both, Next}
 use Rattle.nodes.specs.StandingLaws.{text-referred}
 
 next-first : {n : Bytes} {a : Shape} {fs gs : Fields} → behind n gs ≡ true → Next Less (field n a fs) gs
@@ -42,14 +42,14 @@ by-order Greater {n} {m} e = next-second (before-gt n m (sym e))
 
 module _ {shapes second pool p : List ℕ} {row end other to : ℕ} where
   pub none-theirs
-      : (fs gs : Fields) → Walk shapes second pool p row end other to fs gs → row + other < end + to → to ≤ other → Next Less fs gs
+      : (fs gs : Fields) → Members-walk shapes second pool p row end other to fs gs → row + other < end + to → to ≤ other → Next Less fs gs
   unfolding behind
   none-theirs no-fields no-fields w l h = absurd (let z : ⊥ = omega (arith, fields-none (w .ours), fields-none (w .theirs)) in z)
   none-theirs (field n a fs) no-fields w l h = next-first refl
   none-theirs fs (field m b gs) w l h = absurd (let z : ⊥ = omega (arith, fields-some (w .theirs)) in z)
 
   pub none-ours
-      : (fs gs : Fields) → Walk shapes second pool p row end other to fs gs → row + other < end + to → end ≤ row → Next Greater fs gs
+      : (fs gs : Fields) → Members-walk shapes second pool p row end other to fs gs → row + other < end + to → end ≤ row → Next Greater fs gs
   unfolding behind
   none-ours no-fields no-fields w l h = absurd (let z : ⊥ = omega (arith, fields-none (w .ours), fields-none (w .theirs)) in z)
   none-ours no-fields (field m b gs) w l h = next-second refl
@@ -58,11 +58,11 @@ module _ {shapes second pool p : List ℕ} {row end other to : ℕ} where
   pub compared
       : (o : Comparison) {x y w v k m : ℕ} → x ≡ getD shapes (row + 1) 0 → y ≡ getD second (other + 1) 0 → w ≡ x % 65536 → v ≡ y % 65536
       → k ≡ x / 65536 → m ≡ y / 65536 → ordering-of o ≡ order (text-in pool w k) (text-in pool v m) → row < end → other < to
-      → (fs gs : Fields) → Walk shapes second pool p row end other to fs gs → Next o fs gs
+      → (fs gs : Fields) → Members-walk shapes second pool p row end other to fs gs → Next o fs gs
   compared o e f ew ev ek em q h i fs gs w =
       go (fields-left (w .ours) h) (fields-left (w .theirs) i) w
     where
-      go : {fs gs : Fields} → Some-fields fs → Some-fields gs → Walk shapes second pool p row end other to fs gs → Next o fs gs
+      go : {fs gs : Fields} → Some-fields fs → Some-fields gs → Members-walk shapes second pool p row end other to fs gs → Next o fs gs
       go (some-fields {n = n}) (some-fields {n = l}) w =
           let a = fields-first (w .ours) in
           let b = fields-first (w .theirs) in

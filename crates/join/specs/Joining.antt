@@ -38,7 +38,7 @@ null-head x = elim (has-bit (x % 128) 1) [ true ↦ x | false ↦ x + 1 ]
 -- ---- members
 
 -- the members of two shapes stand in two tables, each from a row up to an end; p is the used part of the pool
-pub record Walk (shapes second pool p : List ℕ) (row end other to : ℕ) (fs gs : Fields) : Type 0 where
+pub record Members-walk (shapes second pool p : List ℕ) (row end other to : ℕ) (fs gs : Fields) : Type 0 where
   pub ours : Fields-stand shapes p row end fs
   pub theirs : Fields-stand second p other to gs
   pub ours-ascend : ascending-fields fs ≡ true
@@ -68,7 +68,7 @@ pub record Next (o : Comparison) (fs gs : Fields) : Type 0 where
 -- where a member is left, a comparison tells which is the next
 abbrev pub Tells-next : (shapes second pool : List ℕ) (row end other to : ℕ) → Comparison → Type 0
 Tells-next shapes second pool row end other to o =
-    (p : List ℕ) (fs gs : Fields) → Walk shapes second pool p row end other to fs gs → row + other < end + to → Next o fs gs
+    (p : List ℕ) (fs gs : Fields) → Members-walk shapes second pool p row end other to fs gs → row + other < end + to → Next o fs gs
 
 -- the rows of a member
 pub record Member-rows (p : List ℕ) (n : Bytes) (u : Shape) (rows : List ℕ) : Type 0 where
@@ -84,7 +84,7 @@ passed-words second other Greater = size-at second other
 
 -- members to be joined in place, with nesting left for the second's
 pub record Walks (shapes second pool p : List ℕ) (used row end other to left : ℕ) (fs gs : Fields) : Type 0 where
-  pub walk : Walk shapes second pool p row end other to fs gs
+  pub walk : Members-walk shapes second pool p row end other to fs gs
   pub within : end ≤ used
   pub used-within : used ≤ length shapes
   pub there : other ≤ length second

@@ -113,7 +113,7 @@ fn next_member(
 }
 
 // How many words of the second a turn passes.
-fn passed(second: &[u64], other: usize, order: Comparison) -> usize
+fn second_step(second: &[u64], other: usize, order: Comparison) -> usize
     ensures told { λ r. ⌜ r ≡ passed-words (now (second .entry)) other order ⌝ }
 {
     match order {
@@ -217,7 +217,7 @@ fn join_members(
             return Joined::Full;
         };
         i += shapes::size(shapes, i);
-        j += passed(second, j, order);
+        j += second_step(second, j, order);
         words += more;
     }
     Joined::Grown { words }

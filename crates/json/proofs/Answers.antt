@@ -13,14 +13,14 @@ use Rattle.definitions.specs.Json.{Open, Gap, gap, put, scan}
 use Rattle.nodes.specs.Nodes.{Rows}
 use Rattle.json.specs.declared.reading.Cursor.{Cursor}
 use Rattle.json.specs.declared.reading.ValueRead.the-variants.{Done, Refused}
-use Rattle.json.specs.JsonParts.{Around, Moves, Reads}
+use Rattle.json.specs.JsonParts.{Open-limited, Moves, Reads}
 use Rattle.nodes.specs.RowLaws.{with-row, length-with-row, row-alone}
 
 -- a refusal; the tables are as long as they were
 pub refuses
     : {g : Open → Gap} {n left values : ℕ} {doc : Bytes} {nodes pool nodes′ pool′ : List ℕ} {name : ℕ} {c : Cursor} {number place : ℕ}
     → length nodes′ ≡ length nodes → length pool′ ≡ length pool → place ≤ length doc
-    → ((l : Limits) (o : Open) → Around l o values left → (kept : Bytes)
+    → ((l : Limits) (o : Open) → Open-limited l o values left → (kept : Bytes)
     → scan l n kept (gap (g o)) (drop (c .at) doc) ≡ refused number (drop place doc))
     → Reads g n left values doc nodes pool nodes′ pool′ name c (Refused number place)
 refuses e f h r = record { answer = record { run = r; within = h }; nodes-kept = e; pool-kept = f }
@@ -36,7 +36,7 @@ pub one-row
     → take (c .top) pool′ ≡ take (c .top) pool
     → written ≡ length (plain v)
     → Moves doc values c to written
-    → ((l : Limits) (o : Open) → Around l o values left → (kept : Bytes)
+    → ((l : Limits) (o : Open) → Open-limited l o values left → (kept : Bytes)
     → scan l (c .begun) kept (gap (Gap.value o)) (drop (c .at) doc) ≡ scan l (suc (c .begun)) kept (gap (put v o)) (drop (to .at) doc))
     → Reads Gap.value (c .begun) left values doc nodes pool nodes′ pool′ name c (Done to written)
 one-row {doc} {nodes} {nodes′} {name} {h} {x} {c} {to} v one next room row held kept front wrote moves run =

@@ -15,7 +15,7 @@ use Rattle.json.specs.declared.reading.Cursor.{Cursor}
 use Rattle.json.specs.declared.reading.ValueRead.the-variants.{Done, Refused}
 use Rattle.json.specs.declared.DocumentRead.the-variants as Document-is
 use Rattle.json.specs.JsonRead.{Tables, Reads-document}
-use Rattle.json.specs.JsonParts.{Skips, Around, Ready, Reads}
+use Rattle.json.specs.JsonParts.{Skips, Open-limited, Ready, Reads}
 use Rattle.json.proofs.Scan.{scan-token}
 
 -- where a document begins
@@ -35,7 +35,7 @@ start-ready top t =
     }
 
 -- nothing is open around it
-at-root : (l : Limits) → Around l root (l .values) (l .nesting)
+at-root : (l : Limits) → Open-limited l root (l .values) (l .nesting)
 unfolding depth
 at-root l = record { most = refl; nests = omega arith }
 

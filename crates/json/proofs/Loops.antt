@@ -18,7 +18,7 @@ use Rattle.json.specs.declared.reading.ValueRead.the-variants.{Done, Ref
 use Rattle.json.specs.declared.parts.Turn.{Turn}
 use Rattle.json.specs.declared.parts.Turn.the-variants.{More, Stop}
 use Rattle.json.specs.declared.name.NameRead.the-variants as Name-is
-use Rattle.json.specs.JsonParts.{Around, Ready, Value-done, Reads, Members-at, Name-ready, Reads-name, Bracket, square, curly}
+use Rattle.json.specs.JsonParts.{Open-limited, Ready, Value-done, Reads, Members-at, Name-ready, Reads-name, Bracket, square, curly}
 use Rattle.json.specs.JsonParts.{Parts, next-of, behind-of, items-length, members-length, Open-parts, Behind-ready, Ahead}
 
 -- ---- what is left to read
@@ -35,12 +35,12 @@ reads-less doc from to written (Stop r) h k a = omega arith
 
 -- ---- inside a list or a record
 
-pub inside-list : {l : Limits} {o : Open} {values left : ℕ} (vs : Items) → Around l o values (suc left) → Around l (in-list vs o) values left
+pub inside-list : {l : Limits} {o : Open} {values left : ℕ} (vs : Items) → Open-limited l o values (suc left) → Open-limited l (in-list vs o) values left
 unfolding depth
 inside-list vs a = record { most = a .most; nests = omega (arith, a .nests) }
 
 pub inside-record
-    : {l : Limits} {o : Open} {values left : ℕ} (ms : Members) (n : Bytes) → Around l o values (suc left) → Around l (in-rec ms n o) values left
+    : {l : Limits} {o : Open} {values left : ℕ} (ms : Members) (n : Bytes) → Open-limited l o values (suc left) → Open-limited l (in-rec ms n o) values left
 unfolding depth
 inside-record ms n a = record { most = a .most; nests = omega (arith, a .nests) }
 
@@ -220,7 +220,7 @@ module _
           }
 
       named-run
-          : (l : Limits) (o : Open) → Around l o values (suc left) → (kept : Bytes)
+          : (l : Limits) (o : Open) → Open-limited l o values (suc left) → (kept : Bytes)
           → scan l (suc (c .begun)) kept (gap (Gap.first-name o)) (drop (c .at) doc)
           ≡ scan l (at .begun) kept (gap (Gap.value (in-rec (op .parts) (d .answer .name) o))) (drop (at .at) doc)
       named-run l o a kept =

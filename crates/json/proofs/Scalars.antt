@@ -30,7 +30,7 @@ use Rattle.text.specs.TextRead.{Text-closed, Text-broken}
 use Rattle.json.specs.declared.reading.Cursor.{Cursor}
 use Rattle.json.specs.declared.reading.ValueRead.{ValueRead}
 use Rattle.json.specs.declared.reading.ValueRead.the-variants.{Done, Refused}
-use Rattle.json.specs.JsonParts.{Around, Judges, Matches, Literal, Placed, Ready, Reads, Puts-number, No-row}
+use Rattle.json.specs.JsonParts.{Open-limited, Judges-full, Matches, Literal, Table-placed, Ready, Reads, Puts-number, No-row}
 use Rattle.json.proofs.Kept.{scan-kept}
 use Rattle.json.proofs.Scan as Scan
 use Rattle.json.proofs.Scan.{byte-inside, byte-here, here, at-end, at-byte, value-begins}
@@ -43,8 +43,8 @@ use Rattle.json.proofs.Answers.{refuses, one-row}
 -- a value that is no number begins where there is one too many, or too deep
 pub full-here
     : (doc : Bytes) (at b : ℕ) (q : Open → State) {values left begun : ℕ} → getD doc at 256 ≡ b → b < 256 → white b ≡ false
-    → ((o : Open) → look (value-rows o) b ≡ some (q o)) → Judges values left begun true
-    → (l : Limits) (o : Open) → Around l o values left → (kept : Bytes)
+    → ((o : Open) → look (value-rows o) b ≡ some (q o)) → Judges-full values left begun true
+    → (l : Limits) (o : Open) → Open-limited l o values left → (kept : Bytes)
     → scan l begun kept (gap (Gap.value o)) (drop at doc) ≡ refused 6 (drop at doc)
 full-here doc at b q {begun = n} e h w f j l o a kept =
     ap (λ (s : Bytes). scan l n kept (gap (Gap.value o)) s) (byte-here doc at e h)
@@ -54,8 +54,8 @@ full-here doc at b q {begun = n} e h w f j l o a kept =
 -- and where there is not
 pub begins-here
     : (doc : Bytes) (at b : ℕ) (q : Open → State) {values left begun : ℕ} → getD doc at 256 ≡ b → b < 256 → white b ≡ false
-    → ((o : Open) → look (value-rows o) b ≡ some (q o)) → Judges values left begun false
-    → (l : Limits) (o : Open) → Around l o values left → (kept : Bytes)
+    → ((o : Open) → look (value-rows o) b ≡ some (q o)) → Judges-full values left begun false
+    → (l : Limits) (o : Open) → Open-limited l o values left → (kept : Bytes)
     → scan l begun kept (gap (Gap.value o)) (drop at doc) ≡ scan l (suc begun) kept (q o) (drop (at + 1) doc)
 begins-here doc at b q {begun = n} e h w f j l o a kept =
     ap (λ (s : Bytes). scan l n kept (gap (Gap.value o)) s) (byte-here doc at e h)
@@ -65,7 +65,7 @@ begins-here doc at b q {begun = n} e h w f j l o a kept =
 
 module _ {doc name : Bytes} {kind values left : ℕ} (c : Cursor) (li : Literal name kind) (e : getD doc (c .at) 256 ≡ getD name 0 256) where
   literal-run
-      : {k : ℕ} → Matches doc (c .at) name k → Judges values left (c .begun) false → (l : Limits) (o : Open) → Around l o values left
+      : {k : ℕ} → Matches doc (c .at) name k → Judges-full values left (c .begun) false → (l : Limits) (o : Open) → Open-limited l o values left
       → (kept : Bytes)
       → scan l (c .begun) kept (gap (Gap.value o)) (drop (c .at) doc)
       ≡ scan l (suc (c .begun)) kept (spell (drop k name) (li .value) o) (drop (c .at + k) doc)
@@ -75,14 +75,14 @@ module _ {doc name : Bytes} {kind values left : ℕ} (c : Cursor) (li : Literal 
       ∙ ap₂ (λ (cs s : Bytes). scan l (suc (c .begun)) kept (spell cs (li .value) o) s) (sym (li .spelled)) (sym (byte-here doc (c .at) e (li .byte)))
       ∙ m .run l (suc (c .begun)) kept (li .value) o
 
-  module _ {nodes : List ℕ} {m : ℕ} (p : Placed doc nodes values c) (pool : List ℕ) where
-    pub literal-full : Judges values left (c .begun) true → Reads Gap.value (c .begun) left values doc nodes pool nodes pool m c (Refused 6 (c .at))
+  module _ {nodes : List ℕ} {m : ℕ} (p : Table-placed doc nodes values c) (pool : List ℕ) where
+    pub literal-full : Judges-full values left (c .begun) true → Reads Gap.value (c .begun) left values doc nodes pool nodes pool m c (Refused 6 (c .at))
     literal-full j =
         refuses refl refl (p .within)
         (full-here doc (c .at) (getD name 0 256) (λ o. spell (drop 1 name) (li .value) o) e (li .byte) (li .visible) (li .begins) j)
 
     pub literal-broken
-        : {k : ℕ} → Judges values left (c .begun) false → Matches doc (c .at) name k → k < length name
+        : {k : ℕ} → Judges-full values left (c .begun) false → Matches doc (c .at) name k → k < length name
         → Reads Gap.value (c .begun) left values doc nodes pool nodes pool m c (Refused 3 (c .at + k))
     literal-broken {k} j ms h =
         refuses refl refl (ms .within)
@@ -92,7 +92,7 @@ module _ {doc name : Bytes} {kind values left : ℕ} (c : Cursor) (li : Literal 
         ∙ spell-off l (suc (c .begun)) kept (li .value) o (getD name k 256) (drop (suc k) name) doc (c .at + k) (ms .stops h))
 
     pub literal-read
-        : {k : ℕ} {nodes′ : List ℕ} → Judges values left (c .begun) false → Matches doc (c .at) name k → length name ≤ k
+        : {k : ℕ} {nodes′ : List ℕ} → Judges-full values left (c .begun) false → Matches doc (c .at) name k → length name ≤ k
         → nodes′ ≡ with-row nodes (c .begun) (head-of kind 0 k) 0 m
         → Reads Gap.value (c .begun) left values doc nodes pool nodes′ pool m c
         (Done (record { at = c .at + k; begun = c .begun + 1; top = c .top }) k)
@@ -144,20 +144,20 @@ text-closes l n kept o t r = refl
 
 module _ {doc nodes pool : List ℕ} {values left : ℕ} (c : Cursor) (p : Ready doc nodes pool values c) (e : getD doc (c .at) 256 ≡ 0x22) where
   text-begins
-      : Judges values left (c .begun) false → (l : Limits) (o : Open) → Around l o values left → (kept : Bytes)
+      : Judges-full values left (c .begun) false → (l : Limits) (o : Open) → Open-limited l o values left → (kept : Bytes)
       → scan l (c .begun) kept (gap (Gap.value o)) (drop (c .at) doc)
       ≡ scan l (suc (c .begun)) kept (in-text (as-value o) Inside.chars []) (drop (c .at + 1) doc)
   text-begins j =
       begins-here doc (c .at) 0x22 (λ o. in-text (as-value o) Inside.chars []) e (omega arith) quote-visible quote-begins j
 
-  pub text-full : {m : ℕ} → Judges values left (c .begun) true → Reads Gap.value (c .begun) left values doc nodes pool nodes pool m c (Refused 6 (c .at))
+  pub text-full : {m : ℕ} → Judges-full values left (c .begun) true → Reads Gap.value (c .begun) left values doc nodes pool nodes pool m c (Refused 6 (c .at))
   text-full j =
       refuses refl refl (p .placed .within)
       (full-here doc (c .at) 0x22 (λ o. in-text (as-value o) Inside.chars []) e (omega arith) quote-visible quote-begins j)
 
   module _ {pool′ : List ℕ} (same : length pool′ ≡ length pool) where
     pub text-broken
-        : {place m : ℕ} → Judges values left (c .begun) false → Text-broken doc (c .at + 1) place
+        : {place m : ℕ} → Judges-full values left (c .begun) false → Text-broken doc (c .at + 1) place
         → Reads Gap.value (c .begun) left values doc nodes pool nodes pool′ m c (Refused 3 place)
     text-broken {place} j t =
         refuses refl same (t .within)
@@ -166,7 +166,7 @@ module _ {doc nodes pool : List ℕ} {values left : ℕ} (c : Cursor) (p : Ready
         ∙ scan-broke l (suc (c .begun)) kept (as-value o) Inside.chars [] (drop (c .at + 1) doc) (drop place doc) (t .run))
 
     pub text-read
-        : {end n k m : ℕ} {nodes′ : List ℕ} → take (c .top) pool′ ≡ take (c .top) pool → Judges values left (c .begun) false
+        : {end n k m : ℕ} {nodes′ : List ℕ} → take (c .top) pool′ ≡ take (c .top) pool → Judges-full values left (c .begun) false
         → Text-closed doc (c .at + 1) pool′ (c .top) end n k
         → nodes′ ≡ with-row nodes (c .begun) (head-of 4 0 k) (reference (c .top) n) m
         → Reads Gap.value (c .begun) left values doc nodes pool nodes′ pool′ m c
@@ -253,7 +253,7 @@ first-of {doc} {at} {x} r = pick (here doc at)
     pick (at-byte f) =
         by-look f (omega (arith, length-drop at doc, ap length f)) (look (next begin) (getD doc at 256)) refl
 
-module _ {doc nodes : List ℕ} {values : ℕ} (c : Cursor) {x : NumberRead} (p : Placed doc nodes values c) (b : No-row (getD doc (c .at) 256))
+module _ {doc nodes : List ℕ} {values : ℕ} (c : Cursor) {x : NumberRead} (p : Table-placed doc nodes values c) (b : No-row (getD doc (c .at) 256))
     (r : Reads-number doc (c .at) x) (pool : List ℕ) where
   -- no value begins
   pub number-none
@@ -327,7 +327,7 @@ module _ {doc nodes : List ℕ} {values : ℕ} (c : Cursor) {x : NumberRead} (p 
           ∙ scan-whole l (suc (c .begun)) (drop (c .at) doc) o (run-at doc (c .at) .phase) (run-at doc (c .at) .digits)
           (longest-stops begin no-digits (drop (c .at) doc)) (sym (r .whole) ∙ e)
 
-    module _ {left m : ℕ} {full-now : Bool} (j : Judges values left (c .begun) full-now) where
+    module _ {left m : ℕ} {full-now : Bool} (j : Judges-full values left (c .begun) full-now) where
       pub number-broken
           : x .complete ≡ false → full-now ≡ false
           → Reads Gap.value (c .begun) left values doc nodes pool nodes pool m c (Refused 3 (x .end))

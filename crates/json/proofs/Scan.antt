@@ -18,7 +18,7 @@ use Rattle.definitions.specs.Number.{Phase, begin, next, no-digits, extend}
 use Rattle.definitions.specs.Value.{Value, no-items}
 use Rattle.definitions.specs.Json.{Open, in-list, Gap, State, gap, in-number, spell, put, broken, go, value-rows}
 use Rattle.definitions.specs.Json.{value-move, token-move, gap-move, gap-end, move, end-move, depth, full, judge, scan}
-use Rattle.json.specs.JsonParts.{Around}
+use Rattle.json.specs.JsonParts.{Open-limited}
 
 -- ---- the byte at a place
 
@@ -126,7 +126,7 @@ first-value l n kept doc at o w h = pick (here doc at)
 
 -- ---- the limits
 
-module _ {l : Limits} {o : Open} {values left : ℕ} (a : Around l o values left) (n : ℕ) where
+module _ {l : Limits} {o : Open} {values left : ℕ} (a : Open-limited l o values left) (n : ℕ) where
   pub not-full : n < values → 0 < left → full l (suc n) o ≡ false
   unfolding full
   not-full h k =

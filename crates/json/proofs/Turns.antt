@@ -14,7 +14,7 @@ use Rattle.nodes.specs.NodesLaws.{head-word-is}
 use Rattle.json.specs.declared.reading.Cursor.{Cursor}
 use Rattle.json.specs.declared.reading.ValueRead.{ValueRead}
 use Rattle.json.specs.declared.reading.ValueRead.the-variants.{Refused}
-use Rattle.json.specs.JsonParts.{Skips, Token, Neither, Around, Placed, Moves, Reads, Bracket, Parts, no-parts, code-of, closing-of}
+use Rattle.json.specs.JsonParts.{Skips, Token, Neither, Open-limited, Table-placed, Moves, Reads, Bracket, Parts, no-parts, code-of, closing-of}
 use Rattle.json.specs.JsonParts.{start-of, next-of, behind-of, Before, count-of, whole-of, Open-parts, Closes, Behind-ready}
 use Rattle.json.proofs.Scan.{scan-broken}
 use Rattle.nodes.specs.RowLaws.{length-with-row, row-put}
@@ -39,7 +39,7 @@ module _
       → written ≡ length (plain (whole-of k s))
       → take (c .top) pool ≡ take (c .top) pool₀
       → Moves doc values c to written
-      → ((l : Limits) (o : Open) → Around l o values (suc left) → (kept : Bytes)
+      → ((l : Limits) (o : Open) → Open-limited l o values (suc left) → (kept : Bytes)
       → scan l (suc (c .begun)) kept (gap (start-of k o)) (drop (c .at) doc) ≡ scan l (to .begun) kept (gap (put (whole-of k s) o)) (drop (to .at) doc))
       → Reads (start-of k) (suc (c .begun)) (suc left) values doc nodes₀ pool₀ nodes′ pool name c r
   whole-read code u room same-nodes same-pool held table counted wrote front moves run =
@@ -73,13 +73,13 @@ module _
 -- ---- behind an opening bracket
 
 module _
-    {left values : ℕ} {doc : Bytes} {nodes pool : List ℕ} {kind closing : ℕ} (c : Cursor) {at : ℕ} (p : Placed doc nodes values c)
+    {left values : ℕ} {doc : Bytes} {nodes pool : List ℕ} {kind closing : ℕ} (c : Cursor) {at : ℕ} (p : Table-placed doc nodes values c)
     (free : c .begun < values) (k : Bracket) (code : kind ≡ code-of k) (shut : closing ≡ closing-of k) (s : Skips doc (c .at) at) where
-  pub enter-stop
+  pub first-part-stop
       : {name : ℕ} {nodes′ : List ℕ} {r : ValueRead} → Token doc (c .at) closing (at + 1)
       → Closes nodes nodes′ (c .begun) kind name (record { at = at + 1; begun = c .begun + 1; top = c .top }) 2 r
       → Reads (start-of k) (suc (c .begun)) (suc left) values doc nodes pool nodes′ pool name c r
-  enter-stop t u =
+  first-part-stop t u =
       whole-read k (no-parts k) [] code u (omega (arith, p .rows)) refl refl (no-rows k (take (c .top) pool))
       (ap (λ (i : ℕ). take (3 * i) nodes) (let e : c .begun + 1 ≡ suc (c .begun) = omega arith in e) ∙ sym (append-nil (take (3 * suc (c .begun)) nodes)))
       (omega (arith, count-none k))
@@ -100,10 +100,10 @@ module _
       ∙ ap (λ (i : ℕ). scan l i kept (gap (put (whole-of k (no-parts k)) o)) (drop (at + 1) doc))
       (let e : suc (c .begun) ≡ c .begun + 1 = omega arith in e))
 
-  pub enter-more
+  pub first-part-more
       : (getD doc at 256 ≡ closing → ⊥)
       → Open-parts k (next-of k) 1 left values doc nodes pool nodes pool c (record { at = at; begun = c .begun + 1; top = c .top }) 1
-  enter-more h =
+  first-part-more h =
       record {
         parts = no-parts k;
         run = λ l o a kept.
@@ -138,10 +138,10 @@ module _
     {left values : ℕ} {doc : Bytes} {nodes₀ pool₀ nodes pool : List ℕ} {kind closing written : ℕ} (c to : Cursor)
     (b : Behind-ready doc nodes c kind closing to written) (k : Bracket) (code : kind ≡ code-of k) (shut : closing ≡ closing-of k)
     (op : Open-parts k (behind-of k) 0 left values doc nodes₀ pool₀ nodes pool c to written) where
-  pub go-on-more
+  pub next-part-more
       : {at : ℕ} → Token doc (to .at) 0x2C at
       → Open-parts k (next-of k) 1 left values doc nodes₀ pool₀ nodes pool c (record { at = at; begun = to .begun; top = to .top }) written
-  go-on-more {at} t =
+  next-part-more {at} t =
       record {
         parts = op .parts;
         run = λ l o a kept.
@@ -167,11 +167,11 @@ module _
         pool-kept = op .pool-kept;
       }
 
-  pub go-on-stop
+  pub next-part-stop
       : {at name : ℕ} {nodes′ : List ℕ} {r : ValueRead} → Token doc (to .at) closing at
       → Closes nodes nodes′ (c .begun) kind name (record { at = at; begun = to .begun; top = to .top }) written r
       → Reads (start-of k) (suc (c .begun)) (suc left) values doc nodes₀ pool₀ nodes′ pool name c r
-  go-on-stop {at} t u =
+  next-part-stop {at} t u =
       whole-read k (op .parts) (op .rows) code u (omega (arith, b .rows, b .more)) (op .nodes-kept) (op .pool-kept) (op .held) (op .table)
       (op .counted)
       (op .wrote ∙ length-whole k (op .parts) (omega (arith, op .counted, b .more)))
@@ -190,10 +190,10 @@ module _
       ∙ ap (λ (y : ℕ). scan l (to .begun) kept (gap (behind-of k (op .parts) o)) (y ∷ drop at doc)) shut
       ∙ closes l (to .begun) kept o k (op .parts) (drop at doc))
 
-  pub go-on-broken
+  pub next-part-broken
       : {place name : ℕ} → Neither doc (to .at) 0x2C closing place
       → Reads (start-of k) (suc (c .begun)) (suc left) values doc nodes₀ pool₀ nodes pool name c (Refused 3 place)
-  go-on-broken {place} t =
+  next-part-broken {place} t =
       record {
         answer =
             record {

@@ -12,7 +12,7 @@ use Rattle.definitions.specs.Json.{Open, Gap, gap, value-rows, scan}
 use Rattle.json.specs.declared.reading.Cursor.{Cursor}
 use Rattle.json.specs.declared.reading.ValueRead.{ValueRead}
 use Rattle.json.specs.declared.reading.ValueRead.the-variants.{Done, Refused}
-use Rattle.json.specs.JsonParts.{Skips, Around, Judges, Ready, Reads, Scalar-byte, Bracket, square, curly, start-of}
+use Rattle.json.specs.JsonParts.{Skips, Open-limited, Judges-full, Ready, Reads, Scalar-byte, Bracket, square, curly, start-of}
 use Rattle.json.proofs.Scan.{byte-inside}
 use Rattle.json.proofs.Scalars.{full-here, begins-here}
 use Rattle.json.proofs.Answers.{refuses}
@@ -44,9 +44,9 @@ moved c at = record { at = at; begun = c .begun; top = c .top }
 pub from-there
     : {g h : Open → Gap} {n m left left′ values : ℕ} {doc : Bytes} {nodes pool nodes′ pool′ : List ℕ} {name : ℕ} (c : Cursor) (at : ℕ) (r : ValueRead)
     → c .at ≤ at
-    → ((l : Limits) (o : Open) → Around l o values left → (kept : Bytes)
+    → ((l : Limits) (o : Open) → Open-limited l o values left → (kept : Bytes)
     → scan l n kept (gap (g o)) (drop (c .at) doc) ≡ scan l m kept (gap (h o)) (drop at doc))
-    → ((l : Limits) (o : Open) → Around l o values left → Around l o values left′)
+    → ((l : Limits) (o : Open) → Open-limited l o values left → Open-limited l o values left′)
     → Reads h m left′ values doc nodes pool nodes′ pool′ name (moved c at) r
     → Reads g n left values doc nodes pool nodes′ pool′ name c r
 from-there c at (Refused number place) e run around d =
@@ -85,7 +85,7 @@ module _
 
   module _ (k : Bracket) (e : getD doc at 256 ≡ opening-of k) where
     pub bracket-full
-        : {left name : ℕ} → Judges values left (c .begun) true → Reads Gap.value (c .begun) left values doc nodes pool nodes pool name c (Refused 6 at)
+        : {left name : ℕ} → Judges-full values left (c .begun) true → Reads Gap.value (c .begun) left values doc nodes pool nodes pool name c (Refused 6 at)
     bracket-full j =
         refuses refl refl (s .within)
         (λ l o a kept.
@@ -112,7 +112,7 @@ module _
         }
 
     pub bracket-value
-        : {left name : ℕ} {nodes′ pool′ : List ℕ} {r : ValueRead} → Judges values left (c .begun) false
+        : {left name : ℕ} {nodes′ pool′ : List ℕ} {r : ValueRead} → Judges-full values left (c .begun) false
         → Reads (start-of k) (suc (c .begun)) (suc (left - 1)) values doc nodes pool nodes′ pool′ name (moved c (at + 1)) r
         → Reads Gap.value (c .begun) left values doc nodes pool nodes′ pool′ name c r
     bracket-value {r} j d =

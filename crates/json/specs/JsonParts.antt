@@ -53,13 +53,13 @@ pub record Neither (doc : Bytes) (at b c place : ℕ) : Type 0 where
 -- ---- the limits
 
 -- so many values may begin, and so much nesting is left inside o
-pub record Around (l : Limits) (o : Open) (values left : ℕ) : Type 0 where
+pub record Open-limited (l : Limits) (o : Open) (values left : ℕ) : Type 0 where
   pub most : l .values ≡ values
   pub nests : depth o + left ≡ l .nesting
 
 -- whether a value that begins now is one too many or too deep
-pub record Judges (values left begun : ℕ) (r : Bool) : Type 0 where
-  pub judged : (l : Limits) (o : Open) → Around l o values left → r ≡ full l (suc begun) o
+pub record Judges-full (values left begun : ℕ) (r : Bool) : Type 0 where
+  pub judged : (l : Limits) (o : Open) → Open-limited l o values left → r ≡ full l (suc begun) o
   pub within : r ≡ false → (begun < values) × (0 < left)
 
 -- ---- literal names
@@ -89,7 +89,7 @@ pub record Literal (name : Bytes) (kind : ℕ) : Type 0 where
 -- ---- values
 
 -- where reading may begin a value, and the table has its row
-pub record Placed (doc : Bytes) (nodes : List ℕ) (values : ℕ) (c : Cursor) : Type 0 where
+pub record Table-placed (doc : Bytes) (nodes : List ℕ) (values : ℕ) (c : Cursor) : Type 0 where
   pub rows : 3 * values ≤ length nodes
   pub short : length doc ≤ 65536
   pub few : values ≤ 32768
@@ -98,7 +98,7 @@ pub record Placed (doc : Bytes) (nodes : List ℕ) (values : ℕ) (c : Cursor) :
 
 -- the same, and the pool has room for its text: what is used of it behind another text's is paid for
 pub record Ready (doc : Bytes) (nodes pool : List ℕ) (values : ℕ) (c : Cursor) : Type 0 where
-  pub placed : Placed doc nodes values c
+  pub placed : Table-placed doc nodes values c
   -- how many words the other text's texts take
   pub base : ℕ
   pub low : base ≤ 16384
@@ -122,7 +122,7 @@ pub record Value-done
     : Type 0 where
   pub value : Value
   pub run
-      : (l : Limits) (o : Open) → Around l o values left → (kept : Bytes)
+      : (l : Limits) (o : Open) → Open-limited l o values left → (kept : Bytes)
       → scan l n kept (gap (g o)) (drop (from .at) doc) ≡ scan l (to .begun) kept (gap (put value o)) (drop (to .at) doc)
   pub rows : List ℕ
   pub held : Rows (take (to .top) pool′) name value rows
@@ -135,7 +135,7 @@ pub record Value-done
 -- reading is refused
 pub record Value-refused (g : Open → Gap) (n left values : ℕ) (doc : Bytes) (at number place : ℕ) : Type 0 where
   pub run
-      : (l : Limits) (o : Open) → Around l o values left → (kept : Bytes)
+      : (l : Limits) (o : Open) → Open-limited l o values left → (kept : Bytes)
       → scan l n kept (gap (g o)) (drop at doc) ≡ refused number (drop place doc)
   pub within : place ≤ length doc
 
@@ -329,7 +329,7 @@ pub record Open-parts
     : Type 0 where
   pub parts : Parts k
   pub run
-      : (l : Limits) (o : Open) → Around l o values (suc left) → (kept : Bytes)
+      : (l : Limits) (o : Open) → Open-limited l o values (suc left) → (kept : Bytes)
       → scan l (suc (c .begun)) kept (gap (start-of k o)) (drop (c .at) doc)
       ≡ scan l (from .begun) kept (gap (here parts o)) (drop (from .at) doc)
   pub rows : List ℕ

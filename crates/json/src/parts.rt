@@ -4,7 +4,7 @@ ghost use Prim.Native.Nat.{ℕ, _+_, _*_, _^_, _≤_, _<_};
 ghost use mathlib.Core.List.{List};
 ghost use lib.ListN.{length};
 ghost use Rattle.nodes.specs.Nodes.{head-of};
-ghost use Rattle.json.specs.JsonParts.{Placed, Bracket, code-of, closing-of, Turn-answer, Closes, Behind-ready, Goes-on};
+ghost use Rattle.json.specs.JsonParts.{Table-placed, Bracket, code-of, closing-of, Turn-answer, Closes, Behind-ready, Goes-on};
 use crate::reading::Cursor;
 use crate::reading::ValueRead;
 use crate::space::COMMA;
@@ -18,7 +18,7 @@ pub enum Turn {
 }
 
 // Puts the row of the list or record whose parts have been read up to `to`; it is that of value `begun`.
-fn close(
+fn put_row_of(
     nodes: &mut [u64],
     begun: usize,
     kind: u64,
@@ -37,7 +37,7 @@ fn close(
 }
 
 // Goes on behind an opening bracket, which stands before c and of which `closing` is the other; its row is the next one.
-pub fn enter(
+pub fn first_part(
     doc: &[u8],
     nodes: &mut [u64],
     values: usize,
@@ -46,7 +46,7 @@ pub fn enter(
     closing: usize,
     name: u64,
 ) -> Turn
-    requires { ⌜ Placed (now doc) (now nodes) values c × (c .begun < values) × (kind < 8) × (closing < 256) ⌝ }
+    requires { ⌜ Table-placed (now doc) (now nodes) values c × (c .begun < values) × (kind < 8) × (closing < 256) ⌝ }
     ensures entered { λ r. ⌜ ((k : Bracket) → kind ≡ code-of k → closing ≡ closing-of k → (left : ℕ) (pool : List ℕ)
         → Turn-answer k left values (now (doc .entry)) (now (nodes .entry)) pool (now (nodes .exit)) pool name c r) ⌝ }
 {
@@ -59,7 +59,7 @@ pub fn enter(
             top: c.top,
         };
         return Turn::Stop {
-            answer: close(nodes, c.begun, kind, name, to, 2),
+            answer: put_row_of(nodes, c.begun, kind, name, to, 2),
         };
     }
     let from = Cursor {
@@ -71,7 +71,7 @@ pub fn enter(
 }
 
 // Goes on behind a part that ends at `to`, of the list or record that was opened at c.
-pub fn go_on(
+pub fn next_part(
     doc: &[u8],
     nodes: &mut [u64],
     c: Cursor,
@@ -101,7 +101,7 @@ pub fn go_on(
             top: to.top,
         };
         return Turn::Stop {
-            answer: close(nodes, c.begun, kind, name, end, written),
+            answer: put_row_of(nodes, c.begun, kind, name, end, written),
         };
     }
     Turn::Stop {

@@ -4,7 +4,7 @@ ghost use Prim.Native.Nat.{ℕ, _+_, _*_, _^_, _≤_, _<_};
 ghost use mathlib.Core.List.{List};
 ghost use lib.ListN.{length, getD};
 ghost use Rattle.definitions.specs.Json.{Gap};
-ghost use Rattle.json.specs.JsonParts.{Judges, Matches, Literal, Placed, Ready, Reads, Puts-number, No-row, Scalar-byte};
+ghost use Rattle.json.specs.JsonParts.{Judges-full, Matches, Literal, Table-placed, Ready, Reads, Puts-number, No-row, Scalar-byte};
 ghost use Rattle.number.specs.NumberRead.{number-in};
 ghost use Rattle.number.specs.NumberWrite.{Bounded};
 use crate::reading::Cursor;
@@ -18,7 +18,7 @@ use text::TextRead;
 
 // Whether a value that begins here is one too many or too deep: refusal 6.
 pub fn is_full(values: usize, left: usize, begun: usize) -> bool
-    ensures judged { λ r. ⌜ Judges values left begun r ⌝ }
+    ensures judged { λ r. ⌜ Judges-full values left begun r ⌝ }
 {
     if begun < values { left == 0 } else { true }
 }
@@ -49,7 +49,7 @@ fn read_literal(
     literal: &[u8],
     kind: u64,
 ) -> ValueRead
-    requires { ⌜ Placed (now doc) (now nodes) values c × Literal (now literal) kind × (getD (now doc) (c .at) 256 ≡ getD (now literal) 0 256) ⌝ }
+    requires { ⌜ Table-placed (now doc) (now nodes) values c × Literal (now literal) kind × (getD (now doc) (c .at) 256 ≡ getD (now literal) 0 256) ⌝ }
     ensures read { λ r. ⌜ ((pool : List ℕ)
         → Reads Gap.value (c .begun) left values (now (doc .entry)) (now (nodes .entry)) pool (now (nodes .exit)) pool name c r) ⌝ }
 {
@@ -141,7 +141,7 @@ fn read_number_value(
     c: Cursor,
     name: u64,
 ) -> ValueRead
-    requires { ⌜ Placed (now doc) (now nodes) values c × No-row (getD (now doc) (c .at) 256) ⌝ }
+    requires { ⌜ Table-placed (now doc) (now nodes) values c × No-row (getD (now doc) (c .at) 256) ⌝ }
     ensures read { λ r. ⌜ ((pool : List ℕ)
         → Reads Gap.value (c .begun) left values (now (doc .entry)) (now (nodes .entry)) pool (now (nodes .exit)) pool name c r) ⌝ }
 {

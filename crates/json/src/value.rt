@@ -5,8 +5,8 @@ ghost use Rattle.json.specs.JsonParts.{Ready, Reads};
 use crate::name::NameRead;
 use crate::name::read_name;
 use crate::parts::Turn;
-use crate::parts::enter;
-use crate::parts::go_on;
+use crate::parts::first_part;
+use crate::parts::next_part;
 use crate::reading::Cursor;
 use crate::reading::ValueRead;
 use crate::scalar::is_full;
@@ -28,7 +28,7 @@ fn read_list(
     ensures read { λ r. ⌜ Reads Gap.first-item (suc (c .begun)) (suc left) values (now (doc .entry)) (now (nodes .entry)) (now (pool .entry))
         (now (nodes .exit)) (now (pool .exit)) name c r ⌝ }
 {
-    let mut turn = enter(doc, nodes, values, c, nodes::LIST, 0x5D, name);
+    let mut turn = first_part(doc, nodes, values, c, nodes::LIST, 0x5D, name);
     loop {
         match turn {
             Turn::More { from, written } => {
@@ -41,7 +41,7 @@ fn read_list(
                     return r;
                 };
                 let total = written + length + 1;
-                turn = go_on(doc, nodes, c, nodes::LIST, 0x5D, name, to, total);
+                turn = next_part(doc, nodes, c, nodes::LIST, 0x5D, name, to, total);
             }
             Turn::Stop { answer } => {
                 return answer;
@@ -64,7 +64,7 @@ fn read_record(
     ensures read { λ r. ⌜ Reads Gap.first-name (suc (c .begun)) (suc left) values (now (doc .entry)) (now (nodes .entry)) (now (pool .entry))
         (now (nodes .exit)) (now (pool .exit)) name c r ⌝ }
 {
-    let mut turn = enter(doc, nodes, values, c, nodes::RECORD, 0x7D, name);
+    let mut turn = first_part(doc, nodes, values, c, nodes::RECORD, 0x7D, name);
     loop {
         match turn {
             Turn::More { from, written } => match read_name(
@@ -89,7 +89,7 @@ fn read_record(
                         return r;
                     };
                     let total = written + named + length + 2;
-                    turn = go_on(doc, nodes, c, nodes::RECORD, 0x7D, name, to, total);
+                    turn = next_part(doc, nodes, c, nodes::RECORD, 0x7D, name, to, total);
                 }
                 NameRead::Refused { number, place } => {
                     return ValueRead::Refused { number, place };

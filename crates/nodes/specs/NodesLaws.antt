@@ -123,12 +123,12 @@ length-member-rows {ms} ns = length-member-rows-at ms ns
 -- ---- the first row
 
 -- how a value's rows begin
-pub record Begins (v : Value) (m : ℕ) (rs : List ℕ) : Type 0 where
+pub record Row-begins (v : Value) (m : ℕ) (rs : List ℕ) : Type 0 where
   pub payload : ℕ
   pub others : List ℕ
   pub split : rs ≡ head-word v ∷ payload ∷ m ∷ others
 
-pub rows-begin : {p : List ℕ} {m : ℕ} {v : Value} {rs : List ℕ} → Rows p m v rs → Begins v m rs
+pub rows-begin : {p : List ℕ} {m : ℕ} {v : Value} {rs : List ℕ} → Rows p m v rs → Row-begins v m rs
 rows-begin null-row = record { payload = 0; others = []; split = refl }
 rows-begin bool-row = record { payload = 0; others = []; split = refl }
 rows-begin (number-row {x}) = record { payload = x .coefficient; others = []; split = refl }

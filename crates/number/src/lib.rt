@@ -117,13 +117,13 @@ fn read_fraction(
         let end = run.end;
         let coefficient = run.coefficient;
         if end == at + 1 {
-            let d = numeral::fixed(negative, whole, 0);
+            let d = numeral::without_exponent(negative, whole, 0);
             return read_on(doc, end, NumberPhase::AfterPoint, d);
         }
-        let d = numeral::fixed(negative, coefficient, end - (at + 1));
+        let d = numeral::without_exponent(negative, coefficient, end - (at + 1));
         return read_rest(doc, end, NumberPhase::InFrac, d);
     }
-    read_rest(doc, at, phase, numeral::fixed(negative, whole, 0))
+    read_rest(doc, at, phase, numeral::without_exponent(negative, whole, 0))
 }
 
 // The place behind a minus, if there is one.

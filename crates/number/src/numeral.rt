@@ -55,7 +55,7 @@ fn scaled_on(scale: u64) -> u64
 }
 
 // The numeral of so many digits behind the point, and with no exponent.
-pub fn fixed(negative: bool, coefficient: u64, digits: usize) -> CappedNumeral
+pub fn without_exponent(negative: bool, coefficient: u64, digits: usize) -> CappedNumeral
     ensures { λ r. ⌜ ((c : ℕ) → coefficient ≡ min c past-coefficient → Stands-for r (numeral negative c digits)) ⌝ }
 {
     let mut scale = PAST_SCALE;

@@ -10,7 +10,7 @@ use Rattle.definitions.specs.Value.{Value}
 use Rattle.definitions.specs.Plain.{plain}
 use Rattle.definitions.specs.Operations.{Done, Text-out, to-write, output-short, written, deliver}
 use Rattle.laws.specs.Tests.{lt-ltb, le-ltb}
-use Rattle.plain.specs.Table.{Bounded-numbers, Stands, Holds, Held, Writable, Front, Writes-front}
+use Rattle.plain.specs.Table.{Bounded-numbers, Some-value-stands, Holds, Held, Writable, Front, Writes-front}
 use Rattle.plain.specs.TableLaws.{writable-front}
 
 -- what is to be written
@@ -39,7 +39,7 @@ module _ (out : Bytes) (v : Value) (steps : ℕ) {n : ℕ} where
 
 -- the length that was measured
 abbrev Measured : List ℕ → ℕ → Type 0
-Measured nodes n = (p : List ℕ) (v : Value) → Stands nodes p 0 v → Bounded-numbers v → n ≡ length (plain v)
+Measured nodes n = (p : List ℕ) (v : Value) → Some-value-stands nodes p 0 v → Bounded-numbers v → n ≡ length (plain v)
 
 module _ {nodes pool : List ℕ} (out : Bytes) (steps : ℕ) {n : ℕ} (m : Measured nodes n) where
   module _ (h : length out < n) (v : Value) (s : Holds nodes pool 0 v) where

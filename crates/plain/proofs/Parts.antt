@@ -16,7 +16,7 @@ use Rattle.text.specs.Writes.{Writes}
 use Rattle.nodes.specs.Nodes.{Item-rows, no-item-rows, item-rows, Member-rows, no-member-rows, member-rows}
 use Rattle.nodes.specs.NodesLaws.{length-rows}
 use Rattle.nodes.specs.StandingLaws.{size-some}
-use Rattle.plain.specs.Table.{Bounded-numbers, Bounded-items, Bounded-members, Stands, Holds}
+use Rattle.plain.specs.Table.{Bounded-numbers, Bounded-items, Bounded-members, Some-value-stands, Holds}
 use Rattle.plain.specs.Parts.{Parts, no-parts, part, comma, label, plain-parts, unlabeled, labeled}
 use Rattle.plain.specs.Parts.{Part-rows, no-part-rows, part-rows, Holds-parts, Holds-label}
 use Rattle.plain.proofs.Writing.{writes-none, writes-then, writes-as}
@@ -132,7 +132,7 @@ module _ {nodes pool : List ℕ} {named : Bool} {i end : ℕ} {ps : Parts} (h : 
             };
           }
         where
-          stands : Stands nodes (h .used) i v
+          stands : Some-value-stands nodes (h .used) i v
           stands = record { name = k; rows = rs; rest = qs ++ h .rest; encoded = r; placed = e ∙ append-assoc rs qs (h .rest) }
 
   pub none-left : (b : Bool) → end ≤ i → plain-parts b ps ≡ []

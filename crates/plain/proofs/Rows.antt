@@ -11,9 +11,9 @@ use Rattle.definitions.specs.Number.{Number}
 use Rattle.definitions.specs.Value.{Value, Items, Members, size}
 use Rattle.definitions.specs.Plain.{plain}
 use Rattle.nodes.specs.Nodes.{kind-code, head-word, Refers, Rows, number-row, text-row, list-rows, rec-rows, Item-rows, Member-rows, row-size}
-use Rattle.nodes.specs.NodesLaws.{length-rows, Begins, rows-begin, row-size-is, row-name-is}
+use Rattle.nodes.specs.NodesLaws.{length-rows, Row-begins, rows-begin, row-size-is, row-name-is}
 use Rattle.nodes.specs.StandingLaws.{size-some}
-use Rattle.plain.specs.Table.{Stands, Bounded-numbers}
+use Rattle.plain.specs.Table.{Some-value-stands, Bounded-numbers}
 use Rattle.plain.specs.HeadLaws.{bits-small, head-kind, head-length}
 
 -- ---- the words of a row
@@ -22,8 +22,8 @@ use Rattle.plain.specs.HeadLaws.{bits-small, head-kind, head-length}
 getD-placed : (nodes qs : List ℕ) (row i : ℕ) → drop row nodes ≡ qs → getD nodes (row + i) 0 ≡ getD qs i 0
 getD-placed nodes qs row i e = sym (getD-drop row nodes i 0) ∙ ap (λ (l : List ℕ). getD l i 0) e
 
-module _ {nodes p : List ℕ} {row : ℕ} {v : Value} (s : Stands nodes p row v) where
-  begins : Begins v (s .name) (s .rows)
+module _ {nodes p : List ℕ} {row : ℕ} {v : Value} (s : Some-value-stands nodes p row v) where
+  begins : Row-begins v (s .name) (s .rows)
   begins = rows-begin (s .encoded)
 
   begins-placed : drop row nodes ≡ (head-word v ∷ begins .payload ∷ s .name ∷ begins .others) ++ s .rest
@@ -58,7 +58,7 @@ module _ {nodes p : List ℕ} {row : ℕ} {v : Value} (s : Stands nodes p row v)
 -- ---- the payload
 
 pub number-payload
-    : {nodes p : List ℕ} {row : ℕ} {x : Number} → Stands nodes p row (Value.number x) → getD nodes (row + 1) 0 ≡ x .coefficient
+    : {nodes p : List ℕ} {row : ℕ} {x : Number} → Some-value-stands nodes p row (Value.number x) → getD nodes (row + 1) 0 ≡ x .coefficient
 number-payload {nodes} {p} {row} {x} s = go (s .encoded) (s .placed)
   where
     go
@@ -67,7 +67,7 @@ number-payload {nodes} {p} {row} {x} s = go (s .encoded) (s .placed)
     go number-row e = getD-placed nodes _ row 1 e
 
 pub text-payload
-    : {nodes p : List ℕ} {row : ℕ} {t : Bytes} → Stands nodes p row (Value.text t) → Refers p t (getD nodes (row + 1) 0)
+    : {nodes p : List ℕ} {row : ℕ} {t : Bytes} → Some-value-stands nodes p row (Value.text t) → Refers p t (getD nodes (row + 1) 0)
 text-payload {nodes} {p} {row} {t} s = go (s .encoded) (s .placed)
   where
     go
@@ -97,7 +97,7 @@ pub record Opens (nodes : List ℕ) (row : ℕ) (v : Value) (qs rest : List ℕ)
   pub ends : row + 3 + length qs ≡ row + 3 * size v
 
 pub opens
-    : {nodes p qs : List ℕ} {row : ℕ} {v : Value} (s : Stands nodes p row v) → Own v (s .name) (s .rows) qs
+    : {nodes p qs : List ℕ} {row : ℕ} {v : Value} (s : Some-value-stands nodes p row v) → Own v (s .name) (s .rows) qs
     → Opens nodes row v qs (s .rest)
 opens {nodes} {row = row} s o =
     record {

@@ -31,7 +31,7 @@ unfoldable mutual
   Bounded-members (member n v ms) = Bounded-numbers v × Bounded-members ms
 
 -- the rows of v stand in the table from a row on; p is the used part of the pool
-pub record Stands (nodes p : List ℕ) (row : ℕ) (v : Value) : Type 0 where
+pub record Some-value-stands (nodes p : List ℕ) (row : ℕ) (v : Value) : Type 0 where
   pub name : ℕ
   pub rows : List ℕ
   pub rest : List ℕ
@@ -46,7 +46,7 @@ pub record Used (pool p : List ℕ) : Type 0 where
 -- the value v stands in the table from a row on, and its texts in the pool
 pub record Holds (nodes pool : List ℕ) (row : ℕ) (v : Value) : Type 0 where
   pub used : List ℕ
-  pub stands : Stands nodes used row v
+  pub stands : Some-value-stands nodes used row v
   pub pooled : Used pool used
   pub bounded : Bounded-numbers v
 

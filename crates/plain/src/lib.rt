@@ -7,13 +7,13 @@ ghost use Rattle.definitions.specs.Value.{Value};
 ghost use Rattle.definitions.specs.Plain.{plain};
 ghost use Rattle.definitions.specs.Operations.{to-write, deliver};
 ghost use Rattle.text.specs.Writes.{Writes};
-ghost use Rattle.plain.specs.Table.{Bounded-numbers, Holds, Held, Stands, Writable, Writes-value, Writes-front};
+ghost use Rattle.plain.specs.Table.{Bounded-numbers, Holds, Held, Some-value-stands, Writable, Writes-value, Writes-front};
 ghost use Rattle.plain.specs.Parts.{comma, Writable-text, Writes-text, Writable-label, Writes-label, Writable-parts, Writes-parts};
 use definitions::Answer;
 
 // How long the value at a row is as plain JSON, so that a short output shows before a byte is written.
-pub fn written_length(nodes: &[u64], at: usize) -> usize
-    ensures measured { λ r. ⌜ ((p : List ℕ) (v : Value) → Stands (now (nodes .entry)) p at v → Bounded-numbers v → r ≡ length (plain v)) ⌝ }
+fn written_length(nodes: &[u64], at: usize) -> usize
+    ensures measured { λ r. ⌜ ((p : List ℕ) (v : Value) → Some-value-stands (now (nodes .entry)) p at v → Bounded-numbers v → r ≡ length (plain v)) ⌝ }
 {
     nodes::row_written(nodes, at)
 }
@@ -123,7 +123,7 @@ fn write_parts(
 }
 
 // Writes the value at a row from a place on, and answers the place behind it.
-pub fn write_at(out: &mut [u8], at: usize, nodes: &[u64], row: usize, pool: &[u64]) -> usize
+fn write_at(out: &mut [u8], at: usize, nodes: &[u64], row: usize, pool: &[u64]) -> usize
     requires { ⌜ Writable (now nodes) (now pool) row (now out) at ⌝ }
     ensures written { λ r. ⌜ Writes-value (now (nodes .entry)) (now (pool .entry)) row (now (out .entry)) (now (out .exit)) at r ⌝ }
 {
@@ -145,7 +145,7 @@ pub fn write_at(out: &mut [u8], at: usize, nodes: &[u64], row: usize, pool: &[u6
 }
 
 // Writes the value at the first row at the front of the output, and answers its length.
-pub fn write_value(out: &mut [u8], nodes: &[u64], pool: &[u64]) -> usize
+fn write_value(out: &mut [u8], nodes: &[u64], pool: &[u64]) -> usize
     requires { ⌜ Writable (now nodes) (now pool) 0 (now out) 0 ⌝ }
     ensures written { λ r. ⌜ Writes-front (now (nodes .entry)) (now (pool .entry)) (now (out .entry)) (now (out .exit)) r ⌝ }
 {

@@ -31,7 +31,7 @@ pub fn put_byte(pool: &mut [u64], k: usize, b: u8)
 }
 
 // The smaller of two numbers.
-fn least(a: usize, b: usize) -> usize
+pub fn least(a: usize, b: usize) -> usize
     ensures chosen { λ r. ⌜ r ≡ min a b ⌝ }
 {
     if a < b { a } else { b }

@@ -10,15 +10,15 @@ use Rattle.definitions.specs.Shape.{Kind, among, no-list, list-of, no-fields, h
 use Rattle.definitions.specs.ShapeText.{Around, as-element, shape-open, want, put, with-element}
 use Rattle.shapes.specs.Shapes.{has-bit, no-element-rows, element-rows}
 use Rattle.shape_reader.specs.declared.reading.Cursor.{Cursor}
-use Rattle.shape_reader.specs.declared.reading.Part.{Part}
-use Rattle.shape_reader.specs.declared.reading.Part.the-variants.{Done, Refused}
+use Rattle.shape_reader.specs.declared.reading.FormRead.{FormRead}
+use Rattle.shape_reader.specs.declared.reading.FormRead.the-variants.{Done, Refused}
 use Rattle.shape_reader.specs.ShapeParts.{reading, Kinds-held, parts, behind, Ready, Form-answer, Reads-form, Element-answer, Reads-element}
 use Rattle.shape_reader.proofs.KindSets.{has-list-kind}
 use Rattle.shape_reader.proofs.Going.{goes-alone, in-element}
 
 module _ {left values kinds : ℕ} {text : Bytes} {s p s′ p′ : List ℕ} (c : Cursor) where
   pub element-read
-      : {b : Bool} {r : Part} → b ≡ has-bit kinds 32 → b ≡ true → Reads-form left values text s p s′ p′ 0 c r
+      : {b : Bool} {r : FormRead} → b ≡ has-bit kinds 32 → b ≡ true → Reads-form left values text s p s′ p′ 0 c r
       → Reads-element left values text s p s′ p′ kinds c r
   unfolding put with-element has-list behind
   element-read {r} g h x = record { answer = pick r (x .answer); sized = x .sized }
@@ -31,7 +31,7 @@ module _ {left values kinds : ℕ} {text : Bytes} {s p s′ p′ : List ℕ} (c 
           ap (λ (b : Bool). reading l (c .begun) text (want (behind b (parts ks no-list no-fields) o)) (c .at))
           (sym (has-list-kind k) ∙ sym g ∙ h)
 
-      pick : (u : Part) → Form-answer left values text s p s′ p′ 0 c u → Element-answer left values text s p s′ p′ kinds c u
+      pick : (u : FormRead) → Form-answer left values text s p s′ p′ 0 c u → Element-answer left values text s p s′ p′ kinds c u
       pick (Done to) d =
           record {
             element = list-of (d .form);

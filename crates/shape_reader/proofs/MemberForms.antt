@@ -14,8 +14,8 @@ use Rattle.nodes.specs.NodesLaws.{refers-grow}
 use Rattle.shapes.specs.Shapes.{Field-rows, no-field-rows, field-rows}
 use Rattle.shapes.specs.ShapesLaws.{shape-rows-grow}
 use Rattle.shape_reader.specs.declared.reading.Cursor.{Cursor}
-use Rattle.shape_reader.specs.declared.reading.Part.{Part}
-use Rattle.shape_reader.specs.declared.reading.Part.the-variants.{Done, Refused}
+use Rattle.shape_reader.specs.declared.reading.FormRead.{FormRead}
+use Rattle.shape_reader.specs.declared.reading.FormRead.the-variants.{Done, Refused}
 use Rattle.shape_reader.specs.declared.members.Turn.{Turn}
 use Rattle.shape_reader.specs.declared.members.Turn.the-variants.{More, Stop}
 use Rattle.shape_reader.specs.ShapeParts.{reading, parts, none-yet, latest-is, Moves, Turn-is, Turns, Ready, Goes, Sized, Form-done, Form-answer}
@@ -100,7 +100,7 @@ module _
   pub member-ready : Ready text s₀ p₀ values c → Ready text s p values from
   member-ready r = ready-then r (m .read .goes) (m .sized)
 
-  module _ {s′ p′ : List ℕ} {r : Part} (x : Reads-form left values text s p s′ p′ name from r) where
+  module _ {s′ p′ : List ℕ} {r : FormRead} (x : Reads-form left values text s p s′ p′ name from r) where
     pub member-refused : {number place : ℕ} → r ≡ Refused number place → Reads-members left values text s₀ p₀ s′ p′ kinds c r
     member-refused {number} {place} e =
         subst (Reads-members left values text s₀ p₀ s′ p′ kinds c) (sym e)

@@ -24,18 +24,20 @@ use Rattle.tokens.specs.declared.Token.the-variants.{Opening, Closing, Quoted}
 use Rattle.tokens.specs.TokenRead.{Found, Found-text, Token-answer, Next, place-of}
 use Rattle.tokens.proofs.Token as Token-type
 use Rattle.shape_reader.specs.declared.reading.Cursor.{Cursor}
-use Rattle.shape_reader.specs.declared.reading.Part.the-variants.{Done, Refused}
+use Rattle.shape_reader.specs.declared.reading.FormRead.the-variants.{Done, Refused}
 use Rattle.shape_reader.specs.declared.opening.Expected.{Expected}
 use Rattle.shape_reader.specs.declared.opening.Expected.the-variants as Expected-is
 use Rattle.shape_reader.specs.declared.members.Named.{Named}
 use Rattle.shape_reader.specs.declared.members.Named.the-variants as Named-is
 use Rattle.shape_reader.specs.declared.members.Turn.{Turn}
 use Rattle.shape_reader.specs.declared.members.Turn.the-variants.{More, Stop}
-use Rattle.shape_reader.specs.ShapeParts.{reading, Placed, Expected-answer, Expects, Kinds-held, parts, Latest, none-yet}
+use Rattle.tokens.specs.Expecting.{Text-placed}
+use Rattle.shape_reader.specs.ShapeParts.{reading, Expected-answer, Expects, Kinds-held, parts, Latest, none-yet}
 use Rattle.shape_reader.specs.ShapeParts.{latest-is, Named-answer, Reads-name, Names-answer, Names-member, Turn-is, Turns}
 use Rattle.shape_reader.proofs.Steps.{goes-on, misplaced-found, misplaced-read, no-closing, no-bracket, no-text, member-bytes, only-member, member-goes}
 use Rattle.shape_reader.proofs.KindSets.{has-rec-kind}
-use Rattle.shape_reader.proofs.Openings.{next-kept, kept-then, placed-further}
+use Rattle.tokens.specs.ReadingLaws.{kept-then, placed-further}
+use Rattle.shape_reader.proofs.Openings.{next-kept}
 
 -- ---- names in order
 
@@ -86,7 +88,7 @@ module _ {text : Bytes} {at top : ℕ} {p₀ p : List ℕ} {e : Expected} (x : E
     there : (place : ℕ) × Found text at (word member-bytes) place behind × (place + length member-bytes ≡ behind)
     there = subst (Expected-answer text at member-bytes) f (x .answer)
 
-    pub name-room : Placed text p₀ at top → Placed text p behind top
+    pub name-room : Text-placed text p₀ at top → Text-placed text p behind top
     name-room r =
         placed-further r (x .kept) (omega (arith, there .1 .from, there .1 .ahead)) (there .1 .within)
 
@@ -130,7 +132,7 @@ module _ {text : Bytes} {at top : ℕ} {p₀ p : List ℕ} {e : Expected} (x : E
 -- ---- a member up to its shape
 
 module _
-    (first : Bool) (latest : ℕ) {at : ℕ} {text : Bytes} {p₀ p : List ℕ} (c : Cursor) {m : Named} (r₀ : Placed text p₀ at (c .top) × (c .at < at))
+    (first : Bool) (latest : ℕ) {at : ℕ} {text : Bytes} {p₀ p : List ℕ} (c : Cursor) {m : Named} (r₀ : Text-placed text p₀ at (c .top) × (c .at < at))
     (x : Reads-name text p₀ p at (c .top) m) where
   pub name-refused
       : {place : ℕ} {t : Turn} → m ≡ Named-is.Refused place → t ≡ Stop (Refused 7 place) → Names-member first latest text p₀ p at c t
@@ -239,7 +241,7 @@ module _
           kept = next-kept x;
         })
 
-    pub member-room : Placed text p₀ (c .at) (c .top) → Placed text p (at + 1) (c .top) × (c .at < at + 1)
+    pub member-room : Text-placed text p₀ (c .at) (c .top) → Text-placed text p (at + 1) (c .top) × (c .at < at + 1)
     member-room r₀ = (
       placed-further r₀ (next-kept x) (omega (arith, opened .from)) (opened .within),
       omega (arith, opened .from),
@@ -297,7 +299,7 @@ module _
     closed : Found text (c .at) closing at (at + 1)
     closed = subst (Token-answer text (c .at) p (c .top)) e (x .answer)
 
-    pub behind-room : Placed text p₀ (c .at) (c .top) → Placed text p (at + 1) (c .top)
+    pub behind-room : Text-placed text p₀ (c .at) (c .top) → Text-placed text p (at + 1) (c .top)
     behind-room r₀ = placed-further r₀ (next-kept x) (omega (arith, closed .from)) (closed .within)
 
     pub member-closed

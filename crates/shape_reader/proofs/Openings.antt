@@ -1,5 +1,5 @@
 -- Answers for the bracket, the word and the kinds of a shape. Assumes nothing.
-use Prim.Native.Nat.{ℕ, suc, _+_, _-_, _≤_}
+use Prim.Native.Nat.{ℕ, suc, _+_, _-_}
 use mathlib.Core.Path.{_≡_, refl, sym, ap, _∙_, subst}
 use mathlib.Core.Bool.{true, false}
 use mathlib.Core.List.{List, [], _∷_}
@@ -17,21 +17,22 @@ use Rattle.definitions.specs.ShapeText.{Around, shape-open, shape-word, want, d
 use Rattle.laws.specs.Names.{same-eq, eq-same}
 use Rattle.laws.specs.Bools.{clash}
 use Rattle.shapes.specs.declared.Shape as Kind-set
+use Rattle.tokens.specs.ReadingLaws.{kept-then, placed-further}
 use Rattle.tokens.specs.declared.Token.{Token}
 use Rattle.tokens.specs.declared.Token.the-variants.{Opening, Word}
 use Rattle.tokens.specs.TokenRead.{word-in, Found, Token-answer, Next, place-of}
-use Rattle.tokens.specs.Expecting.{Judges}
 use Rattle.tokens.proofs.Token as Token-type
 use Rattle.shape_reader.specs.declared.reading.Cursor.{Cursor}
 use Rattle.shape_reader.specs.declared.kinds.Kinds.{Kinds}
 use Rattle.shape_reader.specs.declared.kinds.Kinds.the-variants as Kinds-are
 use Rattle.shape_reader.specs.declared.opening.Expected.{Expected}
 use Rattle.shape_reader.specs.declared.opening.Expected.the-variants as Expected-is
-use Rattle.shape_reader.specs.declared.opening.Begun.{Begun}
-use Rattle.shape_reader.specs.declared.opening.Begun.the-variants as Begun-is
-use Rattle.shape_reader.specs.declared.opening.Opened.the-variants as Opened-is
-use Rattle.shape_reader.specs.ShapeParts.{reading, Limited, Placed, Kept, Expected-answer, Expects}
-use Rattle.shape_reader.specs.ShapeParts.{Begun-answer, Begins-shape, Kinds-answer, Reads-kinds, Opens-form}
+use Rattle.shape_reader.specs.declared.opening.ShapeOpening.{ShapeOpening}
+use Rattle.shape_reader.specs.declared.opening.ShapeOpening.the-variants as Opening-is
+use Rattle.shape_reader.specs.declared.opening.ShapeHead.the-variants as Head-is
+use Rattle.tokens.specs.Expecting.{Text-placed, Kept, Judges-full}
+use Rattle.shape_reader.specs.ShapeParts.{reading, Limited, Expected-answer, Expects}
+use Rattle.shape_reader.specs.ShapeParts.{Opening-answer, Begins-shape, Kinds-answer, Reads-kinds, Opens-form}
 use Rattle.shape_reader.proofs.Steps.{shown, goes-on, opens-on, opens-full, misplaced-found, misplaced-read}
 use Rattle.shape_reader.proofs.Steps.{no-opening, no-word, shape-bytes, only-shape, shape-goes}
 
@@ -39,20 +40,6 @@ use Rattle.shape_reader.proofs.Steps.{no-opening, no-word, shape-bytes,
 
 pub next-kept : {text : Bytes} {at top : ℕ} {p₀ p : List ℕ} {r : Token} → Next text at p₀ p top r → Kept p₀ p top
 next-kept x = record { size = x .kept; front = x .front }
-
-pub kept-then : {p₀ p p′ : List ℕ} {top : ℕ} → Kept p₀ p top → Kept p p′ top → Kept p₀ p′ top
-kept-then k m = record { size = m .size ∙ k .size; front = m .front ∙ k .front }
-
-pub placed-further
-    : {text : Bytes} {p₀ p : List ℕ} {at at′ top : ℕ} → Placed text p₀ at top → Kept p₀ p top → at ≤ at′ → at′ ≤ length text
-    → Placed text p at′ top
-placed-further r k h i =
-    record {
-      short = r .short;
-      within = i;
-      texts = omega (arith, r .texts, k .size);
-      small = omega (arith, r .small);
-    }
 
 -- ---- a fixed word
 
@@ -115,7 +102,7 @@ module _
     {text : Bytes} (values left : ℕ) (c : Cursor) {p₀ p : List ℕ} {r : Token} (x : Next text (c .at) p₀ p (c .top) r) where
   pub bracket-missing
       : {place : ℕ} → OneOf (1 ∷ 2 ∷ 3 ∷ 4 ∷ 5 ∷ []) (tagOf Token-type.the-type r) → place ≡ place-of r (length text)
-      → Begins-shape text p₀ p values left c (Begun-is.Refused 7 place)
+      → Begins-shape text p₀ p values left c (Opening-is.Refused 7 place)
   bracket-missing h e =
       record {
         answer = λ l o a.
@@ -127,7 +114,7 @@ module _
     found-bracket : Found text (c .at) opening at (at + 1)
     found-bracket = subst (Token-answer text (c .at) p (c .top)) e (x .answer)
 
-    pub bracket-full : Judges values left (c .begun) true → Begins-shape text p₀ p values left c (Begun-is.Refused 8 at)
+    pub bracket-full : Judges-full values left (c .begun) true → Begins-shape text p₀ p values left c (Opening-is.Refused 8 at)
     unfolding want-step want-open
     bracket-full j =
         record {
@@ -135,18 +122,18 @@ module _
           kept = next-kept x;
         }
 
-    pub bracket-room : Placed text p₀ (c .at) (c .top) → Placed text p (at + 1) (c .top)
+    pub bracket-room : Text-placed text p₀ (c .at) (c .top) → Text-placed text p (at + 1) (c .top)
     bracket-room r₀ =
         placed-further r₀ (next-kept x) (omega (arith, found-bracket .from)) (found-bracket .within)
 
     bracket-read
-        : Judges values left (c .begun) false → (l : Limits) (o : Around) → Limited l o values left
+        : Judges-full values left (c .begun) false → (l : Limits) (o : Around) → Limited l o values left
         → reading l (c .begun) text (want (shape-open o)) (c .at) ≡ reading l (suc (c .begun)) text (want (shape-word o)) (at + 1)
     unfolding want-step want-open
     bracket-read j l o a = opens-on l (c .begun) (shape-open o) found-bracket refl (sym (j .judged l (depth o) (a .most) (a .nests)))
 
-    module _ {p′ : List ℕ} {y : Expected} (j : Judges values left (c .begun) false) (w : Expects text p p′ (at + 1) (c .top) shape-bytes y) where
-      pub shape-begun : {end : ℕ} → y ≡ Expected-is.At end → Begins-shape text p₀ p′ values left c (Begun-is.Behind end)
+    module _ {p′ : List ℕ} {y : Expected} (j : Judges-full values left (c .begun) false) (w : Expects text p p′ (at + 1) (c .top) shape-bytes y) where
+      pub shape-begun : {end : ℕ} → y ≡ Expected-is.At end → Begins-shape text p₀ p′ values left c (Opening-is.Behind end)
       shape-begun {end} f =
           let there = subst (Expected-answer text (at + 1) shape-bytes) f (w .answer) in
           record {
@@ -162,7 +149,7 @@ module _
             kept = kept-then (next-kept x) (w .kept);
           }
 
-      pub shape-missing : {place : ℕ} → y ≡ Expected-is.Missing place → Begins-shape text p₀ p′ values left c (Begun-is.Refused 7 place)
+      pub shape-missing : {place : ℕ} → y ≡ Expected-is.Missing place → Begins-shape text p₀ p′ values left c (Opening-is.Refused 7 place)
       shape-missing {place} f =
           let there = subst (Expected-answer text (at + 1) shape-bytes) f (w .answer) in
           record {
@@ -172,22 +159,22 @@ module _
 
 -- ---- the kinds
 
-module _ {text : Bytes} {values left : ℕ} (c : Cursor) {p₀ p : List ℕ} {b : Begun} (x : Begins-shape text p₀ p values left c b) where
+module _ {text : Bytes} {values left : ℕ} (c : Cursor) {p₀ p : List ℕ} {b : ShapeOpening} (x : Begins-shape text p₀ p values left c b) where
   pub form-refused
-      : {number place : ℕ} → b ≡ Begun-is.Refused number place
-      → Opens-form text p₀ p values left c (Opened-is.Refused number place)
-  form-refused e = record { answer = subst (Begun-answer text values left c) e (x .answer); kept = x .kept }
+      : {number place : ℕ} → b ≡ Opening-is.Refused number place
+      → Opens-form text p₀ p values left c (Head-is.Refused number place)
+  form-refused e = record { answer = subst (Opening-answer text values left c) e (x .answer); kept = x .kept }
 
-  module _ {at : ℕ} (e : b ≡ Begun-is.Behind at) where
-    pub kinds-room : Placed text p₀ (c .at) (c .top) → Placed text p at (c .top)
+  module _ {at : ℕ} (e : b ≡ Opening-is.Behind at) where
+    pub kinds-room : Text-placed text p₀ (c .at) (c .top) → Text-placed text p at (c .top)
     kinds-room r =
-        let y = subst (Begun-answer text values left c) e (x .answer) in placed-further r (x .kept) (y .ahead) (y .within)
+        let y = subst (Opening-answer text values left c) e (x .answer) in placed-further r (x .kept) (y .ahead) (y .within)
 
     module _ {p′ : List ℕ} {k : Kinds} (z : Reads-kinds text p p′ at (c .top) k) where
       pub form-open
-          : {kinds : Kind-set.Shape} {to : ℕ} → k ≡ Kinds-are.Read kinds to → Opens-form text p₀ p′ values left c (Opened-is.Form kinds to)
+          : {kinds : Kind-set.Shape} {to : ℕ} → k ≡ Kinds-are.Read kinds to → Opens-form text p₀ p′ values left c (Head-is.Form kinds to)
       form-open f =
-          let y = subst (Begun-answer text values left c) e (x .answer) in
+          let y = subst (Opening-answer text values left c) e (x .answer) in
           let ks = subst (Kinds-answer text at) f (z .answer) in
           record {
             answer =
@@ -204,9 +191,9 @@ module _ {text : Bytes} {values left : ℕ} (c : Cursor) {p₀ p : List ℕ} {b 
           }
 
       pub kinds-refused
-          : {place : ℕ} → k ≡ Kinds-are.Refused place → Opens-form text p₀ p′ values left c (Opened-is.Refused 7 place)
+          : {place : ℕ} → k ≡ Kinds-are.Refused place → Opens-form text p₀ p′ values left c (Head-is.Refused 7 place)
       kinds-refused f =
-          let y = subst (Begun-answer text values left c) e (x .answer) in
+          let y = subst (Opening-answer text values left c) e (x .answer) in
           let ks = subst (Kinds-answer text at) f (z .answer) in
           record {
             answer = λ l o a. y .run l o a ∙ ks l (suc (c .begun)) o;

@@ -19,8 +19,8 @@ use Rattle.tokens.specs.declared.Token.the-variants.{End}
 use Rattle.tokens.specs.TokenRead.{tokens-from, Token-answer, Next, place-of}
 use Rattle.tokens.proofs.Token as Token-type
 use Rattle.shape_reader.specs.declared.reading.Cursor.{Cursor}
-use Rattle.shape_reader.specs.declared.reading.Part.{Part}
-use Rattle.shape_reader.specs.declared.reading.Part.the-variants.{Done, Refused}
+use Rattle.shape_reader.specs.declared.reading.FormRead.{FormRead}
+use Rattle.shape_reader.specs.declared.reading.FormRead.the-variants.{Done, Refused}
 use Rattle.shape_reader.specs.declared.ShapeRead.the-variants as Shape-is
 use Rattle.shape_reader.specs.ShapeParts.{reading, Limited, Ready, Form-done, Form-answer, Reads-form}
 use Rattle.shape_reader.specs.ShapeReads.{Tables, Reads-shape}
@@ -49,7 +49,7 @@ unfolding depth
 limits-at-start l = record { most = refl; nests = omega arith }
 
 module _
-    {text : Bytes} {s p s′ p′ : List ℕ} {top : ℕ} (l : Limits) {r : Part} (t : Tables text s p top (l .values))
+    {text : Bytes} {s p s′ p′ : List ℕ} {top : ℕ} (l : Limits) {r : FormRead} (t : Tables text s p top (l .values))
     (x : Reads-form (l .nesting) (l .values) text s p s′ p′ 0 (record { at = 0; begun = 0; top = top }) r) where
   pub text-refused
       : {number place : ℕ} → r ≡ Refused number place → Reads-shape l text s p s′ p′ top (Shape-is.Refused number place)

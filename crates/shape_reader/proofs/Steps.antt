@@ -26,7 +26,8 @@ use Rattle.tokens.specs.declared.Token.the-variants.{Opening, Closing, Quoted, 
 use Rattle.tokens.specs.TokenRead.{word-in, Found, Token-answer, Next, place-of}
 use Rattle.tokens.specs.ReadingLaws as Laws
 use Rattle.tokens.proofs.Token as Token-type
-use Rattle.shape_reader.specs.ShapeParts.{reading, Only, Placed as Ready-at}
+use Rattle.tokens.specs.Expecting.{Text-placed as Ready-at}
+use Rattle.shape_reader.specs.ShapeParts.{reading, Only}
 
 -- ---- the pool has room for every token
 

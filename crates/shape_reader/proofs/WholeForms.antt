@@ -14,15 +14,15 @@ use Rattle.shapes.specs.declared.Shape as Kind-set
 use Rattle.shapes.specs.Shapes.{kind-bits, has-bit, head-word, head-of, Shape-rows, shape-rows, Element-rows, Record-rows, no-record-rows, record-rows}
 use Rattle.shapes.specs.ShapesLaws.{element-rows-grow, length-shape-rows}
 use Rattle.shape_reader.specs.declared.reading.Cursor.{Cursor}
-use Rattle.shape_reader.specs.declared.reading.Part.{Part}
-use Rattle.shape_reader.specs.declared.reading.Part.the-variants.{Done, Refused}
-use Rattle.shape_reader.specs.declared.opening.Opened.{Opened}
-use Rattle.shape_reader.specs.declared.opening.Opened.the-variants as Opened-is
-use Rattle.shape_reader.specs.ShapeParts.{reading, Limited, Kinds-held, bits-of, parts, behind, Opens, Opened-answer, Opens-form}
+use Rattle.shape_reader.specs.declared.reading.FormRead.{FormRead}
+use Rattle.shape_reader.specs.declared.reading.FormRead.the-variants.{Done, Refused}
+use Rattle.shape_reader.specs.declared.opening.ShapeHead.{ShapeHead}
+use Rattle.shape_reader.specs.declared.opening.ShapeHead.the-variants as Head-is
+use Rattle.shape_reader.specs.ShapeParts.{reading, Limited, Kinds-held, bits-of, parts, behind, Opens, Head-answer, Opens-form}
 use Rattle.shape_reader.specs.ShapeParts.{Ready, Goes, Reads-form, Element-done, Element-answer, Reads-element, Fields-before}
 use Rattle.shape_reader.specs.ShapeParts.{no-fields-before, field-before, Members-done, Members-answer, Reads-members}
 use Rattle.shape_reader.proofs.KindSets.{with-parts, has-list-kind, has-rec-kind, held-small}
-use Rattle.shape_reader.proofs.Openings.{placed-further}
+use Rattle.tokens.specs.ReadingLaws.{placed-further}
 use Rattle.shape_reader.proofs.Table.{with-row, length-with-row, row-put}
 use Rattle.shape_reader.proofs.Going.{goes-then, ready-then, grown}
 use Rattle.shape_reader.proofs.MemberForms.{fields-read-rows}
@@ -71,19 +71,19 @@ nested-left : {l : Limits} {o : Around} {values left : ℕ} → 0 < left → Lim
 nested-left h a = record { most = a .most; nests = omega (arith, a .nests) }
 
 module _
-    {left values : ℕ} {text : Bytes} {s p₀ p : List ℕ} (name : ℕ) (c : Cursor) {x : Opened} (r₀ : Ready text s p₀ values c)
+    {left values : ℕ} {text : Bytes} {s p₀ p : List ℕ} (name : ℕ) (c : Cursor) {x : ShapeHead} (r₀ : Ready text s p₀ values c)
     (y : Opens-form text p₀ p values left c x) where
   pub open-refused
-      : {number place : ℕ} → x ≡ Opened-is.Refused number place → Reads-form left values text s p₀ s p name c (Refused number place)
+      : {number place : ℕ} → x ≡ Head-is.Refused number place → Reads-form left values text s p₀ s p name c (Refused number place)
   open-refused e =
       record {
-        answer = subst (Opened-answer text values left c) e (y .answer);
+        answer = subst (Head-answer text values left c) e (y .answer);
         sized = record { shapes-kept = refl; pool-kept = y .kept .size };
       }
 
-  module _ {set : Kind-set.Shape} {at : ℕ} (e : x ≡ Opened-is.Form set at) where
+  module _ {set : Kind-set.Shape} {at : ℕ} (e : x ≡ Head-is.Form set at) where
     pub opens : Opens text values left c (set .kinds) at
-    opens = subst (Opened-answer text values left c) e (y .answer)
+    opens = subst (Head-answer text values left c) e (y .answer)
 
     pub inner-ready : Ready text s p values (record { at = at; begun = c .begun + 1; top = c .top })
     inner-ready =
@@ -103,7 +103,7 @@ module _
         ∙ ap (λ (n : ℕ). reading l n text (want (behind (among Kind.list (opens .listed)) (parts (opens .listed) no-list no-fields) o)) at)
         (sym (add-one (c .begun)))
 
-    module _ {s′ p′ : List ℕ} {r : Part}
+    module _ {s′ p′ : List ℕ} {r : FormRead}
         (z : Reads-element (left - 1) values text s p s′ p′ (set .kinds) (record { at = at; begun = c .begun + 1; top = c .top }) r) where
       pub element-refused : {number place : ℕ} → r ≡ Refused number place → Reads-form left values text s p₀ s′ p′ name c r
       element-refused {number} {place} i =
@@ -124,7 +124,7 @@ module _
         pub members-ready : Ready text s′ p′ values mid
         members-ready = ready-then inner-ready (element .goes) (z .sized)
 
-        module _ {s″ p″ : List ℕ} {r′ : Part} (w : Reads-members (left - 1) values text s′ p′ s″ p″ (set .kinds) mid r′) where
+        module _ {s″ p″ : List ℕ} {r′ : FormRead} (w : Reads-members (left - 1) values text s′ p′ s″ p″ (set .kinds) mid r′) where
           pub members-refused : {number place : ℕ} → r′ ≡ Refused number place → Reads-form left values text s p₀ s″ p″ name c r′
           members-refused {number} {place} j =
               subst (Reads-form left values text s p₀ s″ p″ name c) (sym j)

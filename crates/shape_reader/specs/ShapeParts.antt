@@ -18,18 +18,19 @@ use Rattle.definitions.specs.ShapeText.{no-parts, put, depth, build, numeric-fr
 use Rattle.pool.specs.Pool.{words, text-in}
 use Rattle.nodes.specs.Nodes.{Refers}
 use Rattle.shapes.specs.Shapes.{kind-bit, bit, numeric-bits, has-bit, Shape-rows, Element-rows}
+use Rattle.tokens.specs.Expecting.{Text-placed, Kept}
 use Rattle.tokens.specs.TokenRead.{tokens-from, Found}
 use Rattle.shape_reader.specs.declared.reading.Cursor.{Cursor}
-use Rattle.shape_reader.specs.declared.reading.Part.{Part}
-use Rattle.shape_reader.specs.declared.reading.Part.the-variants.{Done, Refused}
+use Rattle.shape_reader.specs.declared.reading.FormRead.{FormRead}
+use Rattle.shape_reader.specs.declared.reading.FormRead.the-variants.{Done, Refused}
 use Rattle.shape_reader.specs.declared.kinds.Kinds.{Kinds}
 use Rattle.shape_reader.specs.declared.kinds.Kinds.the-variants as Kinds-are
 use Rattle.shape_reader.specs.declared.opening.Expected.{Expected}
 use Rattle.shape_reader.specs.declared.opening.Expected.the-variants as Expected-is
-use Rattle.shape_reader.specs.declared.opening.Begun.{Begun}
-use Rattle.shape_reader.specs.declared.opening.Begun.the-variants as Begun-is
-use Rattle.shape_reader.specs.declared.opening.Opened.{Opened}
-use Rattle.shape_reader.specs.declared.opening.Opened.the-variants as Opened-is
+use Rattle.shape_reader.specs.declared.opening.ShapeOpening.{ShapeOpening}
+use Rattle.shape_reader.specs.declared.opening.ShapeOpening.the-variants as Opening-is
+use Rattle.shape_reader.specs.declared.opening.ShapeHead.{ShapeHead}
+use Rattle.shape_reader.specs.declared.opening.ShapeHead.the-variants as Head-is
 use Rattle.shape_reader.specs.declared.members.Named.{Named}
 use Rattle.shape_reader.specs.declared.members.Named.the-variants as Named-is
 use Rattle.shape_reader.specs.declared.members.Turn.{Turn}
@@ -50,18 +51,6 @@ pub record Limited (l : Limits) (o : Around) (values left : ℕ) : Type 0 where
 abbrev pub Only : Want → Tokens.Token → Type 0
 Only w t = (u : Tokens.Token) → (u ≡ t → ⊥) → want-step w u ≡ misplaced
 
--- where reading may go on: the pool has room for every text that may come
-pub record Placed (text : Bytes) (pool : List ℕ) (at top : ℕ) : Type 0 where
-  pub short : length text ≤ 65536
-  pub within : at ≤ length text
-  pub texts : 8 * top + length text ≤ 8 * length pool + at + 1
-  pub small : 8 * top + length text < 524288 + at
-
--- the pool p′ that was p: what stands before word `top` is kept
-pub record Kept (p p′ : List ℕ) (top : ℕ) : Type 0 where
-  pub size : length p′ ≡ length p
-  pub front : take top p′ ≡ take top p
-
 -- ---- a fixed word
 
 -- the word w stands there up to an end; or what stands there is refused wherever only w may stand
@@ -79,7 +68,7 @@ pub record Expects (text : Bytes) (p p′ : List ℕ) (at top : ℕ) (w : Bytes)
 -- ---- the bracket and the word of a shape
 
 -- reading goes on behind the word `shape`, and one shape more is begun
-pub record Begins (text : Bytes) (values left : ℕ) (c : Cursor) (at : ℕ) : Type 0 where
+pub record Shape-begun (text : Bytes) (values left : ℕ) (c : Cursor) (at : ℕ) : Type 0 where
   pub run
       : (l : Limits) (o : Around) → Limited l o values left
       → reading l (c .begun) text (want (shape-open o)) (c .at) ≡ reading l (suc (c .begun)) text (want (kind-word no-parts o)) at
@@ -95,13 +84,13 @@ Form-refused text values left c number place =
     → reading l (c .begun) text (want (shape-open o)) (c .at) ≡ refused number place
 
 -- the bracket and the word of a shape, or a refusal
-abbrev pub Begun-answer : Bytes → (values left : ℕ) → Cursor → Begun → Type 0
-Begun-answer text values left c (Begun-is.Behind at) = Begins text values left c at
-Begun-answer text values left c (Begun-is.Refused number place) = Form-refused text values left c number place
+abbrev pub Opening-answer : Bytes → (values left : ℕ) → Cursor → ShapeOpening → Type 0
+Opening-answer text values left c (Opening-is.Behind at) = Shape-begun text values left c at
+Opening-answer text values left c (Opening-is.Refused number place) = Form-refused text values left c number place
 
 -- the answer r where a shape must begin, and the pool p′ that was p
-pub record Begins-shape (text : Bytes) (p p′ : List ℕ) (values left : ℕ) (c : Cursor) (r : Begun) : Type 0 where
-  pub answer : Begun-answer text values left c r
+pub record Begins-shape (text : Bytes) (p p′ : List ℕ) (values left : ℕ) (c : Cursor) (r : ShapeOpening) : Type 0 where
+  pub answer : Opening-answer text values left c r
   pub kept : Kept p p′ (c .top)
 
 -- ---- kinds
@@ -182,13 +171,13 @@ pub record Opens (text : Bytes) (values left : ℕ) (c : Cursor) (kinds at : ℕ
   pub nested : 0 < left
 
 -- a shape up to its kinds, or a refusal
-abbrev pub Opened-answer : Bytes → (values left : ℕ) → Cursor → Opened → Type 0
-Opened-answer text values left c (Opened-is.Form kinds at) = Opens text values left c (kinds .kinds) at
-Opened-answer text values left c (Opened-is.Refused number place) = Form-refused text values left c number place
+abbrev pub Head-answer : Bytes → (values left : ℕ) → Cursor → ShapeHead → Type 0
+Head-answer text values left c (Head-is.Form kinds at) = Opens text values left c (kinds .kinds) at
+Head-answer text values left c (Head-is.Refused number place) = Form-refused text values left c number place
 
 -- the answer r where a shape must begin, and the pool p′ that was p
-pub record Opens-form (text : Bytes) (p p′ : List ℕ) (values left : ℕ) (c : Cursor) (r : Opened) : Type 0 where
-  pub answer : Opened-answer text values left c r
+pub record Opens-form (text : Bytes) (p p′ : List ℕ) (values left : ℕ) (c : Cursor) (r : ShapeHead) : Type 0 where
+  pub answer : Head-answer text values left c r
   pub kept : Kept p p′ (c .top)
 
 -- ---- names
@@ -288,7 +277,7 @@ pub record Members-end
 
 -- the bracket that ends the shape, or a refusal
 abbrev pub Stopped
-    : (w : Parts → Around → Want) (first : Bool) (latest : ℕ) (text : Bytes) (p : List ℕ) (kinds : ℕ) (c : Cursor) → Part → Type 0
+    : (w : Parts → Around → Want) (first : Bool) (latest : ℕ) (text : Bytes) (p : List ℕ) (kinds : ℕ) (c : Cursor) → FormRead → Type 0
 Stopped w first latest text p kinds c (Done to) = Members-end w first latest text p kinds c to
 Stopped w first latest text p kinds c (Refused number place) =
     (ks : List Kind) (e : Element) (fs : Fields) → Kinds-held ks kinds → Latest (take (c .top) p) fs first latest
@@ -311,7 +300,7 @@ pub record Turns
 
 -- where reading may begin a shape, and the table has its row
 pub record Ready (text : Bytes) (shapes pool : List ℕ) (values : ℕ) (c : Cursor) : Type 0 where
-  pub placed : Placed text pool (c .at) (c .top)
+  pub placed : Text-placed text pool (c .at) (c .top)
   pub rows : 2 * values ≤ length shapes
   pub few : values ≤ 32768
   pub limit : c .begun ≤ values
@@ -342,7 +331,7 @@ pub record Form-done
 
 -- a shape, or a refusal
 abbrev pub Form-answer
-    : (left values : ℕ) (text : Bytes) (shapes pool shapes′ pool′ : List ℕ) (name : ℕ) (c : Cursor) → Part → Type 0
+    : (left values : ℕ) (text : Bytes) (shapes pool shapes′ pool′ : List ℕ) (name : ℕ) (c : Cursor) → FormRead → Type 0
 Form-answer left values text shapes pool shapes′ pool′ name c (Done to) =
     Form-done left values text shapes pool shapes′ pool′ name c to
 Form-answer left values text shapes pool shapes′ pool′ name c (Refused number place) =
@@ -350,7 +339,7 @@ Form-answer left values text shapes pool shapes′ pool′ name c (Refused numbe
 
 -- the answer r where a shape must begin, and the tables that were shapes and pool
 pub record Reads-form
-    (left values : ℕ) (text : Bytes) (shapes pool shapes′ pool′ : List ℕ) (name : ℕ) (c : Cursor) (r : Part) : Type 0 where
+    (left values : ℕ) (text : Bytes) (shapes pool shapes′ pool′ : List ℕ) (name : ℕ) (c : Cursor) (r : FormRead) : Type 0 where
   pub answer : Form-answer left values text shapes pool shapes′ pool′ name c r
   pub sized : Sized shapes pool shapes′ pool′
 
@@ -371,7 +360,7 @@ pub record Element-done
 
 -- an element or none, or a refusal
 abbrev pub Element-answer
-    : (left values : ℕ) (text : Bytes) (shapes pool shapes′ pool′ : List ℕ) (kinds : ℕ) (c : Cursor) → Part → Type 0
+    : (left values : ℕ) (text : Bytes) (shapes pool shapes′ pool′ : List ℕ) (kinds : ℕ) (c : Cursor) → FormRead → Type 0
 Element-answer left values text shapes pool shapes′ pool′ kinds c (Done to) =
     Element-done left values text shapes pool shapes′ pool′ kinds c to
 Element-answer left values text shapes pool shapes′ pool′ kinds c (Refused number place) =
@@ -380,7 +369,7 @@ Element-answer left values text shapes pool shapes′ pool′ kinds c (Refused n
 
 -- the answer r behind the kinds, and the tables that were shapes and pool
 pub record Reads-element
-    (left values : ℕ) (text : Bytes) (shapes pool shapes′ pool′ : List ℕ) (kinds : ℕ) (c : Cursor) (r : Part) : Type 0 where
+    (left values : ℕ) (text : Bytes) (shapes pool shapes′ pool′ : List ℕ) (kinds : ℕ) (c : Cursor) (r : FormRead) : Type 0 where
   pub answer : Element-answer left values text shapes pool shapes′ pool′ kinds c r
   pub sized : Sized shapes pool shapes′ pool′
 
@@ -416,7 +405,7 @@ pub record Members-done
 
 -- the members and the closing bracket, or a refusal
 abbrev pub Members-answer
-    : (left values : ℕ) (text : Bytes) (shapes pool shapes′ pool′ : List ℕ) (kinds : ℕ) (c : Cursor) → Part → Type 0
+    : (left values : ℕ) (text : Bytes) (shapes pool shapes′ pool′ : List ℕ) (kinds : ℕ) (c : Cursor) → FormRead → Type 0
 Members-answer left values text shapes pool shapes′ pool′ kinds c (Done to) =
     Members-done left values text shapes pool shapes′ pool′ kinds c to
 Members-answer left values text shapes pool shapes′ pool′ kinds c (Refused number place) =
@@ -425,7 +414,7 @@ Members-answer left values text shapes pool shapes′ pool′ kinds c (Refused n
 
 -- the answer r behind the element, and the tables that were shapes and pool
 pub record Reads-members
-    (left values : ℕ) (text : Bytes) (shapes pool shapes′ pool′ : List ℕ) (kinds : ℕ) (c : Cursor) (r : Part) : Type 0 where
+    (left values : ℕ) (text : Bytes) (shapes pool shapes′ pool′ : List ℕ) (kinds : ℕ) (c : Cursor) (r : FormRead) : Type 0 where
   pub answer : Members-answer left values text shapes pool shapes′ pool′ kinds c r
   pub sized : Sized shapes pool shapes′ pool′
 

@@ -3,10 +3,10 @@ ghost use Rattle.shape_reader.specs.ShapeParts.{Ready, Reads-form, Reads
 use crate::members::Turn;
 use crate::members::behind_member;
 use crate::members::next_member;
-use crate::opening::Opened;
+use crate::opening::ShapeHead;
 use crate::opening::open_form;
 use crate::reading::Cursor;
-use crate::reading::Part;
+use crate::reading::FormRead;
 use shapes::Shape;
 
 // Reads the element of a shape of these kinds, if it has one, with so much nesting left inside the shape.
@@ -18,7 +18,7 @@ fn read_element(
     left: usize,
     kinds: Shape,
     c: Cursor,
-) -> Part
+) -> FormRead
     requires { ⌜ Ready (now text) (now shapes) (now pool) values c ⌝ }
     ensures read { λ r. ⌜ Reads-element left values (now (text .entry)) (now (shapes .entry)) (now (pool .entry)) (now (shapes .exit))
         (now (pool .exit)) (kinds .kinds) c r ⌝ }
@@ -26,7 +26,7 @@ fn read_element(
     if shapes::has(kinds, Shape::LIST) {
         read_form(text, shapes, pool, values, left, c, 0)
     } else {
-        Part::Done { to: c }
+        FormRead::Done { to: c }
     }
 }
 
@@ -39,7 +39,7 @@ fn read_members(
     left: usize,
     kinds: Shape,
     c: Cursor,
-) -> Part
+) -> FormRead
     requires { ⌜ Ready (now text) (now shapes) (now pool) values c ⌝ }
     ensures read { λ r. ⌜ Reads-members left values (now (text .entry)) (now (shapes .entry)) (now (pool .entry)) (now (shapes .exit))
         (now (pool .exit)) (kinds .kinds) c r ⌝ }
@@ -49,7 +49,7 @@ fn read_members(
         match turn {
             Turn::More { from, name } => {
                 let r = read_form(text, shapes, pool, values, left, from, name);
-                let Part::Done { to } = r else {
+                let FormRead::Done { to } = r else {
                     return r;
                 };
                 turn = behind_member(text, pool, kinds, name, to);
@@ -70,29 +70,29 @@ pub fn read_form(
     left: usize,
     c: Cursor,
     name: u64,
-) -> Part
+) -> FormRead
     requires { ⌜ Ready (now text) (now shapes) (now pool) values c ⌝ }
     ensures read { λ r. ⌜ Reads-form left values (now (text .entry)) (now (shapes .entry)) (now (pool .entry)) (now (shapes .exit))
         (now (pool .exit)) name c r ⌝ }
 {
     match open_form(text, pool, values, left, c) {
-        Opened::Form { kinds, at } => {
+        ShapeHead::Form { kinds, at } => {
             let inner = Cursor {
                 at,
                 begun: c.begun + 1,
                 top: c.top,
             };
             let e = read_element(text, shapes, pool, values, left - 1, kinds, inner);
-            let Part::Done { to: behind } = e else {
+            let FormRead::Done { to: behind } = e else {
                 return e;
             };
             let m = read_members(text, shapes, pool, values, left - 1, kinds, behind);
-            let Part::Done { to } = m else {
+            let FormRead::Done { to } = m else {
                 return m;
             };
             shapes::put_row(shapes, 2 * c.begun, kinds, 2 * (to.begun - c.begun), name);
-            Part::Done { to }
+            FormRead::Done { to }
         }
-        Opened::Refused { number, place } => Part::Refused { number, place },
+        ShapeHead::Refused { number, place } => FormRead::Refused { number, place },
     }
 }

@@ -5,7 +5,8 @@ ghost use lib.ListN.{length};
 ghost use Rattle.definitions.specs.ShapeText.{kind-words};
 ghost use Rattle.definitions.specs.Tokens.{look-word};
 ghost use Rattle.tokens.specs.TokenRead.{word-in};
-ghost use Rattle.shape_reader.specs.ShapeParts.{kind-code, Follows, Placed, Reads-kinds};
+ghost use Rattle.tokens.specs.Expecting.{Text-placed};
+ghost use Rattle.shape_reader.specs.ShapeParts.{kind-code, Follows, Reads-kinds};
 use shapes::Shape;
 use tokens::Token;
 
@@ -59,7 +60,7 @@ pub enum Kinds {
 
 // Reads the kind words behind the word `shape`.
 pub fn read_kinds(text: &[u8], pool: &mut [u64], at: usize, top: usize) -> Kinds
-    requires { ⌜ Placed (now text) (now pool) at top ⌝ }
+    requires { ⌜ Text-placed (now text) (now pool) at top ⌝ }
     ensures read { λ r. ⌜ Reads-kinds (now (text .entry)) (now (pool .entry)) (now (pool .exit)) at top r ⌝ }
 {
     let mut kinds = Shape::NOTHING;

@@ -9,7 +9,7 @@ mod reading; // where reading stands, and what it comes to
 
 use definitions::Limits;
 use reading::Cursor;
-use reading::Part;
+use reading::FormRead;
 use tokens::Token;
 
 // What reading a shape text comes to.
@@ -37,7 +37,7 @@ pub fn read_shape(
         top,
     };
     match forms::read_form(text, shapes, pool, limits.values, limits.nesting, start, 0) {
-        Part::Done { to } => {
+        FormRead::Done { to } => {
             let t = tokens::next(text, to.at, pool, to.top);
             let Token::End = t else {
                 return ShapeRead::Refused {
@@ -50,6 +50,6 @@ pub fn read_shape(
                 top: to.top,
             }
         }
-        Part::Refused { number, place } => ShapeRead::Refused { number, place },
+        FormRead::Refused { number, place } => ShapeRead::Refused { number, place },
     }
 }

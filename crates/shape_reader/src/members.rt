@@ -6,11 +6,12 @@ ghost use lib.ListN.{length, take};
 ghost use Rattle.definitions.specs.Shape.{Fields};
 ghost use Rattle.definitions.specs.ShapeText.{member-open, member-close, name-fits};
 ghost use Rattle.pool.specs.Pool.{text-in};
-ghost use Rattle.shape_reader.specs.ShapeParts.{Placed, Latest, Reads-name, Names-member, Turns};
+ghost use Rattle.tokens.specs.Expecting.{Text-placed};
+ghost use Rattle.shape_reader.specs.ShapeParts.{Latest, Reads-name, Names-member, Turns};
 use crate::opening::Expected;
 use crate::opening::expect;
 use crate::reading::Cursor;
-use crate::reading::Part;
+use crate::reading::FormRead;
 use pool::Comparison;
 use shapes::Shape;
 use tokens::Token;
@@ -44,7 +45,7 @@ pub enum Named {
 
 // Reads the word `member` and a name, which goes into the pool.
 fn read_name(text: &[u8], pool: &mut [u64], at: usize, top: usize) -> Named
-    requires { ⌜ Placed (now text) (now pool) at top ⌝ }
+    requires { ⌜ Text-placed (now text) (now pool) at top ⌝ }
     ensures read { λ r. ⌜ Reads-name (now (text .entry)) (now (pool .entry)) (now (pool .exit)) at top r ⌝ }
 {
     match expect(text, pool, at, top, b"member") {
@@ -64,15 +65,15 @@ fn read_name(text: &[u8], pool: &mut [u64], at: usize, top: usize) -> Named
 // What comes next: a member's shape at a place, under a name; or the answer.
 pub enum Turn {
     More { from: Cursor, name: u64 },
-    Stop { answer: Part },
+    Stop { answer: FormRead },
 }
 
 // What no right text has at a place is refusal 7.
 fn refuse(place: usize) -> Turn
-    ensures made { λ r. ⌜ r ≡ Turn.Stop (Part.Refused 7 place) ⌝ }
+    ensures made { λ r. ⌜ r ≡ Turn.Stop (FormRead.Refused 7 place) ⌝ }
 {
     Turn::Stop {
-        answer: Part::Refused { number: 7, place },
+        answer: FormRead::Refused { number: 7, place },
     }
 }
 
@@ -85,7 +86,7 @@ fn member_shape(
     at: usize,
     c: Cursor,
 ) -> Turn
-    requires { ⌜ Placed (now text) (now pool) at (c .top) × (c .at < at) ⌝ }
+    requires { ⌜ Text-placed (now text) (now pool) at (c .top) × (c .at < at) ⌝ }
     ensures read { λ r. ⌜ Names-member first latest (now (text .entry)) (now (pool .entry)) (now (pool .exit)) at c r ⌝ }
 {
     match read_name(text, pool, at, c.top) {
@@ -119,7 +120,7 @@ pub fn next_member(
     latest: u64,
     c: Cursor,
 ) -> Turn
-    requires { ⌜ Placed (now text) (now pool) (c .at) (c .top) ⌝ }
+    requires { ⌜ Text-placed (now text) (now pool) (c .at) (c .top) ⌝ }
     ensures read { λ r. ⌜ Turns member-open first latest (now (text .entry)) (now (pool .entry)) (now (pool .exit)) (kinds .kinds) c r ⌝ }
 {
     let t = tokens::next(text, c.at, pool, c.top);
@@ -130,7 +131,7 @@ pub fn next_member(
             top: c.top,
         };
         return Turn::Stop {
-            answer: Part::Done { to },
+            answer: FormRead::Done { to },
         };
     }
     let Token::Opening { at } = t else {
@@ -145,7 +146,7 @@ pub fn next_member(
 
 // Goes on behind the shape of the member of the name `latest`.
 pub fn behind_member(text: &[u8], pool: &mut [u64], kinds: Shape, latest: u64, c: Cursor) -> Turn
-    requires { ⌜ Placed (now text) (now pool) (c .at) (c .top) ⌝ }
+    requires { ⌜ Text-placed (now text) (now pool) (c .at) (c .top) ⌝ }
     ensures read { λ r. ⌜ Turns member-close false latest (now (text .entry)) (now (pool .entry)) (now (pool .exit)) (kinds .kinds) c r ⌝ }
 {
     let t = tokens::next(text, c.at, pool, c.top);

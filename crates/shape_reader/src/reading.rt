@@ -10,7 +10,7 @@ pub struct Cursor {
     pub top: usize,
 }
 
-pub enum Part {
+pub enum FormRead {
     // behind a part of a shape
     Done { to: Cursor },
     Refused { number: u64, place: usize },

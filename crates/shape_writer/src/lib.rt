@@ -47,7 +47,7 @@ fn print_members(
 
 // Writes the form of the shape at a row, with so many forms around it, from a place on where the output has room for all
 // of it, and answers the place behind it.
-pub fn write_form(
+fn write_form(
     out: &mut [u8],
     at: usize,
     shapes: &[u64],
@@ -73,7 +73,7 @@ pub fn write_form(
 }
 
 // How long the form of the shape at a row is, with so many forms around it: printed where there is no room.
-pub fn form_length(shapes: &[u64], row: usize, pool: &[u64], around: usize) -> usize
+fn form_length(shapes: &[u64], row: usize, pool: &[u64], around: usize) -> usize
     requires { ⌜ Printable (now shapes) (now pool) row 0 around ⌝ }
     ensures measured { λ r. ⌜ Length-of-form (now (shapes .entry)) (now (pool .entry)) row around r ⌝ }
 {
@@ -82,7 +82,7 @@ pub fn form_length(shapes: &[u64], row: usize, pool: &[u64], around: usize) -> u
 }
 
 // Whether the shape at a row is nested deeper than so many levels.
-pub fn is_deeper(shapes: &[u64], row: usize, left: usize) -> bool
+fn is_deeper(shapes: &[u64], row: usize, left: usize) -> bool
     requires { ⌜ Standing (now shapes) row ⌝ }
     ensures told { λ r. ⌜ Tells-deeper (now (shapes .entry)) row left r ⌝ }
 {

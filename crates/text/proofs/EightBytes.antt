@@ -14,8 +14,8 @@ use Rattle.pool.specs.Pool.{unpacked, pool-bytes, words, text-in}
 use Rattle.pool.specs.PoolLaws.{pool-bytes-append, take-pool-bytes, drop-pool-bytes}
 use Rattle.text.specs.TextRun.{text-run}
 use Rattle.text.specs.TextRead.{Padded}
-use Rattle.text.specs.TextParts.{stands, Stand, Word-ahead, Puts, Piece-read}
-use Rattle.text.proofs.Tables.{stands-itself}
+use Rattle.text.specs.TextParts.{plain-ascii, Stand, Word-ahead, Puts, Piece-read}
+use Rattle.text.proofs.Tables.{plain-ascii-itself}
 use Rattle.text.proofs.Escaped.{escaped-none, one-plain, itself-cons}
 use Rattle.text.proofs.Reading.{itself-run, piece-wide}
 use Rattle.laws.specs.Bools.{and-two}
@@ -119,13 +119,13 @@ puts-word p w n x s z room e l =
 -- ---- that they stand for themselves
 
 pub stand-four
-    : (doc : Bytes) (i : ℕ) (a b c d : Bool) → a ≡ stands (getD doc i 0) → b ≡ stands (getD doc (i + 1) 0)
-    → c ≡ stands (getD doc (i + 2) 0)
-    → d ≡ stands (getD doc (i + 3) 0)
+    : (doc : Bytes) (i : ℕ) (a b c d : Bool) → a ≡ plain-ascii (getD doc i 0) → b ≡ plain-ascii (getD doc (i + 1) 0)
+    → c ≡ plain-ascii (getD doc (i + 2) 0)
+    → d ≡ plain-ascii (getD doc (i + 3) 0)
     → ((a && b) && c) && d ≡ true
     → Stand doc i 4
 stand-four doc i a b c d x y z w e zero h =
-    subst (λ (k : ℕ). stands (getD doc k 0) ≡ true) (let f : i ≡ i + 0 = omega arith in f)
+    subst (λ (k : ℕ). plain-ascii (getD doc k 0) ≡ true) (let f : i ≡ i + 0 = omega arith in f)
     (sym x ∙ and-two a b (and-two (a && b) c (and-two ((a && b) && c) d e .0) .0) .0)
 stand-four doc i a b c d x y z w e (suc zero) h = sym y ∙ and-two a b (and-two (a && b) c (and-two ((a && b) && c) d e .0) .0) .1
 stand-four doc i a b c d x y z w e (suc (suc zero)) h = sym z ∙ and-two (a && b) c (and-two ((a && b) && c) d e .0) .1
@@ -135,19 +135,19 @@ stand-four doc i a b c d x y z w e (suc (suc (suc (suc j)))) h = absurd (let f :
 pub stand-eight : (doc : Bytes) (i : ℕ) → Stand doc i 4 → Stand doc (i + 4) 4 → Stand doc i 8
 stand-eight doc i f g j h = split (decLt j 4)
   where
-    split : Dec (j < 4) → stands (getD doc (i + j) 0) ≡ true
+    split : Dec (j < 4) → plain-ascii (getD doc (i + j) 0) ≡ true
     split (yes k) = f j k
     split (no k) =
-        subst (λ (x : ℕ). stands (getD doc x 0) ≡ true) (let e : i + 4 + (j - 4) ≡ i + j = omega arith in e) (g (j - 4) (omega arith))
+        subst (λ (x : ℕ). plain-ascii (getD doc x 0) ≡ true) (let e : i + 4 + (j - 4) ≡ i + j = omega arith in e) (g (j - 4) (omega arith))
 
 -- ---- reading over them
 
 module _ (doc : Bytes) where
   stand-later : (i k : ℕ) → Stand doc i (suc k) → Stand doc (i + 1) k
-  stand-later i k t j h = subst (λ (x : ℕ). stands (getD doc x 0) ≡ true) (omega arith) (t (suc j) (omega arith))
+  stand-later i k t j h = subst (λ (x : ℕ). plain-ascii (getD doc x 0) ≡ true) (omega arith) (t (suc j) (omega arith))
 
-  stand-first : (i k : ℕ) → Stand doc i (suc k) → stands (getD doc i 0) ≡ true
-  stand-first i k t = subst (λ (x : ℕ). stands (getD doc x 0) ≡ true) (omega arith) (t 0 (omega arith))
+  stand-first : (i k : ℕ) → Stand doc i (suc k) → plain-ascii (getD doc i 0) ≡ true
+  stand-first i k t = subst (λ (x : ℕ). plain-ascii (getD doc x 0) ≡ true) (omega arith) (t 0 (omega arith))
 
   stand-run
       : (k i : ℕ) → Stand doc i k → i + k ≤ length doc → (acc : Bytes)
@@ -165,7 +165,7 @@ module _ (doc : Bytes) where
   stand-cost (suc k) i t h =
       ap (λ (s : Bytes). length (escaped-all s)) (part doc i k (omega arith))
       ∙ itself-cons (take k (drop (i + 1) doc)) (getD doc i 0) k (stand-cost k (i + 1) (stand-later i k t) (omega arith))
-      (let s = stands-itself (getD doc i 0) (stand-first i k t) in one-plain (getD doc i 0) (s .from) (s .no-quote) (s .no-backslash))
+      (let s = plain-ascii-itself (getD doc i 0) (stand-first i k t) in one-plain (getD doc i 0) (s .from) (s .no-quote) (s .no-backslash))
       ∙ omega arith
 
   pub piece-eight

@@ -17,9 +17,9 @@ use Rattle.pool.specs.Pool.{words, text-in, Put}
 use Rattle.pool.specs.PoolLaws.{words-mono, words-room, words-bytes, text-in-zero, length-text-in}
 use Rattle.text.specs.TextRun.{ended, text-run}
 use Rattle.text.specs.TextRead.{Padded, Reads-text}
-use Rattle.text.specs.TextParts.{stands, escape-value, Breaks, Code-read, Wide-read, Keeps, Puts, Piece-read, Piece-broken}
+use Rattle.text.specs.TextParts.{plain-ascii, escape-value, Breaks, Code-read, Wide-read, Keeps, Puts, Piece-read, Piece-broken}
 use Rattle.text.specs.declared.TextRead.the-variants.{Closed, Broken}
-use Rattle.text.proofs.Tables.{Escape, no-escape, by-number, by-letter, escape-of, Itself, stands-itself}
+use Rattle.text.proofs.Tables.{Escape, no-escape, by-number, by-letter, escape-of, Itself, plain-ascii-itself}
 use Rattle.text.proofs.Places.{getD-within, byte-within, more-at, wrong-at, closed-at, end-at}
 use Rattle.text.proofs.Surrogates.{breaks-behind}
 use Rattle.text.proofs.Escaped.{escaped-append, escaped-none, escaped-one, one-plain, length-plain, length-encode, cost-encode}
@@ -183,30 +183,30 @@ module _ (doc : Bytes) (i : ℕ) (l : i < length doc) (e : getD doc i 0 ≡ 0x5C
 -- ---- a byte that stands for itself
 
 pub itself-run
-    : (doc : Bytes) (i : ℕ) → i < length doc → stands (getD doc i 0) ≡ true → (acc : Bytes)
+    : (doc : Bytes) (i : ℕ) → i < length doc → plain-ascii (getD doc i 0) ≡ true → (acc : Bytes)
     → text-run Inside.chars acc (drop i doc) ≡ text-run Inside.chars (getD doc i 0 ∷ acc) (drop (i + 1) doc)
 unfolding text-step char-step
 itself-run doc i l t acc = more-at Inside.chars acc doc i l (ap (text-step Inside.chars acc) (getD-within doc i 256 0 l) ∙ step)
   where
     s : Itself (getD doc i 0)
-    s = stands-itself (getD doc i 0) t
+    s = plain-ascii-itself (getD doc i 0) t
 
     step : text-step Inside.chars acc (getD doc i 0) ≡ more Inside.chars (getD doc i 0 ∷ acc)
     step = rw (ne-is "\"" (s .no-quote), ne-is "\\" (s .no-backslash), in-between (record { from = s .from; to = s .to }), text-step, char-step)
 
 pub piece-itself
-    : (doc : Bytes) (i : ℕ) (p p′ : List ℕ) (w n b : ℕ) → i < length doc → b ≡ getD doc i 0 → stands b ≡ true
+    : (doc : Bytes) (i : ℕ) (p p′ : List ℕ) (w n b : ℕ) → i < length doc → b ≡ getD doc i 0 → plain-ascii b ≡ true
     → Put p p′ (8 * w + n) b → (8 * w + n) / 8 < length p
     → Piece-read doc i p p′ w n (i + 1) (n + 1) 1
 piece-itself doc i p p′ w n b l e t h r =
     piece-byte doc i p p′ w n (i + 1) b 1 h r run (one-plain b (s .from) (s .no-quote) (s .no-backslash)) (omega arith) (omega arith) (omega arith)
   where
     s : Itself b
-    s = stands-itself b t
+    s = plain-ascii-itself b t
 
     run : (acc : Bytes) → text-run Inside.chars acc (drop i doc) ≡ text-run Inside.chars (b ∷ acc) (drop (i + 1) doc)
     run acc =
-        itself-run doc i l (ap stands (sym e) ∙ t) acc ∙ ap (λ (x : ℕ). text-run Inside.chars (x ∷ acc) (drop (i + 1) doc)) (sym e)
+        itself-run doc i l (ap plain-ascii (sym e) ∙ t) acc ∙ ap (λ (x : ℕ). text-run Inside.chars (x ∷ acc) (drop (i + 1) doc)) (sym e)
 
 -- ---- the loop
 

@@ -19,7 +19,7 @@ use Rattle.laws.specs.Rfc8259 as Rfc
 use Rattle.laws.specs.Bools.{clash, and-left, and-right, not-true}
 use Rattle.laws.specs.StringRows.{Escapes, short-escape, hex-escape, hit-escapes, hit-hexdig}
 use Rattle.laws.specs.StringSound.{hexdig-under}
-use Rattle.text.specs.TextParts.{stands, hex-value, escape-value}
+use Rattle.text.specs.TextParts.{plain-ascii, hex-value, escape-value}
 
 -- ---- look
 
@@ -135,26 +135,26 @@ escape-of b = go (look escape-table b) refl
 
 -- ---- bytes that stand for themselves
 
-stands-out : (b : ℕ) → (In 0x20 0x7F b → ⊥) → false ≡ stands b
-unfolding stands
-stands-out b f = let o : between 0x20 0x7F b ≡ false = out-between f in rw (o, stands)
+plain-ascii-out : (b : ℕ) → (In 0x20 0x7F b → ⊥) → false ≡ plain-ascii b
+unfolding plain-ascii
+plain-ascii-out b f = let o : between 0x20 0x7F b ≡ false = out-between f in rw (o, plain-ascii)
 
-pub stands-low : (b : ℕ) → b < 0x20 → false ≡ stands b
-stands-low b h = stands-out b (omega arith)
+pub plain-ascii-low : (b : ℕ) → b < 0x20 → false ≡ plain-ascii b
+plain-ascii-low b h = plain-ascii-out b (omega arith)
 
-pub stands-high : (b : ℕ) → 0x7F < b → false ≡ stands b
-stands-high b h = stands-out b (omega arith)
+pub plain-ascii-high : (b : ℕ) → 0x7F < b → false ≡ plain-ascii b
+plain-ascii-high b h = plain-ascii-out b (omega arith)
 
-pub stands-last : (b : ℕ) → 0x20 ≤ b → b ≤ 0x7F → (b ≡ 0x22 → ⊥) → not (eqb b 0x5C) ≡ stands b
-unfolding stands
-stands-last b l h q =
+pub plain-ascii-last : (b : ℕ) → 0x20 ≤ b → b ≤ 0x7F → (b ≡ 0x22 → ⊥) → not (eqb b 0x5C) ≡ plain-ascii b
+unfolding plain-ascii
+plain-ascii-last b l h q =
     let i : between 0x20 0x7F b ≡ true = in-between (record { from = l; to = h }) in
     let e : eqb b 0x22 ≡ false = ne-eqb q in
-    rw (i, e, stands)
+    rw (i, e, plain-ascii)
 
-pub stands-quote : false ≡ stands 0x22
-unfolding stands between
-stands-quote = refl
+pub plain-ascii-quote : false ≡ plain-ascii 0x22
+unfolding plain-ascii between
+plain-ascii-quote = refl
 
 -- what a byte that stands for itself is
 pub record Itself (b : ℕ) : Type 0 where
@@ -163,9 +163,9 @@ pub record Itself (b : ℕ) : Type 0 where
   pub no-quote : b ≡ 0x22 → ⊥
   pub no-backslash : b ≡ 0x5C → ⊥
 
-pub stands-itself : (b : ℕ) → stands b ≡ true → Itself b
-unfolding stands
-stands-itself b e =
+pub plain-ascii-itself : (b : ℕ) → plain-ascii b ≡ true → Itself b
+unfolding plain-ascii
+plain-ascii-itself b e =
     let r = between 0x20 0x7F b in
     let q = not (eqb b 0x22) in
     let s = not (eqb b 0x5C) in
@@ -178,16 +178,16 @@ stands-itself b e =
     }
 
 -- neither that, nor a quote, nor a backslash: outside ASCII from the space on
-pub stands-outside : (b : ℕ) → stands b ≡ false → (b ≡ 0x22 → ⊥) → (b ≡ 0x5C → ⊥) → between 0x20 0x7F b ≡ false
-unfolding stands
-stands-outside b e q n = go (between 0x20 0x7F b) refl
+pub plain-ascii-outside : (b : ℕ) → plain-ascii b ≡ false → (b ≡ 0x22 → ⊥) → (b ≡ 0x5C → ⊥) → between 0x20 0x7F b ≡ false
+unfolding plain-ascii
+plain-ascii-outside b e q n = go (between 0x20 0x7F b) refl
   where
     go : (t : Bool) → between 0x20 0x7F b ≡ t → between 0x20 0x7F b ≡ false
     go false f = f
     go true f =
         let x : eqb b 0x22 ≡ false = ne-eqb q in
         let y : eqb b 0x5C ≡ false = ne-eqb n in
-        clash (let z : stands b ≡ true = rw (f, x, y, stands) in z) e
+        clash (let z : plain-ascii b ≡ true = rw (f, x, y, plain-ascii) in z) e
 
 -- ---- lists
 

@@ -25,12 +25,12 @@ use Rattle.text.specs.declared.pieces.Piece.the-variants.{Went, Stopped}
 -- ---- bytes
 
 -- a byte of ASCII that stands for itself between characters
-unfoldable pub stands : ℕ → Bool
-stands b = between 0x20 0x7F b && not (eqb b 0x22) && not (eqb b 0x5C)
+unfoldable pub plain-ascii : ℕ → Bool
+plain-ascii b = between 0x20 0x7F b && not (eqb b 0x22) && not (eqb b 0x5C)
 
 -- k bytes from place i on do
 abbrev pub Stand : Bytes → (i k : ℕ) → Type 0
-Stand doc i k = (j : ℕ) → j < k → stands (getD doc (i + j) 0) ≡ true
+Stand doc i k = (j : ℕ) → j < k → plain-ascii (getD doc (i + j) 0) ≡ true
 
 -- behind n bytes, which fill whole words, the next eight stand for themselves
 pub record Word-ahead (doc : Bytes) (i n : ℕ) : Type 0 where

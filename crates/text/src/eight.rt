@@ -6,14 +6,14 @@ ghost use Prim.Native.Nat.{_+_, _%_, _≤_};
 ghost use lib.ListN.{length, take, drop};
 ghost use Rattle.pool.specs.Pool.{unpacked, words};
 ghost use Rattle.text.specs.TextParts.{Puts, Stand, Word-ahead};
-use super::escape::stands;
+use super::escape::is_plain_ascii;
 
 // Whether four bytes stand for themselves. No test waits for another, so that they are made at once.
 fn four_stand(doc: &[u8], i: usize) -> bool
     requires { ⌜ i + 4 ≤ length (now doc) ⌝ }
     ensures told { λ r. ⌜ (r ≡ true → Stand (now (doc .entry)) i 4) ⌝ }
 {
-    stands(doc[i]) & stands(doc[i + 1]) & stands(doc[i + 2]) & stands(doc[i + 3])
+    is_plain_ascii(doc[i]) & is_plain_ascii(doc[i + 1]) & is_plain_ascii(doc[i + 2]) & is_plain_ascii(doc[i + 3])
 }
 
 // Whether eight do.

@@ -5,12 +5,12 @@ ghost use mathlib.Core.List.{[], _∷_};
 ghost use Prim.Native.Nat.{_+_, _≤_, _<_};
 ghost use lib.ListN.{length};
 ghost use Rattle.definitions.specs.Plain.{hex-digit, escaped};
-ghost use Rattle.text.specs.TextParts.{stands, short-form, hex-escape};
+ghost use Rattle.text.specs.TextParts.{plain-ascii, short-form, hex-escape};
 ghost use Rattle.text.specs.Writes.{Writes};
 
 // Whether b is a byte of ASCII that stands for itself.
-pub fn stands(b: u8) -> bool
-    ensures judged { λ r. ⌜ r ≡ stands b ⌝ }
+pub fn is_plain_ascii(b: u8) -> bool
+    ensures judged { λ r. ⌜ r ≡ plain-ascii b ⌝ }
 {
     if b < b' ' {
         return false;
@@ -41,7 +41,7 @@ fn short_form(b: u8) -> u8
 }
 
 // Whether b is written as it is.
-fn is_itself(b: u8) -> bool
+fn needs_no_escape(b: u8) -> bool
     ensures told { λ r. ⌜ (r ≡ true → escaped b ≡ b ∷ []) ⌝ }
 {
     if b < 0x20 {
@@ -57,7 +57,7 @@ fn is_itself(b: u8) -> bool
 pub fn cost(b: u8) -> usize
     ensures counted { λ r. ⌜ r ≡ length (escaped b) ⌝ }
 {
-    if is_itself(b) {
+    if needs_no_escape(b) {
         return 1;
     }
     if short_form(b) != 0 {
@@ -111,7 +111,7 @@ pub fn write_byte(out: &mut [u8], at: usize, b: u8) -> usize
     requires { ⌜ at + length (escaped b) ≤ length (now out) ⌝ }
     ensures written { λ r. ⌜ Writes (now (out .entry)) (now (out .exit)) at (escaped b) r ⌝ }
 {
-    if is_itself(b) {
+    if needs_no_escape(b) {
         out[at] = b;
         return at + 1;
     }

@@ -1,6 +1,6 @@
 // JSON texts (RFC 8259 section 7): read from a document, decoded into the pool, and written from the pool as plain JSON.
 ghost use mathlib.Core.Path.{_≡_};
-ghost use Prim.Native.Nat.{_+_, _-_, _^_, _≤_, _<_, min};
+ghost use Prim.Native.Nat.{_+_, _-_, _^_, _≤_, _<_};
 ghost use lib.ListN.{length, take};
 ghost use Rattle.definitions.specs.Plain.{escaped-all, plain-text};
 ghost use Rattle.pool.specs.Pool.{unpacked, words, text-in};
@@ -53,7 +53,7 @@ pub fn read_text(doc: &[u8], at: usize, pool: &mut [u64], w: usize) -> TextRead
                 written,
             };
         }
-        if escape::stands(b) {
+        if escape::is_plain_ascii(b) {
             pool::put_byte(pool, 8 * w + n, b);
             i += 1;
             n += 1;
@@ -72,13 +72,6 @@ pub fn read_text(doc: &[u8], at: usize, pool: &mut [u64], w: usize) -> TextRead
         }
     }
     TextRead::Broken { place: i }
-}
-
-// At most eight.
-fn eight_of(n: usize) -> usize
-    ensures chosen { λ r. ⌜ r ≡ min 8 n ⌝ }
-{
-    if n < 8 { n } else { 8 }
 }
 
 // How long the first n bytes of a word are in plain JSON.
@@ -105,7 +98,7 @@ pub fn text_length(pool: &[u64], w: usize, n: usize) -> usize
     let mut written: usize = 2;
     let mut i: usize = 0;
     while 8 * i < n {
-        written += word_length(pool[w + i], eight_of(n - 8 * i));
+        written += word_length(pool[w + i], pool::least(8, n - 8 * i));
         i += 1;
     }
     written
@@ -136,7 +129,7 @@ pub fn write_text(out: &mut [u8], at: usize, pool: &[u64], w: usize, n: usize) -
     let mut j = at + 1;
     let mut k: usize = 0;
     while 8 * k < n {
-        j = write_word(out, j, pool[w + k], eight_of(n - 8 * k));
+        j = write_word(out, j, pool[w + k], pool::least(8, n - 8 * k));
         k += 1;
     }
     out[j] = b'"';

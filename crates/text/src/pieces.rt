@@ -7,7 +7,7 @@ ghost use Rattle.definitions.specs.Bytes.{between};
 ghost use Rattle.definitions.specs.Utf8.{encode};
 ghost use Rattle.definitions.specs.Plain.{escaped-all};
 ghost use Rattle.pool.specs.Pool.{words};
-ghost use Rattle.text.specs.TextParts.{stands, escape-value, Puts, Reads-piece, Room};
+ghost use Rattle.text.specs.TextParts.{plain-ascii, escape-value, Puts, Reads-piece, Room};
 use super::escape::cost;
 use super::unicode::Code;
 use super::unicode::encoded;
@@ -131,7 +131,7 @@ fn read_escape(doc: &[u8], i: usize, pool: &mut [u64], w: usize, n: usize) -> Pi
 
 // What stands at place i, where neither the closing quote nor a byte that stands for itself does.
 pub fn read_piece(doc: &[u8], i: usize, pool: &mut [u64], w: usize, n: usize) -> Piece
-    requires { ⌜ Room (now doc) i (now pool) w n × (stands (getD (now doc) i 0) ≡ false) × (getD (now doc) i 0 ≡ 0x22 → ⊥) ⌝ }
+    requires { ⌜ Room (now doc) i (now pool) w n × (plain-ascii (getD (now doc) i 0) ≡ false) × (getD (now doc) i 0 ≡ 0x22 → ⊥) ⌝ }
     ensures read { λ r. ⌜ Reads-piece (now (doc .entry)) i (now (pool .entry)) (now (pool .exit)) w n r ⌝ }
 {
     if doc[i] == 0x5C {

@@ -18,7 +18,7 @@ use Rattle.laws.specs.Bools.{clash}
 use Rattle.tokens.specs.declared.Token.{Token}
 use Rattle.tokens.specs.declared.Token.the-variants.{Opening, Closing, Quoted, Word, Broken, End}
 use Rattle.tokens.specs.TokenRead.{tokens-from, Found, Token-answer, Next, place-of}
-use Rattle.tokens.specs.Expecting.{Sort, an-opening, a-closing, a-text, a-word, a-break, sort, Lacks, another, none-left, Kept, More-at, Judges}
+use Rattle.tokens.specs.Expecting.{Sort, an-opening, a-closing, a-text, a-word, a-break, sort, Lacks, another, none-left, Kept, More-at, Judges-full}
 use Rattle.tokens.proofs.Token as Token-type
 
 pub next-kept : {text : Bytes} {at w : ℕ} {p₀ p : List ℕ} {r : Token} → Next text at p₀ p w r → Kept p₀ p w
@@ -100,12 +100,12 @@ module _ (l : Limits) (d left : ℕ) {values : ℕ} (n : ℕ) (most : l .values 
   full-values : values ≤ n → true ≡ over l (suc n) (suc d)
   full-values h = rw (lt-ltb (l .values) (suc n) (omega (arith, most)))
 
-pub judges-nesting : {values left begun : ℕ} → begun < values → Judges values left begun (eqb left 0)
+pub judges-nesting : {values left begun : ℕ} → begun < values → Judges-full values left begun (eqb left 0)
 judges-nesting {left} {begun} h =
     record {
       judged = λ l d m k. full-nesting l d left begun m k h;
       within = λ e. (h, let k : left ≡ 0 → ⊥ = eqb-false left 0 e in omega arith);
     }
 
-pub judges-values : {values begun : ℕ} (left : ℕ) → values ≤ begun → Judges values left begun true
+pub judges-values : {values begun : ℕ} (left : ℕ) → values ≤ begun → Judges-full values left begun true
 judges-values {begun} left h = record { judged = λ l d m k. full-values l d left begun m k h; within = λ e. clash refl e }

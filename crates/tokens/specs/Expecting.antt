@@ -1,5 +1,5 @@
 -- What the functions answer that expect a token of one sort. Assumes nothing.
-use Prim.Native.Nat.{ℕ, suc, _+_, _<_}
+use Prim.Native.Nat.{ℕ, suc, _+_, _*_, _≤_, _<_}
 use mathlib.Core.Path.{_≡_}
 use mathlib.Core.Bool.{Bool, false}
 use mathlib.Core.List.{List, [], _∷_}
@@ -41,6 +41,13 @@ pub data Lacks (k : Sort) (text : Bytes) (at place : ℕ) : Type 0 where
 pub record Kept (p p′ : List ℕ) (w : ℕ) : Type 0 where
   pub size : length p′ ≡ length p
   pub front : take w p′ ≡ take w p
+
+-- where reading may go on: the pool has room for every text that may come
+pub record Text-placed (text : Bytes) (pool : List ℕ) (at top : ℕ) : Type 0 where
+  pub short : length text ≤ 65536
+  pub within : at ≤ length text
+  pub texts : 8 * top + length text ≤ 8 * length pool + at + 1
+  pub small : 8 * top + length text < 524288 + at
 
 -- ---- brackets
 
@@ -93,6 +100,6 @@ pub record Expects-end (text : Bytes) (at : ℕ) (p p′ : List ℕ) (w : ℕ) (
 -- ---- limits
 
 -- whether a form that begins now is one too many or, with d forms around it, too deep
-pub record Judges (values left begun : ℕ) (r : Bool) : Type 0 where
+pub record Judges-full (values left begun : ℕ) (r : Bool) : Type 0 where
   pub judged : (l : Limits) (d : ℕ) → l .values ≡ values → d + left ≡ l .nesting → r ≡ over l (suc begun) (suc d)
   pub within : r ≡ false → (begun < values) × (0 < left)

@@ -1,9 +1,10 @@
 -- How reading a text of forms goes over one token, by any grammar's steps. Assumes nothing.
-use Prim.Native.Nat.{ℕ, suc}
+use Prim.Native.Nat.{ℕ, suc, _≤_}
 use mathlib.Core.Path.{_≡_, refl, sym, ap, _∙_}
 use mathlib.Core.Bool.{true, false}
 use mathlib.Core.List.{List, [], _∷_}
 use mathlib.Core.Option.{Option, none}
+use native.Mathlib.Omega.{arith}
 use lib.ListN.{length}
 use Rattle.definitions.specs.declared.Limits.{Limits}
 use Rattle.definitions.specs.Limits.{over}
@@ -12,7 +13,7 @@ use Rattle.definitions.specs.Outcome.{Outcome, refused}
 use Rattle.definitions.specs.Tokens.{Token, opening, closing, quoted, word, broken, at-place, Placed, Step, misplaced, go, opens, want-open}
 use Rattle.definitions.specs.Tokens.{want-close, want-text, want-word, judge-step, or-end, read-tokens}
 use Rattle.tokens.specs.TokenRead.{tokens-from, Found}
-use Rattle.tokens.specs.Expecting.{Sort, an-opening, a-closing, a-text, a-word, sort, Lacks, another, none-left, Kept, More-at}
+use Rattle.tokens.specs.Expecting.{Sort, an-opening, a-closing, a-text, a-word, sort, Lacks, another, none-left, Kept, Text-placed, More-at}
 
 pub kept-then : {p₀ p p′ : List ℕ} {w : ℕ} → Kept p₀ p w → Kept p p′ w → Kept p₀ p′ w
 kept-then k m = record { size = m .size ∙ k .size; front = m .front ∙ k .front }
@@ -120,3 +121,16 @@ module _ {Q : Type 0} where
   no-word (quoted u) f h = refl
   no-word (word w) f h = absurd (h refl)
   no-word broken f h = refl
+
+-- ---- where reading may go on
+
+pub placed-further
+    : {text : Bytes} {p₀ p : List ℕ} {at at′ top : ℕ} → Text-placed text p₀ at top → Kept p₀ p top → at ≤ at′ → at′ ≤ length text
+    → Text-placed text p at′ top
+placed-further r k h i =
+    record {
+      short = r .short;
+      within = i;
+      texts = omega (arith, r .texts, k .size);
+      small = omega (arith, r .small);
+    }

@@ -2,7 +2,7 @@
 ghost use Prim.Native.Nat.{_+_, _-_, _≤_};
 ghost use lib.ListN.{length};
 ghost use Rattle.pool.specs.Pool.{words};
-ghost use Rattle.tokens.specs.Expecting.{Expects-opening, Expects-closing, Expects-word, Expects-text, Expects-end, Judges};
+ghost use Rattle.tokens.specs.Expecting.{Expects-opening, Expects-closing, Expects-word, Expects-text, Expects-end, Judges-full};
 use crate::Token;
 use crate::next;
 use crate::place;
@@ -116,7 +116,7 @@ pub fn next_end(text: &[u8], at: usize, pool: &mut [u64], w: usize) -> Ending
 
 // Whether a form that begins here is one too many or too deep: refusal 8.
 pub fn is_full(values: usize, left: usize, begun: usize) -> bool
-    ensures judged { λ r. ⌜ Judges values left begun r ⌝ }
+    ensures judged { λ r. ⌜ Judges-full values left begun r ⌝ }
 {
     if begun < values { left == 0 } else { true }
 }

@@ -18,11 +18,21 @@ static int shapes_are_known(void)
         && answer[RUNVESTOL_YES_AT] == 0;
 }
 
+/* A reader that keeps what it is given has the shape that it is checked against. */
+static int readers_are_known(void)
+{
+    static const uint8_t reader[] = "(keep (it 0))", shape[] = "(shape null)";
+    const size_t length = sizeof reader - 1, shape_length = sizeof shape - 1;
+    uint8_t output[20], answer[RUNVESTOL_ANSWER_BYTES];
+    return runvestol_check(reader, length, shape, shape_length, output, sizeof output, answer, sizeof answer) == RUNVESTOL_OK
+        && answer[RUNVESTOL_LENGTH_AT] == sizeof "(shape null)\n" - 1;
+}
+
 int main(void)
 {
     uint8_t output[1], answer[RUNVESTOL_ANSWER_BYTES];
     uint64_t number = runvestol_plain((const uint8_t *)"7", 1, output, 1, answer, sizeof answer);
     if (number != RUNVESTOL_OK || output[0] != '7')
         return 1;
-    return shapes_are_known() ? 0 : 1;
+    return shapes_are_known() && readers_are_known() ? 0 : 1;
 }

@@ -3,7 +3,7 @@
 
 int main()
 {
-    const uint8_t document[] = {'7'}, shape[] = {'(', 's', 'h', 'a', 'p', 'e', ')'};
+    const uint8_t document[] = {'7'}, shape[] = {'(', 's', 'h', 'a', 'p', 'e', ')'}, reader[] = {'(', 'n', 'o', ')'};
     uint8_t output[1], answer[RUNVESTOL_ANSWER_BYTES];
     const uint64_t number = runvestol_plain(document, sizeof document, output, sizeof output, answer, sizeof answer);
     const size_t length = sizeof shape;
@@ -11,6 +11,7 @@ int main()
     const bool known = runvestol_infer(shape, length, document, 1, 0, 0, answer, sizeof answer) == short_output
         && runvestol_join(shape, length, shape, length, 0, 0, answer, sizeof answer) == short_output
         && runvestol_below(shape, length, shape, length, answer, sizeof answer) == RUNVESTOL_OK
-        && runvestol_admits(shape, length, document, 1, answer, sizeof answer) == RUNVESTOL_OK;
+        && runvestol_admits(shape, length, document, 1, answer, sizeof answer) == RUNVESTOL_OK
+        && runvestol_check(reader, sizeof reader, shape, length, 0, 0, answer, sizeof answer) == short_output;
     return known && number == RUNVESTOL_OK && output[0] == '7' ? 0 : 1;
 }

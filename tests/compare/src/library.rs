@@ -1,58 +1,10 @@
 //! The library's calls, as `include/runvestol.h` declares them. A further
-//! operation is a declaration and an entry of `OPERATIONS`.
+//! operation is an entry of `OPERATIONS`.
 
 use oracle::operations::Operation;
 
-extern "C" {
-    fn runvestol_plain(
-        document: *const u8,
-        document_length: usize,
-        output: *mut u8,
-        output_length: usize,
-        answer: *mut u8,
-        answer_length: usize,
-    ) -> u64;
-
-    fn runvestol_infer(
-        shape: *const u8,
-        shape_length: usize,
-        document: *const u8,
-        document_length: usize,
-        output: *mut u8,
-        output_length: usize,
-        answer: *mut u8,
-        answer_length: usize,
-    ) -> u64;
-
-    fn runvestol_join(
-        first: *const u8,
-        first_length: usize,
-        second: *const u8,
-        second_length: usize,
-        output: *mut u8,
-        output_length: usize,
-        answer: *mut u8,
-        answer_length: usize,
-    ) -> u64;
-
-    fn runvestol_below(
-        first: *const u8,
-        first_length: usize,
-        second: *const u8,
-        second_length: usize,
-        answer: *mut u8,
-        answer_length: usize,
-    ) -> u64;
-
-    fn runvestol_admits(
-        shape: *const u8,
-        shape_length: usize,
-        document: *const u8,
-        document_length: usize,
-        answer: *mut u8,
-        answer_length: usize,
-    ) -> u64;
-}
+// The calls, as build.rs takes them from the header.
+include!(concat!(env!("OUT_DIR"), "/calls.rs"));
 
 /// A call by what it is lent: a text and an output, two texts and an output,
 /// or two texts; always an answer buffer.
@@ -83,7 +35,7 @@ pub struct Known {
     call: Call,
 }
 
-pub const OPERATIONS: [Known; 5] = [
+pub const OPERATIONS: [Known; 6] = [
     Known {
         operation: Operation::Plain,
         calls: 200_000,
@@ -113,6 +65,12 @@ pub const OPERATIONS: [Known; 5] = [
         calls: 60_000,
         numbers: &[0, 1, 2, 3, 4, 5, 6, 7, 8],
         call: Call::Says(runvestol_admits),
+    },
+    Known {
+        operation: Operation::Check,
+        calls: 120_000,
+        numbers: &[0, 1, 2, 7, 8, 9, 10, 11, 15],
+        call: Call::Writes(runvestol_check),
     },
 ];
 

@@ -2,11 +2,12 @@
 
 use crate::case::{words, ANSWER};
 use crate::library::{Callee, Lent};
+use oracle::check::check;
 use oracle::json;
 use oracle::limits::Limits;
 use oracle::operations::{outcome, Answer, Operation, Texts};
 use oracle::shape::{admits, below, Kinds, Shape};
-use oracle::text_forms::{read_shape, write_shape};
+use oracle::text_forms::{read_reader, read_shape, write_shape, Body, Case, Form};
 use oracle::value::Value;
 use std::rc::Rc;
 
@@ -20,7 +21,7 @@ pub const FORGETFUL: Callee = |o, lent| {
 };
 
 /// What is wrong with a callee, of which operation, and the callee.
-pub const WRONG: [(&str, Operation, Callee); 29] = [
+pub const WRONG: [(&str, Operation, Callee); 38] = [
     (
         "a byte of the output is changed on a refusal",
         Operation::Plain,
@@ -145,13 +146,7 @@ pub const WRONG: [(&str, Operation, Callee); 29] = [
         },
     ),
     ("11 comes one form early", Operation::Infer, |o, lent| {
-        instead(o, lent, |lent| {
-            let shape = shape_in(&lent.output[..length(lent)]);
-            match forms(&shape) == Limits::PAPER.values {
-                true => 11,
-                false => 0,
-            }
-        })
+        instead(o, lent, one_form_early)
     }),
     (
         "the text refused is the other one",
@@ -289,6 +284,89 @@ pub const WRONG: [(&str, Operation, Callee); 29] = [
             })
         },
     ),
+    ("check passes no reader", Operation::Check, |o, lent| {
+        instead(o, lent, |lent| {
+            lent.answer[..ANSWER].copy_from_slice(&words(&refused(9, 0)));
+            9
+        })
+    }),
+    (
+        "check passes every reader",
+        Operation::Check,
+        |_, mut lent| match right(Operation::Check, &mut lent) {
+            9 | 10 => again(&mut lent, Operation::Join, b"(shape)", b"(shape)"),
+            number => number,
+        },
+    ),
+    (
+        "check leaves out the second branch of when",
+        Operation::Check,
+        |_, lent| {
+            check_otherwise(lent, |body| match body {
+                Body::When(case, at, first, _) => Body::When(case, at, first, none()),
+                other => other,
+            })
+        },
+    ),
+    ("check takes any condition", Operation::Check, |_, lent| {
+        check_otherwise(lent, |body| match body {
+            Body::If(_, first, second) => Body::If(yes(), first, second),
+            other => other,
+        })
+    }),
+    (
+        "check drops int behind when int",
+        Operation::Check,
+        |_, lent| {
+            check_otherwise(lent, |body| match body {
+                Body::When(Case::Int, at, a, b) => Body::When(Case::Num, at, a, b),
+                other => other,
+            })
+        },
+    ),
+    (
+        "count takes no null and gives what it counts",
+        Operation::Check,
+        |_, lent| {
+            check_otherwise(lent, |body| match body {
+                Body::Count(at) => Body::Convert(Kinds::LIST, at),
+                other => other,
+            })
+        },
+    ),
+    ("check has 10 before 9", Operation::Check, |o, mut lent| {
+        let number = right(o, &mut lent);
+        let mut judged = [0; ANSWER];
+        let records = everywhere(shape_in(lent.second), records_alone);
+        let mut otherwise = Lent {
+            first: lent.first,
+            second: &write_shape(&records, &Limits::PAPER).unwrap_or_default(),
+            output: &mut [],
+            answer: &mut judged,
+            null: false,
+        };
+        let is_unlisted = number == 9 && right(o, &mut otherwise) == 10;
+        match is_unlisted && judged[..] == lent.answer[..ANSWER] {
+            true => 10,
+            false => number,
+        }
+    }),
+    (
+        "check comes to 11 one form early",
+        Operation::Check,
+        |o, lent| instead(o, lent, one_form_early),
+    ),
+    (
+        "check refuses at the word behind the bracket",
+        Operation::Check,
+        |o, mut lent| {
+            let number = right(o, &mut lent);
+            if number == 9 || number == 10 {
+                flip(lent.answer.get_mut(8));
+            }
+            number
+        },
+    ),
 ];
 
 /// The right call, and where that is done, another in its place.
@@ -296,6 +374,94 @@ fn instead(operation: Operation, mut lent: Lent, wrong: fn(&mut Lent) -> u64) ->
     match right(operation, &mut lent) {
         0 => wrong(&mut lent),
         number => number,
+    }
+}
+
+/// Refuses a shape of as many forms as may be.
+fn one_form_early(lent: &mut Lent) -> u64 {
+    let shape = shape_in(&lent.output[..length(lent)]);
+    match forms(&shape) == Limits::PAPER.values {
+        true => 11,
+        false => 0,
+    }
+}
+
+/// A check in which every form of the reader is changed.
+fn check_otherwise(mut lent: Lent, change: fn(Body) -> Body) -> u64 {
+    let reader = read_reader(lent.first, &Limits::PAPER);
+    let shape = read_shape(lent.second, &Limits::PAPER);
+    let (Ok(reader), Ok(shape)) = (reader, shape) else {
+        return right(Operation::Check, &mut lent);
+    };
+    let longest = lent.first.len().max(lent.second.len());
+    if lent.answer.len() < ANSWER || longest > Limits::PAPER.text_bytes {
+        return right(Operation::Check, &mut lent);
+    }
+    let refusal = match check(&in_every_form(reader, change), shape) {
+        Ok(shape) => match write_shape(&shape, &Limits::PAPER) {
+            Some(text) => return again(&mut lent, Operation::Join, &text, b"(shape)"),
+            None => Answer {
+                number: 11,
+                ..Answer::default()
+            },
+        },
+        Err(refusal) => refused(refusal.number, refusal.place as u64),
+    };
+    lent.answer[..ANSWER].copy_from_slice(&words(&refusal));
+    u64::from(refusal.number)
+}
+
+/// The answer of a refusal in the reader.
+fn refused(number: u8, place: u64) -> Answer {
+    Answer {
+        number,
+        text: 1,
+        place,
+        ..Answer::default()
+    }
+}
+
+/// Changes every form of a reader, the innermost first.
+fn in_every_form(form: Form, change: fn(Body) -> Body) -> Form {
+    let inner = |part: Box<Form>| Box::new(in_every_form(*part, change));
+    let body = match form.body {
+        Body::Each(at, part) => Body::Each(at, inner(part)),
+        Body::When(case, at, a, b) => Body::When(case, at, inner(a), inner(b)),
+        Body::If(a, b, c) => Body::If(inner(a), inner(b), inner(c)),
+        Body::Pack(pairs) => {
+            let pairs = pairs.into_iter();
+            Body::Pack(
+                pairs
+                    .map(|(name, part)| (name, in_every_form(part, change)))
+                    .collect(),
+            )
+        }
+        other => other,
+    };
+    Form {
+        at: form.at,
+        body: change(body),
+    }
+}
+
+fn literal(value: Value) -> Box<Form> {
+    let body = Body::Literal(Rc::new(value));
+    Box::new(Form { at: 0, body })
+}
+
+fn none() -> Box<Form> {
+    literal(Value::Null)
+}
+
+fn yes() -> Box<Form> {
+    literal(Value::Bool(true))
+}
+
+/// Without the kinds beside rec.
+fn records_alone(shape: Shape) -> Shape {
+    match shape.kinds.has(Kinds::REC) {
+        true => shape.cut(Kinds::REC),
+        false => shape,
     }
 }
 

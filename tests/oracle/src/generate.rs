@@ -214,6 +214,7 @@ impl Source {
             20..=29 => (self.right_reader(), self.any_shape()),
             30..=39 => self.past_written_by_reader(),
             40..=44 => (self.any_reader(), self.any_shape()),
+            45..=47 => self.large_reader_and_shape(),
             _ => {
                 let sample = self.value();
                 let shape = self.shape_like(&sample);
@@ -221,6 +222,15 @@ impl Source {
                 (reader, self.spell_shape(&shape))
             }
         }
+    }
+
+    /// Hundreds of forms, against a few or against hundreds.
+    fn large_reader_and_shape(&mut self) -> (Vec<u8>, Vec<u8>) {
+        let shape = match self.random.once_in(2) {
+            true => self.merging_shape(),
+            false => self.shape(),
+        };
+        (self.large_reader_on(&shape), self.spell_shape(&shape))
     }
 
     fn reader_and_document(&mut self) -> (Vec<u8>, Vec<u8>) {

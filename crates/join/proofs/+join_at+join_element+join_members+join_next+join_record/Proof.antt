@@ -35,7 +35,7 @@ use Rattle.join.proofs.+join_at+join_element+join_members+join_next+joi
 use Rattle.join.proofs.add_null.Reads as add-null-reads
 use Rattle.join.proofs.grow_head.Reads as grow-head-reads
 use Rattle.join.proofs.next_member.Reads as next-member-reads
-use Rattle.join.proofs.passed.Reads as passed-reads
+use Rattle.join.proofs.second_step.Reads as second-step-reads
 use Rattle.join.proofs.put_element.Reads as put-element-reads
 use Rattle.join.proofs.put_member.Reads as put-member-reads
 use Rattle.join.proofs.put_members.Reads as put-members-reads
@@ -147,8 +147,8 @@ join-members-claims t = (
   join-next.Post,
   size-reads.Asked,
   size-reads.Learnt,
-  passed-reads.Asked,
-  passed-reads.Learnt,
+  second-step-reads.Asked,
+  second-step-reads.Learnt,
 )
 
 abbrev join-next-claims : ℕ → join-next-lts.Claims
@@ -480,8 +480,8 @@ join-members-loop-again t c =
     let after-join-next = after-r .before .before .before .before in
     let in-loop = after-join-next .before .before .before .before in
     loop-again (in-loop .before .loop .inv) (after-join-next .before .before .next-member .ensures) (in-loop .loop-test .taken)
-    (after-join-next .join-next .last .0) (after-join-next .join-next .ensures) (after-r .r .given .1) (c .before .size .result) (c .passed .result)
-    (c .before .size .ensures) (c .passed .ensures)
+    (after-join-next .join-next .last .0) (after-join-next .join-next .ensures) (after-r .r .given .1) (c .before .size .result) (c .second-step .result)
+    (c .before .size .ensures) (c .second-step .ensures)
 
 join-members-add-j
     : (t : ℕ) → join-members-lts.Need-add-j (join-members-claims t) (join-members-at t) join-members.Post join-members-Inv-loop join-members-μ-loop
@@ -507,8 +507,8 @@ join-members-loop-less t c =
     let in-loop = after-join-next .before .before .before .before in
     let at-start = in-loop .before .before .before .before .before in
     loop-less (in-loop .before .loop .inv) (after-join-next .before .before .next-member .ensures) (in-loop .loop-test .taken)
-    (after-join-next .join-next .last .0) (after-join-next .join-next .ensures) (after-r .r .given .1) (c .before .size .result) (c .passed .result)
-    (c .before .size .ensures) (c .passed .ensures) (at-start .pre .1)
+    (after-join-next .join-next .last .0) (after-join-next .join-next .ensures) (after-r .r .given .1) (c .before .size .result) (c .second-step .result)
+    (c .before .size .ensures) (c .second-step .ensures) (at-start .pre .1)
 
 join-members-same-length-2
     : (t : ℕ) → join-members-lts.Need-same-length-2 (join-members-claims t) (join-members-at t) join-members.Post join-members-Inv-loop join-members-μ-loop

@@ -16,7 +16,7 @@ returns c k e =
     let dot = point .before .stands-at .ensures in
     reads-point (phase-of (start .args .phase)) (start .pre .1) (dot .inside (point .if1 .taken)) (dot .here (point .if1 .taken))
     (c .before .before .if2 .taken)
-    (c .read-on .ensures _ (c .before .fixed .ensures k e))
+    (c .read-on .ensures _ (c .before .without-exponent .ensures k e))
 
 returns-2 : tie.Need-returns-2
 returns-2 c k e =
@@ -28,7 +28,7 @@ returns-2 c k e =
     (dot .here (point .if1 .taken))
     run
     (c .before .before .if2 .left)
-    (c .read-rest .ensures _ (c .before .fixed2 .ensures (run .full k) (run .capped k e)))
+    (c .read-rest .ensures _ (c .before .without-exponent2 .ensures (run .full k) (run .capped k e)))
 
 read-rest-requires-2 : tie.Need-read-rest-requires-2
 read-rest-requires-2 c κs =
@@ -36,7 +36,7 @@ read-rest-requires-2 c κs =
     (start .pre .0, pointed-settled (phase-of (start .args .phase)) (start .pre .1))
 
 returns-3 : tie.Need-returns-3
-returns-3 c k e = c .read-rest2 .ensures _ (c .before .fixed3 .ensures k e)
+returns-3 c k e = c .read-rest2 .ensures _ (c .before .without-exponent3 .ensures k e)
 
 pub read-fraction-spec : {M : Type 1} → statement M
 read-fraction-spec =

@@ -106,8 +106,8 @@ put-byte-requires c κs =
 
 add-i-2 : tie.Need-add-i-2 Inv-loop μ-loop
 add-i-2 c =
-    let after-stands = c .before .before .before .before .before in
-    let in-loop = after-stands .before .before .before .before .before in
+    let after-is-plain-ascii = c .before .before .before .before .before in
+    let in-loop = after-is-plain-ascii .before .before .before .before .before in
     let at-start = in-loop .before .before .before .before in
     let l = in-loop .before .loop in
     let a = at-start .args in
@@ -116,8 +116,8 @@ add-i-2 c =
 
 add-n-2 : tie.Need-add-n-2 Inv-loop μ-loop
 add-n-2 c =
-    let after-stands = c .before .before .before .before .before in
-    let in-loop = after-stands .before .before .before .before .before in
+    let after-is-plain-ascii = c .before .before .before .before .before in
+    let in-loop = after-is-plain-ascii .before .before .before .before .before in
     let at-start = in-loop .before .before .before .before in
     let l = in-loop .before .loop in
     let a = at-start .args in
@@ -126,8 +126,8 @@ add-n-2 c =
 
 add-written-2 : tie.Need-add-written-2 Inv-loop μ-loop
 add-written-2 c =
-    let after-stands = c .before .before .before .before .before in
-    let in-loop = after-stands .before .before .before .before .before in
+    let after-is-plain-ascii = c .before .before .before .before .before in
+    let in-loop = after-is-plain-ascii .before .before .before .before .before in
     let at-start = in-loop .before .before .before .before in
     let l = in-loop .before .loop in
     let a = at-start .args in
@@ -146,7 +146,7 @@ loop-again-2 c =
     let p = in-loop .before .before .before .before .pre in
     reading-next (l .inv)
     (piece-itself (a .doc .now) (l .i) (l .pool) (after-put-byte .put-byte .last .0) (a .w) (l .n) _ (in-loop .loop-test .taken) refl
-    (sym (after-put-byte .before .before .before .stands .ensures) ∙ after-put-byte .before .before .if3 .taken) (after-put-byte .put-byte .ensures)
+    (sym (after-put-byte .before .before .before .is-plain-ascii .ensures) ∙ after-put-byte .before .before .if3 .taken) (after-put-byte .put-byte .ensures)
     (room-byte (l .inv) (p .1) (in-loop .loop-test .taken)))
 
 read-piece-requires : tie.Need-read-piece-requires Inv-loop μ-loop
@@ -155,8 +155,11 @@ read-piece-requires c κs =
     let l = at-loop .loop in
     let a = at-loop .before .before .before .args in
     let p = at-loop .before .before .before .pre in
-    let t = c .before .before .before .before .before .before .before .loop-test .taken in
-    ((t, room-left (l .inv) (p .1) (omega arith)), sym (c .before .before .stands .ensures) ∙ c .before .if3 .left, c .before .before .before .if2 .left)
+    let t = c .before .before .before .before .before .before .before .loop-test .taken in (
+      (t, room-left (l .inv) (p .1) (omega arith)),
+      sym (c .before .before .is-plain-ascii .ensures) ∙ c .before .if3 .left,
+      c .before .before .before .if2 .left,
+    )
 
 add-written-3 : tie.Need-add-written-3 Inv-loop μ-loop
 add-written-3 c =

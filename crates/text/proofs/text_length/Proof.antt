@@ -50,8 +50,8 @@ shared-slice-read-word-length c =
     let a = start .args in
     omega (arith, text-place (a .pool .now) (a .w) (a .n) (start .pre .0))
 
-mul-eight-of : tie.Need-mul-eight-of Inv-loop μ-loop
-mul-eight-of c =
+mul-least : tie.Need-mul-least Inv-loop μ-loop
+mul-least c =
     let start = c .before .before .before .before in
     let l = c .before .before .loop in
     let a = start .args in
@@ -62,10 +62,10 @@ word-length-requires c κs =
     let start = c .before .before .before .before .before in
     let l = c .before .before .before .loop in
     let a = start .args in (
-      omega (arith, c .eight-of .ensures),
+      omega (arith, c .least .ensures),
       omega (
         arith,
-        ap (λ (m : ℕ). length (escaped-all (take m (unpacked (getD (a .pool .now) (a .w + l .i) 0))))) (c .eight-of .ensures),
+        ap (λ (m : ℕ). length (escaped-all (take m (unpacked (getD (a .pool .now) (a .w + l .i) 0))))) (c .least .ensures),
         text-word-count (a .pool .now) (a .w) (a .n) (start .pre .0) (l .i) (c .before .before .loop-test .taken),
         text-bound (a .pool .now) (a .w) (a .n) (start .pre .0) (8 * (l .i + 1)),
         start .pre .1,
@@ -81,7 +81,7 @@ add-written c =
       arith,
       c .word-length .ensures,
       l .inv .1,
-      ap (λ (m : ℕ). length (escaped-all (take m (unpacked (getD (a .pool .now) (a .w + l .i) 0))))) (c .before .eight-of .ensures),
+      ap (λ (m : ℕ). length (escaped-all (take m (unpacked (getD (a .pool .now) (a .w + l .i) 0))))) (c .before .least .ensures),
       text-word-count (a .pool .now) (a .w) (a .n) (start .pre .0) (l .i) (c .before .before .before .loop-test .taken),
       text-bound (a .pool .now) (a .w) (a .n) (start .pre .0) (8 * (l .i + 1)),
       start .pre .1,
@@ -97,7 +97,7 @@ loop-again c =
         arith,
         c .word-length .ensures,
         l .inv .1,
-        ap (λ (m : ℕ). length (escaped-all (take m (unpacked (getD (a .pool .now) (a .w + l .i) 0))))) (c .before .eight-of .ensures),
+        ap (λ (m : ℕ). length (escaped-all (take m (unpacked (getD (a .pool .now) (a .w + l .i) 0))))) (c .before .least .ensures),
         text-word-count (a .pool .now) (a .w) (a .n) (start .pre .0) (l .i) (c .before .before .before .loop-test .taken),
       ),
     )
@@ -125,7 +125,7 @@ text-length-spec =
     add-word-length
     mul-word-length
     shared-slice-read-word-length
-    mul-eight-of
+    mul-least
     (λ c. omega arith)
     (λ c κs. search needs)
     word-length-requires

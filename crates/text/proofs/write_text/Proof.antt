@@ -70,16 +70,16 @@ shared-slice-read-write-word c =
     let p = start .pre in
     omega (arith, text-place (a .pool .now) (a .w) (a .n) (p .0))
 
-mul-eight-of : tie.Need-mul-eight-of Inv-loop μ-loop
-mul-eight-of c =
+mul-least : tie.Need-mul-least Inv-loop μ-loop
+mul-least c =
     let start = c .before .before .before .before .before .before in
     let l = c .before .before .before .loop in
     let a = start .args in
     let p = start .pre in
     omega (arith, l .inv .0, text-place (a .pool .now) (a .w) (a .n) (p .0), start .good)
 
-sub-eight-of : tie.Need-sub-eight-of Inv-loop μ-loop
-sub-eight-of c = omega arith
+sub-least : tie.Need-sub-least Inv-loop μ-loop
+sub-least c = omega arith
 
 write-word-requires : tie.Need-write-word-requires Inv-loop μ-loop
 write-word-requires c κs =
@@ -88,12 +88,12 @@ write-word-requires c κs =
     let a = start .args in
     let p = start .pre in
     let t = c .before .before .before .loop-test .taken in (
-      omega (arith, c .eight-of .ensures),
+      omega (arith, c .least .ensures),
       words-room (a .pool .now) (a .w) (a .n) (p .0) (l .k) t (l .inv .1)
           (let z : a .at + 1 + length (plain-text (text-in (a .pool .now) (a .w) (a .n))) ≤ length (set (a .out .now) (a .at) 0x22) + 1 =
           omega (arith, p .1, length-set (a .out .now) (a .at) 0x22) in
           z)
-          _ _ refl (c .eight-of .ensures),
+          _ _ refl (c .least .ensures),
     )
 
 add-k : tie.Need-add-k Inv-loop μ-loop
@@ -115,7 +115,7 @@ loop-again c =
           (let z : a .at + 1 + length (plain-text (text-in (a .pool .now) (a .w) (a .n))) ≤ length (set (a .out .now) (a .at) 0x22) + 1 =
           omega (arith, p .1, length-set (a .out .now) (a .at) 0x22) in
           z)
-          _ _ refl (c .before .before .before .eight-of .ensures) (c .before .before .write-word .ensures),
+          _ _ refl (c .before .before .before .least .ensures) (c .before .before .write-word .ensures),
     )
 
 slice-write-out-2 : tie.Need-slice-write-out-2 Inv-loop μ-loop
@@ -186,8 +186,8 @@ write-text-spec =
     add-write-word
     mul-write-word
     shared-slice-read-write-word
-    mul-eight-of
-    sub-eight-of
+    mul-least
+    sub-least
     (λ c κs. search needs)
     write-word-requires
     add-k

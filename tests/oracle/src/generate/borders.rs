@@ -121,7 +121,7 @@ impl Source {
 
     /// A reader and a shape whose result shape is at the border of 11.
     pub fn past_written_by_reader(&mut self) -> (Vec<u8>, Vec<u8>) {
-        match self.random.below(3) {
+        match self.random.below(5) {
             0 => {
                 let depth = self.random.between(1, self.limits.nesting);
                 let shape = self.deep_shape(depth);
@@ -135,6 +135,8 @@ impl Source {
                 let shape = self.wide_shape(forms, 1);
                 (packed(copies, 0), self.compact_shape(&shape))
             }
+            2 => self.results_that_wait(),
+            3 => self.results_that_meet(),
             _ => {
                 let copies = self.random.between(1, 3);
                 let target = self.random.near(self.limits.text_bytes, 2);
@@ -144,6 +146,49 @@ impl Source {
                 (packed(copies, lacking), self.compact_shape(&shape))
             }
         }
+    }
+
+    /// The document's shape in every branch: the result is that shape, however
+    /// many branches wait for each other.
+    fn results_that_wait(&mut self) -> (Vec<u8>, Vec<u8>) {
+        let levels = self.random.between(1, self.limits.nesting.max(4) - 3);
+        let most = self.limits.values;
+        let forms = match self.random.below(3) {
+            0 => self.random.near(most, 1),
+            1 => 401.min(most),
+            _ => self.random.between(1, most),
+        };
+        let shape = self.wide_shape(forms, 1);
+        let reader = match self.random.once_in(2) {
+            true => nested(
+                levels,
+                |_| "(when rec (it 0) ".into(),
+                "(keep (it 0))",
+                " (keep (it 1)))",
+            ),
+            false => nested(
+                levels,
+                |level| format!("(when rec (it {level}) (keep (it 0)) "),
+                &format!("(keep (it {levels}))"),
+                ")",
+            ),
+        };
+        (reader, self.compact_shape(&shape))
+    }
+
+    /// A member of the document's shape from every branch.
+    fn results_that_meet(&mut self) -> (Vec<u8>, Vec<u8>) {
+        let levels = self.random.between(1, self.limits.nesting.max(5) - 4);
+        let most = self.limits.values.saturating_sub(1) / (levels + 1);
+        let forms = self.random.near(most, 1).max(1);
+        let shape = self.wide_shape(forms, 1);
+        let reader = nested(
+            levels,
+            |level| format!("(if (yes) (pack \"{level}\" (keep (it 0))) "),
+            "(pack \"x\" (keep (it 0)))",
+            ")",
+        );
+        (reader, self.compact_shape(&shape))
     }
 
     /// A reader and a document whose result is at the border of 14.
@@ -207,8 +252,7 @@ impl Source {
 
     /// `keep` of the document inside so many forms.
     fn wrapped_keep(&mut self, around: usize) -> Vec<u8> {
-        let wrappers = vec!["(pack \"a\" "; around].concat();
-        format!("{wrappers}(keep (it 0)){}", ")".repeat(around)).into_bytes()
+        nested(around, |_| "(pack \"a\" ".into(), "(keep (it 0))", ")")
     }
 
     /// The shortest spelling, as the written one may be longer than a text.
@@ -228,6 +272,12 @@ const UNBOUNDED: Limits = Limits {
     nesting: usize::MAX,
     steps: u64::MAX,
 };
+
+/// A reader inside so many forms, each of which may know its level.
+fn nested(levels: usize, open: impl Fn(usize) -> String, inner: &str, close: &str) -> Vec<u8> {
+    let opened: String = (0..levels).map(open).collect();
+    format!("{opened}{inner}{}", close.repeat(levels)).into_bytes()
+}
 
 fn text_length(shape: &Shape) -> usize {
     write_shape(shape, &UNBOUNDED).unwrap_or_default().len()

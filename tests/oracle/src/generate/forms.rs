@@ -215,6 +215,16 @@ impl Source {
         self.spell_tokens(&tokens)
     }
 
+    /// A reader of hundreds of forms.
+    pub fn large_reader_on(&mut self, shape: &Shape) -> Vec<u8> {
+        let forms = match self.random.once_in(3) {
+            true => self.limits.values.saturating_sub(4),
+            false => self.random.below(self.limits.values),
+        };
+        let tokens = self.large_reader_tokens(shape, forms);
+        self.spell_tokens(&tokens)
+    }
+
     pub fn reader_on(&mut self, shape: &Shape) -> Vec<u8> {
         let tokens = self.reader_tokens(shape);
         self.spell_tokens(&tokens)

@@ -40,6 +40,11 @@ impl Source {
         (self.spell_shape(&first), self.spell_shape(&second))
     }
 
+    /// A record's shape of up to hundreds of members.
+    pub fn merging_shape(&mut self) -> Shape {
+        self.two_merging().0
+    }
+
     fn two_merging(&mut self) -> (Shape, Shape) {
         let nesting = self.random.between(2, self.limits.nesting.clamp(2, 6));
         let mut left = self.random.between(2, self.limits.values) - 1;

@@ -15,18 +15,43 @@ struct Around {
     bound: Vec<Shape>,
     nesting_left: usize,
     forms_left: usize,
+    /// makes no form that a check against these shapes would refuse
+    careful: bool,
 }
 
 impl Source {
     pub fn reader_tokens(&mut self, shape: &Shape) -> Tokens {
-        let mut around = Around {
-            bound: vec![shape.clone()],
-            nesting_left: self.limits.nesting,
-            forms_left: self.random.between(1, self.limits.values.min(30)),
-        };
+        let mut around = self.around(shape, false);
         let mut tokens = Tokens::new();
         self.push_form(&mut around, &mut tokens);
         tokens
+    }
+
+    /// A pack of readers, of about so many forms in all; mostly it passes.
+    pub fn large_reader_tokens(&mut self, shape: &Shape, forms: usize) -> Tokens {
+        let careful = !self.random.once_in(4);
+        let mut tokens = Tokens::new();
+        push(&mut tokens, &["(", "pack"]);
+        for index in 0.. {
+            let mut around = self.around(shape, careful);
+            around.nesting_left -= 1;
+            push(&mut tokens, &[&format!("\"{index}\"")]);
+            self.push_form(&mut around, &mut tokens);
+            if tokens.iter().filter(|token| *token == b"(").count() >= forms {
+                break;
+            }
+        }
+        push(&mut tokens, &[")"]);
+        tokens
+    }
+
+    fn around(&mut self, shape: &Shape, careful: bool) -> Around {
+        Around {
+            bound: vec![shape.clone()],
+            nesting_left: self.limits.nesting,
+            forms_left: self.random.between(1, self.limits.values.min(30)),
+            careful,
+        }
     }
 
     fn push_form(&mut self, around: &mut Around, tokens: &mut Tokens) {
@@ -56,7 +81,7 @@ impl Source {
     fn push_if(&mut self, around: &mut Around, tokens: &mut Tokens) {
         push(tokens, &["(", "if"]);
         match self.random.below(8) {
-            0 => self.push_form(around, tokens),
+            0 if !around.careful => self.push_form(around, tokens),
             1 | 2 => push(tokens, &["(", "no", ")"]),
             3 | 4 => push(tokens, &["(", "yes", ")"]),
             _ => self.push_condition(around, tokens),
@@ -69,7 +94,7 @@ impl Source {
     /// A bool out of the document: the value, or whether it is of a kind.
     fn push_condition(&mut self, around: &mut Around, tokens: &mut Tokens) {
         let nesting_left = around.nesting_left.saturating_sub(1);
-        let (place, shape) = self.place(&around.bound, nesting_left);
+        let (place, shape) = self.place(around, nesting_left);
         if shape.kinds == Kinds::BOOL {
             push(tokens, &["(", "bool"]);
             tokens.extend(place);
@@ -107,12 +132,12 @@ impl Source {
 
     /// A form on a place; mostly one that takes the place's kinds.
     fn push_on_place(&mut self, around: &mut Around, tokens: &mut Tokens) {
-        let (place, shape) = self.place(&around.bound, around.nesting_left);
+        let (place, shape) = self.place(around, around.nesting_left);
         let lists = Kinds::LIST.and(Kinds::NULL);
         let kinds = shape.kinds;
         let room = around.nesting_left > 1 && around.forms_left > 2;
         let word = match self.random.below(16) {
-            0 => self
+            0 if !around.careful => self
                 .random
                 .pick(&["int", "dec", "bool", "text", "count", "each", "when"]),
             1 => "keep",
@@ -175,7 +200,8 @@ impl Source {
     }
 
     /// A place and its shape, which is nothing where no check would pass.
-    fn place(&mut self, bound: &[Shape], nesting_left: usize) -> (Tokens, Shape) {
+    fn place(&mut self, around: &Around, nesting_left: usize) -> (Tokens, Shape) {
+        let bound = &around.bound;
         let near = self.random.below(bound.len());
         let outward = if self.random.once_in(3) { near } else { 0 };
         let mut shape = bound[bound.len() - 1 - outward].clone();
@@ -183,7 +209,7 @@ impl Source {
         while path.len() + 1 < nesting_left {
             let records = shape.kinds == Kinds::REC && !shape.members.is_empty();
             let (name, inner) = match self.random.below(40) {
-                0..=2 => (self.name(), Shape::default()),
+                0..=2 if !around.careful => (self.name(), Shape::default()),
                 3..=30 if records => {
                     let member = &shape.members[self.random.below(shape.members.len())];
                     (member.name.clone(), member.shape.clone())

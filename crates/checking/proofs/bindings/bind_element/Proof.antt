@@ -5,25 +5,16 @@ use native.Mathlib.Omega.{arith}
 use Rattle.checking.proofs.Elements.{row-within, element-bound, nothing-bound}
 use Rattle.checking.proofs.bindings.bind_element.Statement.{statement}
 use Rattle.checking.proofs.bindings.bind_element.Tie as tie
-use Rattle.checking.proofs.bindings.bind_element.Reads as reads
-use Rattle.checking.proofs.bindings.bind_element.Lts as lts
-use Rattle.checking.proofs.bindings.bind.Reads as bind-reads
-use Rattle.shapes.proofs.has.Reads as has-reads
-use Rattle.shapes.proofs.kinds.Reads as kinds-reads
-
-has-requires : tie.Need-has-requires
-has-requires c κs = search needs
 
 add-bind : tie.Need-add-bind
 add-bind c =
-    let at-start = c .before .before .before .before .before .before in omega (arith, row-within (at-start .pre .1 .0), at-start .pre .1 .1)
+    let at-start = c .before .before .before .before .before .before in
+    omega (arith, row-within (at-start .pre .1 .0), at-start .pre .1 .1)
 
 add-kinds : tie.Need-add-kinds
 add-kinds c =
-    let at-start = c .before .before .before .before in omega (arith, row-within (at-start .pre .1 .0), at-start .pre .1 .1)
-
-kinds-requires : tie.Need-kinds-requires
-kinds-requires c κs = search needs
+    let at-start = c .before .before .before .before in
+    omega (arith, row-within (at-start .pre .1 .0), at-start .pre .1 .1)
 
 bind-requires : tie.Need-bind-requires
 bind-requires c κs =
@@ -35,9 +26,6 @@ bind-requires-2 c κs =
     let at-start = c .before .before .before .before .before in
     (at-start .pre .0, omega (arith, row-within (at-start .pre .1 .0), at-start .pre .1 .1))
 
-same-length : tie.Need-same-length
-same-length c = search needs
-
 returns : tie.Need-returns
 returns c =
     let at-bind = c .before .before in
@@ -45,11 +33,9 @@ returns c =
     let at-has = at-kinds .before .before in
     let at-start = at-has .before .before .before in
     element-bound (at-start .args .shapes .now) (at-start .args .bindings .now) (at-bind .bind .last .0) (at-start .args .slot)
-    (at-start .args .row) (at-start .args .kinds) (at-start .pre .0) (at-kinds .kinds .result .kinds) (sym (at-has .has .ensures) ∙ at-kinds .before .if1 .taken)
+    (at-start .args .row) (at-start .args .kinds) (at-start .pre .0) (at-kinds .kinds .result .kinds)
+    (sym (at-has .has .ensures) ∙ at-kinds .before .if1 .taken)
     (at-kinds .kinds .ensures) (at-bind .bind .ensures)
-
-same-length-2 : tie.Need-same-length-2
-same-length-2 c = search needs
 
 returns-2 : tie.Need-returns-2
 returns-2 c =
@@ -64,13 +50,13 @@ pub bind-element-spec : {M : Type 1} → statement M
 bind-element-spec =
     tie.close
     (tie.spec
-    has-requires
+    (λ c κs. search needs)
     add-kinds
-    kinds-requires
+    (λ c κs. search needs)
     add-bind
     bind-requires
     bind-requires-2
-    same-length
+    (λ c. search needs)
     returns
-    same-length-2
+    (λ c. search needs)
     returns-2)

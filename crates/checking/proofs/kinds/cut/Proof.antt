@@ -3,15 +3,9 @@ use borrow.Author.Needs.{needs}
 use Rattle.checking.proofs.KindTests.{cut-told}
 use Rattle.checking.proofs.kinds.cut.Statement.{statement}
 use Rattle.checking.proofs.kinds.cut.Tie as tie
-use Rattle.checking.proofs.kinds.cut.Reads as reads
-use Rattle.checking.proofs.kinds.cut.Lts as lts
-use Rattle.checking.proofs.kinds.test_kinds.Reads as test-kinds-reads
-
-test-kinds-requires : tie.Need-test-kinds-requires
-test-kinds-requires c κs = search needs
 
 returns : tie.Need-returns
 returns c = cut-told (c .before .args .kinds) (c .before .args .test) (c .test-kinds .result) (c .test-kinds .ensures .0)
 
 pub cut-spec : {M : Type 1} → statement M
-cut-spec = tie.close (tie.spec test-kinds-requires returns)
+cut-spec = tie.close (tie.spec (λ c κs. search needs) returns)

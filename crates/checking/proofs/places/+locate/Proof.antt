@@ -43,15 +43,6 @@ locate-claims t = (
   member-reads.Learnt,
 )
 
-locate-payload-requires : (t : ℕ) → locate-lts.Need-payload-requires (locate-claims t) (locate-at t) locate.Post
-locate-payload-requires t c κs = search needs
-
-locate-code-requires : (t : ℕ) → locate-lts.Need-code-requires (locate-claims t) (locate-at t) locate.Post
-locate-code-requires t c κs = search needs
-
-locate-bound-requires : (t : ℕ) → locate-lts.Need-bound-requires (locate-claims t) (locate-at t) locate.Post
-locate-bound-requires t c κs = search needs
-
 locate-returns : (t : ℕ) → locate-lts.Need-returns (locate-claims t) (locate-at t) locate.Post
 locate-returns t c =
     let at-payload = c .before .before .before in
@@ -61,23 +52,17 @@ locate-returns t c =
 
 locate-add-locate : (t : ℕ) → locate-lts.Need-add-locate (locate-claims t) (locate-at t) locate.Post
 locate-add-locate t c =
-    let at-start = c .before .before .before .before .before .before .before in omega (arith, place-within (at-start .pre .1), at-start .good)
+    let at-start = c .before .before .before .before .before .before .before in
+    omega (arith, place-within (at-start .pre .1), at-start .good)
 
 locate-locate-requires : (t : ℕ) → locate-lts.Need-locate-requires (locate-claims t) (locate-at t) locate.Post
 locate-locate-requires t c κs =
     let at-payload = c .before .before in
-    let at-start = at-payload .before .before .before .before .before in
-    (
+    let at-start = at-payload .before .before .before .before .before in (
       omega (arith, place-within (at-start .pre .1), at-start .pre .0),
       part-asked (at-start .args .forms .now) (at-start .args .shapes .now) (at-start .args .pool .now) (at-start .args .bindings .now) (at-start .args .row)
-      (c .before .code .ensures) (at-payload .payload .ensures) (c .if1 .left) (at-start .pre .1),
+          (c .before .code .ensures) (at-payload .payload .ensures) (c .if1 .left) (at-start .pre .1),
     )
-
-locate-enum-known-part : (t : ℕ) → locate-lts.Need-enum-known-part (locate-claims t) (locate-at t) locate.Post
-locate-enum-known-part t c = search needs
-
-locate-enum-told : (t : ℕ) → locate-lts.Need-enum-told (locate-claims t) (locate-at t) locate.Post
-locate-enum-told t c = search needs
 
 locate-returns-2 : (t : ℕ) → locate-lts.Need-returns-2 (locate-claims t) (locate-at t) locate.Post
 locate-returns-2 t c =
@@ -88,9 +73,6 @@ locate-returns-2 t c =
     part-refused (at-start .args .forms .now) (at-start .args .shapes .now) (at-start .args .pool .now) (at-start .args .bindings .now) (at-start .args .row)
     (at-code .code .ensures) (at-payload .payload .ensures) (at-locate .before .if1 .left) (at-locate .locate .result) (at-locate .locate .ensures)
     (c .enum-told .given .1)
-
-locate-place-requires : (t : ℕ) → locate-lts.Need-place-requires (locate-claims t) (locate-at t) locate.Post
-locate-place-requires t c κs = search needs
 
 locate-member-requires : (t : ℕ) → locate-lts.Need-member-requires (locate-claims t) (locate-at t) locate.Post
 locate-member-requires t c κs =
@@ -116,15 +98,12 @@ pub +locate-spec : {M : Type 1} → statement M
 +locate-spec = close μ-locate λ t. locate-lts.spec (locate-claims t)
     (locate-at t)
     locate.Post
-    (locate-payload-requires t)
-    (locate-code-requires t)
-    (locate-bound-requires t)
+    (λ c κs. search needs) (λ c κs. search needs) (λ c κs. search needs)
     (locate-returns t)
     (locate-add-locate t)
     (locate-locate-requires t)
-    (locate-enum-known-part t)
-    (locate-enum-told t)
+    (λ c. search needs) (λ c. search needs)
     (locate-returns-2 t)
-    (locate-place-requires t)
+    (λ c κs. search needs)
     (locate-member-requires t)
     (locate-returns-3 t)

@@ -5,17 +5,6 @@ use Rattle.laws.specs.Bools.{not-true}
 use Rattle.checking.proofs.Members.{not-not, row-ends, unmet, without, members-before, listed-asked, member-missing, member-found}
 use Rattle.checking.proofs.places.member.Statement.{statement}
 use Rattle.checking.proofs.places.member.Tie as tie
-use Rattle.checking.proofs.places.member.Reads as reads
-use Rattle.checking.proofs.places.member.Lts as lts
-use Rattle.checking.proofs.kinds.within.Reads as within-reads
-use Rattle.shapes.proofs.find_named.Reads as find-named-reads
-use Rattle.shapes.proofs.has.Reads as has-reads
-use Rattle.shapes.proofs.kinds.Reads as kinds-reads
-use Rattle.shapes.proofs.members.Reads as members-reads
-use Rattle.shapes.proofs.size.Reads as size-reads
-
-within-requires : tie.Need-within-requires
-within-requires c κs = search needs
 
 returns : tie.Need-returns
 returns c =
@@ -23,26 +12,22 @@ returns c =
     unmet (at-start .args .shapes .now) (at-start .args .pool .now) (at-start .args .row) (at-start .args .kinds) (at-start .args .name)
     (at-start .args .place) (c .before .within .ensures) (not-true (c .before .within .result) (c .if1 .taken))
 
-has-requires : tie.Need-has-requires
-has-requires c κs = search needs
-
 returns-2 : tie.Need-returns-2
 returns-2 c =
     let at-within = c .before .before .before in
     let at-start = at-within .before .before .before in
     without (at-start .args .shapes .now) (at-start .args .pool .now) (at-start .args .row) (at-start .args .kinds) (at-start .args .name)
-    (at-start .args .place) (at-within .within .ensures) (not-not (at-within .within .result) (c .before .before .if1 .left)) (c .before .has .ensures) (not-true (c .before .has .result) (c .if2 .taken))
+    (at-start .args .place) (at-within .within .ensures) (not-not (at-within .within .result) (c .before .before .if1 .left)) (c .before .has .ensures)
+    (not-true (c .before .has .result) (c .if2 .taken))
 
 members-requires : tie.Need-members-requires
 members-requires c κs =
     let at-within = c .before .before .before in
     let at-start = at-within .before .before .before in
     let within = members-before (at-start .args .shapes .now) (at-start .args .pool .now) (at-start .args .row) (at-start .args .kinds) (at-start .args .name)
-    (at-start .args .place) (at-within .within .ensures) (not-not (at-within .within .result) (c .before .before .if1 .left)) (c .before .has .ensures) (not-not (c .before .has .result) (c .if2 .left)) (at-start .pre) in
+    (at-start .args .place) (at-within .within .ensures) (not-not (at-within .within .result) (c .before .before .if1 .left)) (c .before .has .ensures)
+    (not-not (c .before .has .result) (c .if2 .left)) (at-start .pre) in
     (within .0, omega (arith, within .1, within .2, at-start .good))
-
-size-requires : tie.Need-size-requires
-size-requires c κs = search needs
 
 add-end : tie.Need-add-end
 add-end c =
@@ -57,14 +42,9 @@ find-named-requires c κs =
     let at-within = at-has .before .before in
     let at-start = at-within .before .before .before in
     listed-asked (at-start .args .shapes .now) (at-start .args .pool .now) (at-start .args .row) (at-start .args .kinds) (at-start .args .name)
-    (at-start .args .place) (at-within .within .ensures) (not-not (at-within .within .result) (at-has .before .if1 .left)) (at-has .has .ensures) (not-not (at-has .has .result) (at-members .before .if2 .left))
+    (at-start .args .place) (at-within .within .ensures) (not-not (at-within .within .result) (at-has .before .if1 .left)) (at-has .has .ensures)
+    (not-not (at-has .has .result) (at-members .before .if2 .left))
     (at-members .members .ensures) (at-size .size .ensures) (at-start .pre)
-
-enum-known-r : tie.Need-enum-known-r
-enum-known-r c = search needs
-
-enum-told : tie.Need-enum-told
-enum-told c = search needs
 
 returns-3 : tie.Need-returns-3
 returns-3 c =
@@ -75,12 +55,10 @@ returns-3 c =
     let at-within = at-has .before .before in
     let at-start = at-within .before .before .before in
     member-missing (at-start .args .shapes .now) (at-start .args .pool .now) (at-start .args .row) (at-start .args .kinds) (at-start .args .name)
-    (at-start .args .place) (at-within .within .ensures) (not-not (at-within .within .result) (at-has .before .if1 .left)) (at-has .has .ensures) (not-not (at-has .has .result) (at-members .before .if2 .left))
+    (at-start .args .place) (at-within .within .ensures) (not-not (at-within .within .result) (at-has .before .if1 .left)) (at-has .has .ensures)
+    (not-not (at-has .has .result) (at-members .before .if2 .left))
     (at-members .members .ensures) (at-size .size .ensures) (at-find .find-named .ensures)
     (c .enum-told .given .1)
-
-kinds-requires : tie.Need-kinds-requires
-kinds-requires c κs = search needs
 
 returns-4 : tie.Need-returns-4
 returns-4 c =
@@ -91,7 +69,8 @@ returns-4 c =
     let at-within = at-has .before .before in
     let at-start = at-within .before .before .before in
     member-found (at-start .args .shapes .now) (at-start .args .pool .now) (at-start .args .row) (at-start .args .kinds) (at-start .args .name)
-    (at-start .args .place) (at-within .within .ensures) (not-not (at-within .within .result) (at-has .before .if1 .left)) (at-has .has .ensures) (not-not (at-has .has .result) (at-members .before .if2 .left))
+    (at-start .args .place) (at-within .within .ensures) (not-not (at-within .within .result) (at-has .before .if1 .left)) (at-has .has .ensures)
+    (not-not (at-has .has .result) (at-members .before .if2 .left))
     (at-members .members .ensures) (at-size .size .ensures) (at-find .find-named .ensures)
     (c .before .before .r .given .1) (c .kinds .ensures)
 
@@ -99,16 +78,15 @@ pub member-spec : {M : Type 1} → statement M
 member-spec =
     tie.close
     (tie.spec
-    within-requires
+    (λ c κs. search needs)
     returns
-    has-requires
+    (λ c κs. search needs)
     returns-2
     members-requires
-    size-requires
+    (λ c κs. search needs)
     add-end
     find-named-requires
-    enum-known-r
-    enum-told
+    (λ c. search needs) (λ c. search needs)
     returns-3
-    kinds-requires
+    (λ c κs. search needs)
     returns-4)

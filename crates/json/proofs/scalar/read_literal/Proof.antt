@@ -4,7 +4,7 @@ use Prim.Native.Nat.{ℕ}
 use mathlib.Core.Bool.{Bool}
 use mathlib.Core.Path.{ap, _∙_, subst}
 use native.Mathlib.Omega.{arith}
-use Rattle.json.specs.JsonParts.{Judges}
+use Rattle.json.specs.JsonParts.{Judges-full}
 use Rattle.json.proofs.Scalars.{literal-full, literal-broken, literal-read, literal-code}
 use Rattle.nodes.specs.RowLaws.{with-row}
 use Rattle.json.proofs.scalar.read_literal.Statement.{statement}
@@ -15,7 +15,8 @@ returns c =
     let at-start = c .before .before .before .before .before in
     λ pool.
     literal-full (at-start .args .c) (at-start .pre .1) (at-start .pre .2) (at-start .pre .0) pool
-    (subst (λ (b : Bool). Judges (at-start .args .values) (at-start .args .left) (at-start .args .c .begun) b) (c .if1 .taken) (c .before .is-full .ensures))
+    (subst (λ (b : Bool). Judges-full (at-start .args .values) (at-start .args .left) (at-start .args .c .begun) b) (c .if1 .taken)
+    (c .before .is-full .ensures))
 
 returns-2 : tie.Need-returns-2
 returns-2 c =
@@ -23,7 +24,7 @@ returns-2 c =
     let at-start = after-is-full .before .before .before .before in
     λ pool.
     literal-broken (at-start .args .c) (at-start .pre .1) (at-start .pre .2) (at-start .pre .0) pool
-    (subst (λ (b : Bool). Judges (at-start .args .values) (at-start .args .left) (at-start .args .c .begun) b) (c .before .before .before .if1 .left)
+    (subst (λ (b : Bool). Judges-full (at-start .args .values) (at-start .args .left) (at-start .args .c .begun) b) (c .before .before .before .if1 .left)
     (after-is-full .is-full .ensures))
     (c .before .before .matching .ensures) (c .before .if2 .taken)
 
@@ -46,7 +47,7 @@ returns-3 c =
     let at-start = else2 .before .before .before .before .before .before .before in
     λ pool.
     literal-read (at-start .args .c) (at-start .pre .1) (at-start .pre .2) (at-start .pre .0) pool
-    (subst (λ (b : Bool). Judges (at-start .args .values) (at-start .args .left) (at-start .args .c .begun) b) (else2 .before .before .if1 .left)
+    (subst (λ (b : Bool). Judges-full (at-start .args .values) (at-start .args .left) (at-start .args .c .begun) b) (else2 .before .before .if1 .left)
     (else2 .before .before .before .is-full .ensures))
     (else2 .before .matching .ensures) (else2 .if2 .left)
     (after-put-row .put-row .ensures

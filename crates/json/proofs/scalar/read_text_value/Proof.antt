@@ -7,7 +7,7 @@ use native.Mathlib.Omega.{arith}
 use Rattle.nodes.specs.Nodes.{reference}
 use Rattle.text.specs.TextRead.{Text-answer, Text-closed}
 use Rattle.text.specs.declared.TextRead.{TextRead}
-use Rattle.json.specs.JsonParts.{Judges}
+use Rattle.json.specs.JsonParts.{Judges-full}
 use Rattle.json.proofs.Scalars.{text-full, text-broken, text-read, text-room}
 use Rattle.nodes.specs.RowLaws.{with-row}
 use Rattle.json.proofs.scalar.read_text_value.Statement.{statement}
@@ -17,7 +17,8 @@ returns : tie.Need-returns
 returns c =
     let at-start = c .before .before .before .before .before in
     text-full (at-start .args .c) (at-start .pre .0) (at-start .pre .1)
-    (subst (λ (b : Bool). Judges (at-start .args .values) (at-start .args .left) (at-start .args .c .begun) b) (c .if1 .taken) (c .before .is-full .ensures))
+    (subst (λ (b : Bool). Judges-full (at-start .args .values) (at-start .args .left) (at-start .args .c .begun) b) (c .if1 .taken)
+    (c .before .is-full .ensures))
 
 read-text-requires : tie.Need-read-text-requires
 read-text-requires c κs =
@@ -101,7 +102,7 @@ returns-2 c =
     let after-is-full = after-read-text .before .before .before .before in
     let at-start = after-is-full .before .before .before .before in
     text-read (at-start .args .c) (at-start .pre .0) (at-start .pre .1) (after-read-text .read-text .ensures .kept) (after-read-text .read-text .ensures .front)
-    (subst (λ (b : Bool). Judges (at-start .args .values) (at-start .args .left) (at-start .args .c .begun) b)
+    (subst (λ (b : Bool). Judges-full (at-start .args .values) (at-start .args .left) (at-start .args .c .begun) b)
     (after-read-text .before .before .before .if1 .left) (after-is-full .is-full .ensures))
     (closed (after-text-reference .before))
     (after-put-row .put-row .ensures
@@ -114,7 +115,7 @@ returns-3 c =
     let after-is-full = after-read-text .before .before .before .before in
     let at-start = after-is-full .before .before .before .before in
     text-broken (at-start .args .c) (at-start .pre .0) (at-start .pre .1) (after-read-text .read-text .ensures .kept)
-    (subst (λ (b : Bool). Judges (at-start .args .values) (at-start .args .left) (at-start .args .c .begun) b)
+    (subst (λ (b : Bool). Judges-full (at-start .args .values) (at-start .args .left) (at-start .args .c .begun) b)
     (after-read-text .before .before .before .if1 .left) (after-is-full .is-full .ensures))
     (subst (λ (r : TextRead).
     Text-answer (at-start .args .doc .now) (at-start .args .c .at + 1) (after-read-text .read-text .last .1 .1 .0) (at-start .args .c .top) r)

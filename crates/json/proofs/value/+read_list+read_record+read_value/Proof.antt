@@ -14,7 +14,7 @@ use Rattle.json.specs.declared.reading.ValueRead.the-variants.{Done}
 use Rattle.json.specs.declared.name.NameRead.{NameRead}
 use Rattle.json.specs.declared.name.NameRead.the-variants as Name-is
 use Rattle.json.specs.declared.parts.Turn.{Turn}
-use Rattle.json.specs.JsonParts.{Judges, Ready, Reads, Reads-name, square, curly, next-of, behind-of, Open-parts, Turn-answer}
+use Rattle.json.specs.JsonParts.{Judges-full, Ready, Reads, Reads-name, square, curly, next-of, behind-of, Open-parts, Turn-answer}
 use Rattle.json.proofs.Loops.{to-read, reads-less, part-ready, used-within, element-refused, element-read, behind-ready}
 use Rattle.json.proofs.Loops.{name-ready, name-refused, value-ready, member-refused, member-read, total-small}
 use Rattle.json.proofs.Values.{bracket-full, bracket-ready, bracket-value, scalar-byte, scalar-ready, scalar-value}
@@ -30,8 +30,8 @@ use Rattle.json.proofs.value.read_value.Reads as read-value
 use Rattle.json.proofs.value.read_value.Kinds as read-value-kinds
 use Rattle.json.proofs.value.+read_list+read_record+read_value.Lts-read_value as read-value-lts
 use Rattle.json.proofs.name.read_name.Reads as read-name-reads
-use Rattle.json.proofs.parts.enter.Reads as enter-reads
-use Rattle.json.proofs.parts.go_on.Reads as go-on-reads
+use Rattle.json.proofs.parts.first_part.Reads as first-part-reads
+use Rattle.json.proofs.parts.next_part.Reads as next-part-reads
 use Rattle.json.proofs.scalar.is_full.Reads as is-full-reads
 use Rattle.json.proofs.scalar.read_scalar.Reads as read-scalar-reads
 use Rattle.json.proofs.space.peek.Reads as peek-reads
@@ -88,18 +88,18 @@ abbrev read-record-μ-loop : read-record-lts.MeasureT-loop
 read-record-μ-loop doc nodes₀ pool₀ values left c name turn₀ nodes pool turn = to-read doc turn
 
 abbrev list-claims : ℕ → read-list-lts.Claims
-list-claims t = (enter-reads.Asked, enter-reads.Learnt, read-value-below t, read-value.Post, go-on-reads.Asked, go-on-reads.Learnt)
+list-claims t = (first-part-reads.Asked, first-part-reads.Learnt, read-value-below t, read-value.Post, next-part-reads.Asked, next-part-reads.Learnt)
 
 abbrev record-claims : ℕ → read-record-lts.Claims
 record-claims t = (
-  enter-reads.Asked,
-  enter-reads.Learnt,
+  first-part-reads.Asked,
+  first-part-reads.Learnt,
   read-name-reads.Asked,
   read-name-reads.Learnt,
   read-value-below t,
   read-value.Post,
-  go-on-reads.Asked,
-  go-on-reads.Learnt,
+  next-part-reads.Asked,
+  next-part-reads.Learnt,
 )
 
 abbrev value-claims : ℕ → read-value-lts.Claims
@@ -122,10 +122,10 @@ value-claims t = (
 list-open
     : (t : ℕ) (c : read-list-lts.After-known-told (list-claims t) (read-list-at t) read-list.Post read-list-Inv-loop read-list-μ-loop) (ns ps : List ℕ)
     → let at-loop = c .before .before .before in
-    let after-enter = at-loop .before .before .before in
-    let at-start = after-enter .before .before .before .before .before in
-    Turn-answer square (at-start .args .left) (at-start .args .values) (at-start .args .doc .now) ns ps (after-enter .enter .last .1 .0)
-    (at-start .args .pool .now) (at-start .args .name) (at-start .args .c) (after-enter .enter .result)
+    let after-first-part = at-loop .before .before .before in
+    let at-start = after-first-part .before .before .before .before .before in
+    Turn-answer square (at-start .args .left) (at-start .args .values) (at-start .args .doc .now) ns ps (after-first-part .first-part .last .1 .0)
+    (at-start .args .pool .now) (at-start .args .name) (at-start .args .c) (after-first-part .first-part .result)
     → Open-parts square (next-of square) 1 (at-start .args .left) (at-start .args .values) (at-start .args .doc .now) ns ps (at-loop .loop .nodes)
     (at-loop .loop .pool) (at-start .args .c) (c .before .turn .given .0 .0) (c .before .turn .given .0 .1 .0)
 list-open t c ns ps h =
@@ -146,10 +146,10 @@ list-here
     (at-start .args .pool .now) (at-loop .loop .nodes) (at-loop .loop .pool) (at-start .args .c) (c .before .turn .given .0 .0)
     (c .before .turn .given .0 .1 .0)
 list-here t c =
-    let after-enter = c .before .before .before .before .before .before in
-    let at-start = after-enter .before .before .before .before .before in
+    let after-first-part = c .before .before .before .before .before .before in
+    let at-start = after-first-part .before .before .before .before .before in
     list-open t c (at-start .args .nodes .now) (at-start .args .pool .now)
-    (after-enter .enter .ensures square refl refl (at-start .args .left) (at-start .args .pool .now))
+    (after-first-part .first-part .ensures square refl refl (at-start .args .left) (at-start .args .pool .now))
 
 list-used
     : (t : ℕ) (c : read-list-lts.After-known-told (list-claims t) (read-list-at t) read-list.Post read-list-Inv-loop read-list-μ-loop)
@@ -200,10 +200,10 @@ record-open
     : (t : ℕ) (c : read-record-lts.After-known-told (record-claims t) (read-record-at t) read-record.Post read-record-Inv-loop read-record-μ-loop)
     (ns ps : List ℕ)
     → let at-loop = c .before .before .before in
-    let after-enter = at-loop .before .before .before in
-    let at-start = after-enter .before .before .before .before .before in
-    Turn-answer curly (at-start .args .left) (at-start .args .values) (at-start .args .doc .now) ns ps (after-enter .enter .last .1 .0)
-    (at-start .args .pool .now) (at-start .args .name) (at-start .args .c) (after-enter .enter .result)
+    let after-first-part = at-loop .before .before .before in
+    let at-start = after-first-part .before .before .before .before .before in
+    Turn-answer curly (at-start .args .left) (at-start .args .values) (at-start .args .doc .now) ns ps (after-first-part .first-part .last .1 .0)
+    (at-start .args .pool .now) (at-start .args .name) (at-start .args .c) (after-first-part .first-part .result)
     → Open-parts curly (next-of curly) 1 (at-start .args .left) (at-start .args .values) (at-start .args .doc .now) ns ps (at-loop .loop .nodes)
     (at-loop .loop .pool) (at-start .args .c) (c .before .turn .given .0 .0) (c .before .turn .given .0 .1 .0)
 record-open t c ns ps h =
@@ -224,10 +224,10 @@ record-here
     (at-start .args .pool .now) (at-loop .loop .nodes) (at-loop .loop .pool) (at-start .args .c) (c .before .turn .given .0 .0)
     (c .before .turn .given .0 .1 .0)
 record-here t c =
-    let after-enter = c .before .before .before .before .before .before in
-    let at-start = after-enter .before .before .before .before .before in
+    let after-first-part = c .before .before .before .before .before .before in
+    let at-start = after-first-part .before .before .before .before .before in
     record-open t c (at-start .args .nodes .now) (at-start .args .pool .now)
-    (after-enter .enter .ensures curly refl refl (at-start .args .left) (at-start .args .pool .now))
+    (after-first-part .first-part .ensures curly refl refl (at-start .args .left) (at-start .args .pool .now))
 
 record-used
     : (t : ℕ) (c : read-record-lts.After-known-told (record-claims t) (read-record-at t) read-record.Post read-record-Inv-loop read-record-μ-loop)
@@ -324,8 +324,9 @@ record-behind t c =
     (record-here t after-known-told) (after-known-told2 .before .at .given .0 .0) (name-here t after-known-told2)
     (used-within (after-known-told2 .before .at .given .0 .0) (member-ready t after-known-told2)) (record-read t c)
 
-read-list-enter-requires : (t : ℕ) → read-list-lts.Need-enter-requires (list-claims t) (read-list-at t) read-list.Post read-list-Inv-loop read-list-μ-loop
-read-list-enter-requires t c κs =
+read-list-first-part-requires
+    : (t : ℕ) → read-list-lts.Need-first-part-requires (list-claims t) (read-list-at t) read-list.Post read-list-Inv-loop read-list-μ-loop
+read-list-first-part-requires t c κs =
     let at-start = c .before .before .before .before in
     (at-start .pre .1 .0 .placed, at-start .pre .1 .1, omega arith, omega arith)
 
@@ -365,8 +366,9 @@ read-list-add-total-2 t c =
     let at-start = at-loop .before .before .before .before .before .before .before .before in
     omega (arith, total-small square (at-start .args .c) (c .before .r .given .0 .0) (at-start .pre .1 .0) (list-behind t c))
 
-read-list-go-on-requires : (t : ℕ) → read-list-lts.Need-go-on-requires (list-claims t) (read-list-at t) read-list.Post read-list-Inv-loop read-list-μ-loop
-read-list-go-on-requires t c κs =
+read-list-next-part-requires
+    : (t : ℕ) → read-list-lts.Need-next-part-requires (list-claims t) (read-list-at t) read-list.Post read-list-Inv-loop read-list-μ-loop
+read-list-next-part-requires t c κs =
     let after-r = c .before .before in
     let after-known-told = after-r .before .before .before .before .before .before .before .before .before in
     let at-loop = after-known-told .before .before .before in
@@ -379,16 +381,16 @@ read-list-go-on-requires t c κs =
 
 read-list-loop-less : (t : ℕ) → read-list-lts.Need-loop-less (list-claims t) (read-list-at t) read-list.Post read-list-Inv-loop read-list-μ-loop
 read-list-loop-less t c =
-    let after-go-on = c .before .before in
-    let after-pool = after-go-on .before .before .before .before .before .before in
+    let after-next-part = c .before .before in
+    let after-pool = after-next-part .before .before .before .before .before .before in
     let after-turn = after-pool .before .before .before .before .before .before .before in
     let at-loop = after-turn .before .before in
     let at-start = at-loop .before .before .before .before .before .before .before .before in
-    subst (λ (u : Turn). to-read (at-start .args .doc .now) (after-go-on .go-on .result) < to-read (at-start .args .doc .now) u)
+    subst (λ (u : Turn). to-read (at-start .args .doc .now) (after-next-part .next-part .result) < to-read (at-start .args .doc .now) u)
     (sym (after-turn .turn .given .1))
-    (let m = list-read t (after-go-on .before .before) .answer .moves in
-    reads-less (at-start .args .doc .now) (after-turn .turn .given .0 .0) (after-go-on .before .before .before .r .given .0 .0)
-    (after-turn .turn .given .0 .1 .0) (after-go-on .go-on .result) (m .ahead) (m .within) (after-go-on .go-on .ensures .ahead))
+    (let m = list-read t (after-next-part .before .before) .answer .moves in
+    reads-less (at-start .args .doc .now) (after-turn .turn .given .0 .0) (after-next-part .before .before .before .r .given .0 .0)
+    (after-turn .turn .given .0 .1 .0) (after-next-part .next-part .result) (m .ahead) (m .within) (after-next-part .next-part .ensures .ahead))
 
 read-list-loop-again : (t : ℕ) → read-list-lts.Need-loop-again (list-claims t) (read-list-at t) read-list.Post read-list-Inv-loop read-list-μ-loop
 read-list-loop-again t c =
@@ -398,7 +400,7 @@ read-list-loop-again t c =
     let at-loop = after-known-told .before .before .before in
     let at-start = at-loop .before .before .before .before .before .before .before .before in
     λ ns ps h.
-    c .before .before .go-on .ensures .answer square refl refl (at-start .args .left) (at-start .args .values) ns ps
+    c .before .before .next-part .ensures .answer square refl refl (at-start .args .left) (at-start .args .values) ns ps
     (after-read-value .read-value .last .1 .1 .0)
     (element-read (at-start .args .c) (after-known-told .before .turn .given .0 .0) (list-used t after-known-told) (list-open t after-known-told ns ps h)
     (list-read t after-known-told2))
@@ -412,11 +414,11 @@ read-list-returns-2 t c =
     (at-loop .loop .nodes) (at-loop .loop .pool) (at-start .args .name) (at-start .args .c) u)
     (c .before .turn2 .given .1)
     (at-loop .loop .inv (at-start .args .nodes .now) (at-start .args .pool .now)
-    (at-loop .before .before .before .enter .ensures square refl refl (at-start .args .left) (at-start .args .pool .now)))
+    (at-loop .before .before .before .first-part .ensures square refl refl (at-start .args .left) (at-start .args .pool .now)))
 
-read-record-enter-requires
-    : (t : ℕ) → read-record-lts.Need-enter-requires (record-claims t) (read-record-at t) read-record.Post read-record-Inv-loop read-record-μ-loop
-read-record-enter-requires t c κs =
+read-record-first-part-requires
+    : (t : ℕ) → read-record-lts.Need-first-part-requires (record-claims t) (read-record-at t) read-record.Post read-record-Inv-loop read-record-μ-loop
+read-record-first-part-requires t c κs =
     let at-start = c .before .before .before .before in
     (at-start .pre .1 .0 .placed, at-start .pre .1 .1, omega arith, omega arith)
 
@@ -484,9 +486,9 @@ read-record-add-total-3 t c =
     let at-start = at-loop .before .before .before .before .before .before .before .before in
     omega (arith, total-small curly (at-start .args .c) (c .before .r .given .0 .0) (at-start .pre .1 .0) (record-behind t c))
 
-read-record-go-on-requires
-    : (t : ℕ) → read-record-lts.Need-go-on-requires (record-claims t) (read-record-at t) read-record.Post read-record-Inv-loop read-record-μ-loop
-read-record-go-on-requires t c κs =
+read-record-next-part-requires
+    : (t : ℕ) → read-record-lts.Need-next-part-requires (record-claims t) (read-record-at t) read-record.Post read-record-Inv-loop read-record-μ-loop
+read-record-next-part-requires t c κs =
     let after-r = c .before .before in
     let after-known-told2 = after-r .before .before .before .before .before .before .before .before .before in
     let after-known-told = after-known-told2 .before .before .before .before .before .before .before .before .before in
@@ -500,19 +502,20 @@ read-record-go-on-requires t c κs =
 
 read-record-loop-less : (t : ℕ) → read-record-lts.Need-loop-less (record-claims t) (read-record-at t) read-record.Post read-record-Inv-loop read-record-μ-loop
 read-record-loop-less t c =
-    let after-go-on = c .before .before in
-    let after-pool2 = after-go-on .before .before .before .before .before .before in
+    let after-next-part = c .before .before in
+    let after-pool2 = after-next-part .before .before .before .before .before .before in
     let after-known-told2 = after-pool2 .before .before .before .before .before .before in
     let after-read-name = after-known-told2 .before .before .before .before .before in
     let after-turn = after-read-name .before .before .before .before .before in
     let at-loop = after-turn .before .before in
     let at-start = at-loop .before .before .before .before .before .before .before .before in
-    subst (λ (u : Turn). to-read (at-start .args .doc .now) (after-go-on .go-on .result) < to-read (at-start .args .doc .now) u)
+    subst (λ (u : Turn). to-read (at-start .args .doc .now) (after-next-part .next-part .result) < to-read (at-start .args .doc .now) u)
     (sym (after-turn .turn .given .1))
-    (let m = record-read t (after-go-on .before .before) .answer .moves in
+    (let m = record-read t (after-next-part .before .before) .answer .moves in
     let n = name-here t after-known-told2 .answer .moves in
-    reads-less (at-start .args .doc .now) (after-turn .turn .given .0 .0) (after-go-on .before .before .before .r .given .0 .0)
-    (after-turn .turn .given .0 .1 .0) (after-go-on .go-on .result) (omega (arith, m .ahead, n .ahead)) (m .within) (after-go-on .go-on .ensures .ahead))
+    reads-less (at-start .args .doc .now) (after-turn .turn .given .0 .0) (after-next-part .before .before .before .r .given .0 .0)
+    (after-turn .turn .given .0 .1 .0) (after-next-part .next-part .result) (omega (arith, m .ahead, n .ahead)) (m .within)
+    (after-next-part .next-part .ensures .ahead))
 
 read-record-loop-again : (t : ℕ) → read-record-lts.Need-loop-again (record-claims t) (read-record-at t) read-record.Post read-record-Inv-loop read-record-μ-loop
 read-record-loop-again t c =
@@ -523,7 +526,7 @@ read-record-loop-again t c =
     let at-loop = after-known-told .before .before .before in
     let at-start = at-loop .before .before .before .before .before .before .before .before in
     λ ns ps h.
-    c .before .before .go-on .ensures .answer curly refl refl (at-start .args .left) (at-start .args .values) ns ps
+    c .before .before .next-part .ensures .answer curly refl refl (at-start .args .left) (at-start .args .values) ns ps
     (after-read-value .read-value .last .1 .1 .0)
     (member-read (at-start .args .c) (after-known-told .before .turn .given .0 .0) (record-room t after-known-told) (record-used t after-known-told)
     (record-open t after-known-told ns ps h) (after-known-told2 .before .at .given .0 .0) (name-here t after-known-told2)
@@ -550,7 +553,7 @@ read-record-returns-3 t c =
     (at-loop .loop .nodes) (at-loop .loop .pool) (at-start .args .name) (at-start .args .c) u)
     (c .before .turn2 .given .1)
     (at-loop .loop .inv (at-start .args .nodes .now) (at-start .args .pool .now)
-    (at-loop .before .before .before .enter .ensures curly refl refl (at-start .args .left) (at-start .args .pool .now)))
+    (at-loop .before .before .before .first-part .ensures curly refl refl (at-start .args .left) (at-start .args .pool .now)))
 
 read-value-returns : (t : ℕ) → read-value-lts.Need-returns (value-claims t) (read-value-at t) read-value.Post
 read-value-returns t c =
@@ -558,7 +561,8 @@ read-value-returns t c =
     let at-start = after-skip-white .before .before .before .before in
     bracket-full (at-start .args .c) (at-start .pre .1) (after-skip-white .skip-white .ensures) square
     (sym (c .before .before .before .peek .ensures) ∙ c .before .before .if1 .taken)
-    (subst (λ (b : Bool). Judges (at-start .args .values) (at-start .args .left) (at-start .args .c .begun) b) (c .if2 .taken) (c .before .is-full .ensures))
+    (subst (λ (b : Bool). Judges-full (at-start .args .values) (at-start .args .left) (at-start .args .c .begun) b) (c .if2 .taken)
+    (c .before .is-full .ensures))
 
 read-value-sub-read-list : (t : ℕ) → read-value-lts.Need-sub-read-list (value-claims t) (read-value-at t) read-value.Post
 read-value-sub-read-list t c =
@@ -584,7 +588,7 @@ read-value-returns-2 t c =
     let at-start = after-is-full .before .before .before .before .before .before .before in
     bracket-value (at-start .args .c) (at-start .pre .1) (after-is-full .before .before .before .skip-white .ensures) square
     (sym (after-is-full .before .before .peek .ensures) ∙ after-is-full .before .if1 .taken)
-    (subst (λ (b : Bool). Judges (at-start .args .values) (at-start .args .left) (at-start .args .c .begun) b)
+    (subst (λ (b : Bool). Judges-full (at-start .args .values) (at-start .args .left) (at-start .args .c .begun) b)
     (after-read-list .before .before .before .if2 .left) (after-is-full .is-full .ensures))
     (after-read-list .read-list .ensures)
 
@@ -594,7 +598,8 @@ read-value-returns-3 t c =
     let at-start = after-peek .before .before .before .before .before in
     bracket-full (at-start .args .c) (at-start .pre .1) (after-peek .before .skip-white .ensures) curly
     (sym (after-peek .peek .ensures) ∙ c .before .before .if3 .taken)
-    (subst (λ (b : Bool). Judges (at-start .args .values) (at-start .args .left) (at-start .args .c .begun) b) (c .if4 .taken) (c .before .is-full2 .ensures))
+    (subst (λ (b : Bool). Judges-full (at-start .args .values) (at-start .args .left) (at-start .args .c .begun) b) (c .if4 .taken)
+    (c .before .is-full2 .ensures))
 
 read-value-sub-read-record : (t : ℕ) → read-value-lts.Need-sub-read-record (value-claims t) (read-value-at t) read-value.Post
 read-value-sub-read-record t c =
@@ -621,7 +626,7 @@ read-value-returns-4 t c =
     let at-start = after-skip-white .before .before .before .before in
     bracket-value (at-start .args .c) (at-start .pre .1) (after-skip-white .skip-white .ensures) curly
     (sym (after-is-full2 .before .before .before .peek .ensures) ∙ after-is-full2 .before .if3 .taken)
-    (subst (λ (b : Bool). Judges (at-start .args .values) (at-start .args .left) (at-start .args .c .begun) b)
+    (subst (λ (b : Bool). Judges-full (at-start .args .values) (at-start .args .left) (at-start .args .c .begun) b)
     (after-read-record .before .before .before .if4 .left) (after-is-full2 .is-full2 .ensures))
     (after-read-record .read-record .ensures)
 
@@ -684,7 +689,7 @@ pub +read-list+read-record+read-value-spec : {M : Type 1} → statement M
     read-list.Post
     read-list-Inv-loop
     read-list-μ-loop
-    (read-list-enter-requires t)
+    (read-list-first-part-requires t)
     (read-list-loop-holds t)
     (λ c. search needs)
     (read-list-read-value-requires t)
@@ -694,7 +699,7 @@ pub +read-list+read-record+read-value-spec : {M : Type 1} → statement M
     (read-list-returns t)
     (read-list-add-total t)
     (read-list-add-total-2 t)
-    (read-list-go-on-requires t)
+    (read-list-next-part-requires t)
     (read-list-loop-less t)
     (read-list-loop-again t)
     (λ c. search needs)
@@ -706,7 +711,7 @@ pub +read-list+read-record+read-value-spec : {M : Type 1} → statement M
     read-record.Post
     read-record-Inv-loop
     read-record-μ-loop
-    (read-record-enter-requires t)
+    (read-record-first-part-requires t)
     (read-record-loop-holds t)
     (λ c. search needs)
     (read-record-add-read-name t)
@@ -720,7 +725,7 @@ pub +read-list+read-record+read-value-spec : {M : Type 1} → statement M
     (read-record-add-total t)
     (read-record-add-total-2 t)
     (read-record-add-total-3 t)
-    (read-record-go-on-requires t)
+    (read-record-next-part-requires t)
     (read-record-loop-less t)
     (read-record-loop-again t)
     (λ c. search needs)

@@ -5,11 +5,13 @@ use mathlib.Core.Path.{refl, subst}
 use mathlib.Core.Bool.{Bool}
 use native.Mathlib.Omega.{arith}
 use lib.ListN.{length}
-use Rattle.shape_reader.specs.ShapeParts.{Kept, Follows}
+use Rattle.tokens.specs.Expecting.{Kept}
+use Rattle.shape_reader.specs.ShapeParts.{Follows}
 use Rattle.shape_reader.proofs.KindSets.{held-small}
 use Rattle.shape_reader.proofs.KindReading.{Kinds-so-far, no-kinds, one-kind, no-kind-word, kinds-end}
 use Rattle.shape_reader.proofs.Steps.{next-room}
-use Rattle.shape_reader.proofs.Openings.{next-kept, kept-then, placed-further, found-word}
+use Rattle.tokens.specs.ReadingLaws.{kept-then, placed-further}
+use Rattle.shape_reader.proofs.Openings.{next-kept, found-word}
 use Rattle.shape_reader.proofs.kinds.read_kinds.Statement.{statement}
 use Rattle.shape_reader.proofs.kinds.read_kinds.Tie as tie
 

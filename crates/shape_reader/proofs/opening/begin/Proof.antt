@@ -3,7 +3,7 @@ use borrow.Author.Needs.{needs}
 use native.Mathlib.Omega.{arith}
 use mathlib.Core.Path.{subst}
 use mathlib.Core.Bool.{Bool}
-use Rattle.tokens.specs.Expecting.{Judges}
+use Rattle.tokens.specs.Expecting.{Judges-full}
 use Rattle.shape_reader.proofs.Steps.{next-room}
 use Rattle.shape_reader.proofs.Openings.{bracket-missing, bracket-full, bracket-room, shape-begun, shape-missing}
 use Rattle.shape_reader.proofs.opening.begin.Statement.{statement}
@@ -24,7 +24,8 @@ returns-2 c =
     let after-next = c .before .before .before .before .before .before .before in
     let at-start = after-next .before .before .before .before in
     bracket-full (at-start .args .values) (at-start .args .left) (at-start .args .c) (after-next .next .ensures) (c .before .before .before .t .given .1)
-    (subst (λ (b : Bool). Judges (at-start .args .values) (at-start .args .left) (at-start .args .c .begun) b) (c .if1 .taken) (c .before .is-full .ensures))
+    (subst (λ (b : Bool). Judges-full (at-start .args .values) (at-start .args .left) (at-start .args .c .begun) b) (c .if1 .taken)
+    (c .before .is-full .ensures))
 
 add-expect : tie.Need-add-expect
 add-expect c =
@@ -52,7 +53,8 @@ returns-3 c =
     let after-next = after-is-full .before .before .before .before .before .before in
     let at-start = after-next .before .before .before .before in
     shape-begun (at-start .args .values) (at-start .args .left) (at-start .args .c) (after-next .next .ensures) (after-is-full .before .before .t .given .1)
-    (subst (λ (b : Bool). Judges (at-start .args .values) (at-start .args .left) (at-start .args .c .begun) b) (after-expect .before .before .before .if1 .left)
+    (subst (λ (b : Bool). Judges-full (at-start .args .values) (at-start .args .left) (at-start .args .c .begun) b)
+    (after-expect .before .before .before .if1 .left)
     (after-is-full .is-full .ensures))
     (after-expect .expect .ensures) (c .before .end .given .1)
 
@@ -63,7 +65,8 @@ returns-4 c =
     let after-next = after-is-full .before .before .before .before .before .before in
     let at-start = after-next .before .before .before .before in
     shape-missing (at-start .args .values) (at-start .args .left) (at-start .args .c) (after-next .next .ensures) (after-is-full .before .before .t .given .1)
-    (subst (λ (b : Bool). Judges (at-start .args .values) (at-start .args .left) (at-start .args .c .begun) b) (after-expect .before .before .before .if1 .left)
+    (subst (λ (b : Bool). Judges-full (at-start .args .values) (at-start .args .left) (at-start .args .c .begun) b)
+    (after-expect .before .before .before .if1 .left)
     (after-is-full .is-full .ensures))
     (after-expect .expect .ensures) (c .before .place2 .given .1)
 

@@ -6,12 +6,14 @@ use Rattle.text.proofs.eight.four_stand.Tie as tie
 
 returns : tie.Need-returns
 returns c =
-    let after-stands3 = c .before .before in
-    let after-stands2 = after-stands3 .before .before in
-    let after-stands = after-stands2 .before .before in
-    let at-start = after-stands .before .before .before in
-    stand-four (at-start .args .doc .now) (at-start .args .i) (after-stands .stands .result) (after-stands2 .stands2 .result) (after-stands3 .stands3 .result)
-    (c .stands4 .result) (after-stands .stands .ensures) (after-stands2 .stands2 .ensures) (after-stands3 .stands3 .ensures) (c .stands4 .ensures)
+    let after-is-plain-ascii3 = c .before .before in
+    let after-is-plain-ascii2 = after-is-plain-ascii3 .before .before in
+    let after-is-plain-ascii = after-is-plain-ascii2 .before .before in
+    let at-start = after-is-plain-ascii .before .before .before in
+    stand-four (at-start .args .doc .now) (at-start .args .i) (after-is-plain-ascii .is-plain-ascii .result) (after-is-plain-ascii2 .is-plain-ascii2 .result)
+    (after-is-plain-ascii3 .is-plain-ascii3 .result)
+    (c .is-plain-ascii4 .result) (after-is-plain-ascii .is-plain-ascii .ensures) (after-is-plain-ascii2 .is-plain-ascii2 .ensures)
+    (after-is-plain-ascii3 .is-plain-ascii3 .ensures) (c .is-plain-ascii4 .ensures)
 
 pub four-stand-spec : {M : Type 1} → statement M
 four-stand-spec =

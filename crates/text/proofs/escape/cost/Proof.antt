@@ -7,7 +7,7 @@ use Rattle.text.proofs.escape.cost.Statement.{statement}
 use Rattle.text.proofs.escape.cost.Tie as tie
 
 returns : tie.Need-returns
-returns c = sym (ap length (c .before .is-itself .ensures (c .if1 .taken)))
+returns c = sym (ap length (c .before .needs-no-escape .ensures (c .if1 .taken)))
 
 returns-2 : tie.Need-returns-2
 returns-2 c = sym (ap length (escaped-short _ (c .before .short-form .result) (c .before .short-form .ensures) (c .if2 .taken)))

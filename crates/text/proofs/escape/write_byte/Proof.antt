@@ -9,13 +9,13 @@ use Rattle.text.proofs.escape.write_byte.Statement.{statement}
 use Rattle.text.proofs.escape.write_byte.Tie as tie
 
 slice-write-out : tie.Need-slice-write-out
-slice-write-out c = omega (arith, ap length (c .before .is-itself .ensures (c .if1 .taken)), c .before .before .before .pre)
+slice-write-out c = omega (arith, ap length (c .before .needs-no-escape .ensures (c .if1 .taken)), c .before .before .before .pre)
 
 returns : tie.Need-returns
 returns c =
     let start = c .before .before .before in
     let a = start .args in
-    let e = c .before .is-itself .ensures (c .if1 .taken) in
+    let e = c .before .needs-no-escape .ensures (c .if1 .taken) in
     let s = ap length e in
     let l = start .pre in
     writes-same (escaped (a .b)) _ (writes-next (a .at) (a .b) (writes-none (a .out .now) (a .at)) refl (omega arith)) (sym e) refl

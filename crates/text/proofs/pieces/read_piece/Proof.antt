@@ -1,5 +1,5 @@
 -- `text::pieces::read_piece` meets its contract: an escape, or a character of several bytes. Assumes nothing.
-use Rattle.text.proofs.Tables.{stands-outside}
+use Rattle.text.proofs.Tables.{plain-ascii-outside}
 use borrow.Author.Needs.{needs}
 use Rattle.text.proofs.pieces.read_piece.Statement.{statement}
 use Rattle.text.proofs.pieces.read_piece.Tie as tie
@@ -7,7 +7,7 @@ use Rattle.text.proofs.pieces.read_piece.Tie as tie
 read-wide-requires : tie.Need-read-wide-requires
 read-wide-requires c κs = let a = c .before .before .before .before .before .args in
     let p = c .before .before .before .before .before .pre in
-    (p .0, stands-outside _ (p .1) (p .2) (c .before .if1 .left))
+    (p .0, plain-ascii-outside _ (p .1) (p .2) (c .before .if1 .left))
 
 pub read-piece-spec : {M : Type 1} → statement M
 read-piece-spec =

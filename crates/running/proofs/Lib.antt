@@ -1,0 +1,12 @@
+pub mod Lookup
+pub mod PlaceRuns
+pub mod Operands
+pub mod PutRows
+pub mod Elements
+pub mod Named
+pub mod Closing
+pub mod SingleRows
+pub mod FormRuns
+pub mod WhenRuns
+pub mod EachRuns
+pub mod PackRuns

@@ -1,0 +1,74 @@
+-- `running::rows::close_record` meets its contract. Assumes nothing.
+use borrow.Author.Needs.{needs}
+use Rattle.running.proofs.rows.close_record.Statement.{statement}
+use Rattle.running.proofs.rows.close_record.Tie as tie
+use native.Mathlib.Omega.{arith}
+use mathlib.Core.Path.{refl}
+use Rattle.running.proofs.Closing.{record-short, record-left, record-closed}
+
+mul-if1 : tie.Need-mul-if1
+mul-if1 c = omega (arith, c .before .before .pre .few)
+
+returns : tie.Need-returns
+returns c =
+    let at-start = c .before .before .before in
+    record-left (at-start .args .results .now) (at-start .args .pool .now) (at-start .args .begun) (at-start .args .to) (at-start .args .name) (c .if1 .taken)
+
+members-length-requires : tie.Need-members-length-requires
+members-length-requires c κs =
+    let at-start = c .before .before .before .before in
+    at-start .pre .members (c .before .if1 .left)
+
+bracketed-requires : tie.Need-bracketed-requires
+bracketed-requires c κs =
+    let at-start = c .before .before .before .before .before in
+    omega (
+      arith,
+      record-short (at-start .args .results .now) (at-start .args .pool .now) (at-start .args .begun) (at-start .args .to)
+          (at-start .pre .members (c .before .before .if1 .left)) (c .members-length .ensures),
+    )
+
+head-word-requires : tie.Need-head-word-requires
+head-word-requires c κs =
+    let at-start = c .before .before .before .before .before .before in
+    omega (
+      arith,
+      c .bracketed .ensures,
+      record-short (at-start .args .results .now) (at-start .args .pool .now) (at-start .args .begun) (at-start .args .to)
+          (at-start .pre .members (c .before .before .before .if1 .left)) (c .before .members-length .ensures),
+    )
+
+sub-size : tie.Need-sub-size
+sub-size c =
+    let at-start = c .before .before .before .before .before .before .before in
+    omega (arith, at-start .pre .later)
+
+put-row-requires : tie.Need-put-row-requires
+put-row-requires c κs =
+    let else1 = c .before .before .before .before .before in
+    omega (arith, else1 .before .before .before .pre .later, else1 .if1 .left)
+
+returns-2 : tie.Need-returns-2
+returns-2 c =
+    let after-head-word = c .before .before .before .before in
+    let else1 = after-head-word .before .before .before .before in
+    let at-start = else1 .before .before .before in
+    record-closed (at-start .args .results .now) (at-start .args .pool .now) (at-start .args .begun) (at-start .args .to) (at-start .args .name)
+    (at-start .pre .later) (else1 .if1 .left) (after-head-word .before .before .members-length .ensures) (after-head-word .before .bracketed .ensures)
+    (after-head-word .head-word .ensures) refl (c .before .before .put-row .ensures)
+
+pub close-record-spec : {M : Type 1} → statement M
+close-record-spec =
+    tie.close
+    (tie.spec
+    mul-if1
+    returns
+    (λ c. search needs) (λ c. search needs) (λ c. search needs)
+    members-length-requires
+    bracketed-requires
+    head-word-requires
+    sub-size
+    (λ c. search needs) (λ c. search needs)
+    put-row-requires
+    (λ c. search needs)
+    returns-2)

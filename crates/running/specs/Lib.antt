@@ -1,0 +1,12 @@
+pub mod Kinds
+pub mod KindLaws
+pub mod Codes
+pub mod Bindings
+pub mod BindingsLaws
+pub mod Members
+pub mod Walk
+pub mod PlaceLaws
+pub mod FormLaws
+pub mod Rows
+pub mod Lengths
+pub mod Singles

@@ -1,0 +1,90 @@
+// Results that are one value: of a place, a count, a literal.
+ghost use mathlib.Core.Path.{_≡_};
+ghost use mathlib.Core.List.{List};
+ghost use Prim.Native.Nat.{ℕ, suc, _+_};
+ghost use Rattle.definitions.specs.Number.{Number};
+ghost use Rattle.definitions.specs.Value.{Value};
+ghost use Rattle.nodes.specs.Nodes.{head-word};
+ghost use Rattle.running.specs.Bindings.{Bound};
+ghost use Rattle.running.specs.Rows.{Some-bound};
+ghost use Rattle.running.specs.Singles.{Giving, Gives, Counts, Number-word, Some-number, Literal-at, Some-literal};
+use crate::going::Cursor;
+use crate::going::Part;
+use crate::rows::count_items;
+use crate::rows::keep;
+use crate::rows::put;
+
+// Puts the value at a row of the document.
+pub fn give_value(results: &mut [u64], nodes: &[u64], at: usize, limit: usize, c: Cursor, steps: usize) -> Part
+    requires { ⌜ Giving limit c steps ⌝ }
+    requires there { ⌜ Some-bound (now nodes) at 0 ⌝ }
+    ensures given { λ r. ⌜ Gives (now (results .entry)) (now (results .exit)) limit c steps (λ p v. Bound (now (nodes .entry)) p at v) r ⌝ }
+{
+    let kind = nodes::row_kind(nodes, at);
+    let begun = keep(results, c.begun, nodes, at, c.name);
+    Part::Done { kind, begun, steps }
+}
+
+// The first word of the row of a number.
+fn number_head(bits: u64, coefficient: u64) -> u64
+    requires { ⌜ Some-number bits coefficient ⌝ }
+    ensures made { λ r. ⌜ ((x : Number) → Number-word bits coefficient x → r ≡ head-word (Value.number x)) ⌝ }
+{
+    let written = number::number_length(bits % 2 == 1, coefficient, bits / 2);
+    nodes::head_word(nodes::NUMBER, bits, written)
+}
+
+// Puts how many elements the value at a row of the document has.
+pub fn give_count(results: &mut [u64], nodes: &[u64], at: usize, limit: usize, c: Cursor, steps: usize) -> Part
+    requires { ⌜ Giving limit c steps ⌝ }
+    requires there { ⌜ Some-bound (now nodes) at 0 ⌝ }
+    ensures given { λ r. ⌜ Gives (now (results .entry)) (now (results .exit)) limit c steps (Counts (now (nodes .entry)) at) r ⌝ }
+{
+    let n = count_items(nodes, at);
+    let begun = put(results, c.begun, number_head(0, n), n, c.name);
+    Part::Done {
+        kind: nodes::NUMBER,
+        begun,
+        steps,
+    }
+}
+
+// The first word of the row that the literal at a row comes to.
+fn literal_head(forms: &[u64], row: usize, pool: &[u64]) -> u64
+    requires { ⌜ Some-literal (now forms) (now pool) row ⌝ }
+    ensures made { λ r. ⌜ ((p : List ℕ) (v : Value) → Literal-at (now (forms .entry)) (now (pool .entry)) row p v → r ≡ head-word v) ⌝ }
+{
+    let code = forms::code(forms, row);
+    let payload = forms::payload(forms, row);
+    if code == forms::NUM {
+        return number_head(forms::operand(forms, row), payload);
+    }
+    if code == forms::STR {
+        let written = text::text_length(pool, nodes::text_word(payload), nodes::text_bytes(payload));
+        return nodes::head_word(nodes::TEXT, 0, written);
+    }
+    if code == forms::YES {
+        return nodes::head_word(nodes::TRUE, 0, 4);
+    }
+    if code == forms::NO {
+        return nodes::head_word(nodes::FALSE, 0, 5);
+    }
+    nodes::head_word(nodes::NULL, 0, 4)
+}
+
+// Puts the literal at a row.
+pub fn give_literal(results: &mut [u64], forms: &[u64], pool: &[u64], limit: usize, c: Cursor) -> Part
+    requires { ⌜ Giving limit c (c .steps + 1) ⌝ }
+    requires there { ⌜ Some-literal (now forms) (now pool) (c .row) ⌝ }
+    ensures given { λ r. ⌜ Gives (now (results .entry)) (now (results .exit)) limit c (c .steps + 1)
+        (λ p v. Literal-at (now (forms .entry)) (now (pool .entry)) (c .row) p v) r ⌝ }
+{
+    let head = literal_head(forms, c.row, pool);
+    let payload = forms::payload(forms, c.row);
+    let begun = put(results, c.begun, head, payload, c.name);
+    Part::Done {
+        kind: head % 8,
+        begun,
+        steps: c.steps + 1,
+    }
+}

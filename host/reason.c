@@ -1,0 +1,183 @@
+#include "reason.h"
+
+#include <string.h>
+
+#include "forms.h"
+#include "runvestol.h"
+
+/* the most names that are told of those that a shape lists */
+enum { MOST_NAMES = 8 };
+
+/* What each form that wants anything wants. */
+static const struct want {
+    const char *form, *kinds;
+} wants[] = {
+    {"field", "rec"}, {"int", "int"}, {"dec", "int or dec"}, {"bool", "bool"}, {"text", "text"},
+    {"count", "list or null"}, {"each", "list or null"}, {"if", "bool"},
+};
+
+static bool add(struct text *to, const char *words)
+{
+    return text_add(to, words, strlen(words));
+}
+
+static bool add_span(struct text *to, const struct text *from, struct span span)
+{
+    return text_add(to, from->bytes + span.from, span.to - span.from);
+}
+
+/* ---- a reader that tells what a form meets: it gives the part that the form looks at, with the same bindings around it */
+
+/*
+ * How what stands around the part is put. Each binding leaves it in the result shape, some lines further down: as a list's
+ * element, or as the member of a record that nothing is joined with but null.
+ */
+struct around {
+    const char *before, *between, *behind;
+    size_t lines;
+};
+
+static const struct around not_bound = {NULL, NULL, NULL, 0};
+static const struct around bound_by_each = {"(each ", " ", ")", 1};
+static const struct around bound_in_first = {"(when ", "(pack\"\"", ")(none))", 2};
+static const struct around bound_in_second = {"(when ", "(none)(pack\"\"", "))", 2};
+
+/* How a form binds what stands in the part of it that begins now. */
+static const struct around *around_in(const struct text *reader, const struct form *form)
+{
+    if (span_is(reader, form->words[0], "each"))
+        return form->parts == 1 ? &bound_by_each : &not_bound;
+    if (!span_is(reader, form->words[0], "when") || form->parts == 0)
+        return &not_bound;
+    return form->parts == 1 ? &bound_in_first : &bound_in_second;
+}
+
+static bool add_before(struct text *to, const struct text *reader, const struct form *form)
+{
+    const struct around *around = around_in(reader, form);
+    if (around == &not_bound)
+        return true;
+    return add(to, around->before) && (around == &bound_by_each || add_span(to, reader, form->words[1]))
+        && add_span(to, reader, form->first) && add(to, around->between);
+}
+
+static bool add_part(struct text *to, const struct text *reader, const struct form *form)
+{
+    if (span_is(reader, form->words[0], "if"))
+        return add_span(to, reader, form->first);
+    return add(to, "(keep ") && add_span(to, reader, form->first) && add(to, ")");
+}
+
+/* Makes the reader, and gives the line of its result shape at which the part's own shape begins. */
+static bool make_probe(struct text *to, const struct text *reader, const struct form *forms, int count, size_t *line)
+{
+    bool fine = true;
+    *line = 0;
+    for (int i = 0; i < count - 1; i++) {
+        fine = fine && add_before(to, reader, &forms[i]);
+        *line += around_in(reader, &forms[i])->lines;
+    }
+    fine = fine && add_part(to, reader, &forms[count - 1]);
+    for (int i = count - 2; fine && i >= 0; i--) {
+        const struct around *around = around_in(reader, &forms[i]);
+        fine = around == &not_bound || add(to, around->behind);
+    }
+    return fine;
+}
+
+/* ---- the shape that it meets, as it is written */
+
+/* Where a line begins, lines being counted from 0. */
+static size_t start_of_line(const struct text *shape, size_t line)
+{
+    size_t at = 0;
+    for (; line > 0 && at < shape->length; at++)
+        line -= shape->bytes[at] == '\n';
+    return at;
+}
+
+static size_t spaces_at(const struct text *shape, size_t at)
+{
+    size_t from = at;
+    while (at < shape->length && shape->bytes[at] == ' ')
+        at++;
+    return at - from;
+}
+
+static size_t end_of_line(const struct text *shape, size_t at)
+{
+    while (at < shape->length && shape->bytes[at] != '\n')
+        at++;
+    return at;
+}
+
+/* The kind words of the form on a line. */
+static bool add_kinds(struct text *to, const struct text *shape, size_t line_at)
+{
+    size_t at = line_at + spaces_at(shape, line_at) + strlen("(shape");
+    bool fine = add(to, ", and meets");
+    for (const char *before = " "; fine && at < shape->length && shape->bytes[at] == ' '; before = " or ") {
+        size_t from = ++at;
+        while (at < shape->length && shape->bytes[at] >= 'a' && shape->bytes[at] <= 'z')
+            at++;
+        fine = add(to, before) && add_span(to, shape, (struct span){from, at});
+    }
+    return fine;
+}
+
+/* The names that the form on a line lists: each has a line of its own, one space further in. */
+static bool add_names(struct text *to, const struct text *shape, size_t line_at)
+{
+    static const char member[] = "(member ";
+    size_t indent = spaces_at(shape, line_at), at = end_of_line(shape, line_at) + 1;
+    bool fine = add(to, ", and the shape has");
+    int count = 0;
+    for (; fine && at < shape->length && spaces_at(shape, at) > indent; at = end_of_line(shape, at) + 1) {
+        size_t name = at + indent + sizeof member;
+        if (spaces_at(shape, at) != indent + 1 || memcmp(shape->bytes + name - strlen(member), member, strlen(member)) != 0)
+            continue;
+        if (count++ == MOST_NAMES)
+            return add(to, " and others there");
+        fine = add(to, count == 1 ? " " : ", ") && add_span(to, shape, (struct span){name, end_of_line(shape, at)});
+    }
+    return fine && add(to, count == 0 ? " none there" : " there");
+}
+
+/* ---- both */
+
+static bool add_wanted(struct text *words, const struct text *reader, const struct form *form, uint64_t number)
+{
+    for (size_t i = 0; i < sizeof wants / sizeof *wants; i++)
+        if (span_is(reader, form->words[0], wants[i].form))
+            return add(words, wants[i].form) && add(words, " wants ")
+                && add(words, number == RUNVESTOL_UNWANTED_KIND ? wants[i].kinds : "a name that is listed");
+    return false;
+}
+
+/* What the form meets; nothing where the library does not pass the reader that is to tell. */
+static bool add_met(struct text *words, const struct text *probe, const struct text *shape, size_t line, uint64_t number)
+{
+    uint8_t written[RUNVESTOL_TEXT_BYTES];
+    const struct text texts[] = {*probe, *shape};
+    struct outcome o = make_call(call_check, texts, (struct output){written, sizeof written});
+    if (o.number != RUNVESTOL_OK)
+        return true;
+    const struct text result = {NULL, written, o.length};
+    size_t at = start_of_line(&result, line);
+    return number == RUNVESTOL_UNWANTED_KIND ? add_kinds(words, &result, at) : add_names(words, &result, at);
+}
+
+bool reason_of_check(struct text *words, const struct text *texts, const struct outcome *o)
+{
+    const struct text *reader = &texts[0], *shape = &texts[1];
+    struct form forms[MOST_LEVELS];
+    struct text probe = {NULL, NULL, 0};
+    size_t line;
+    int count = 0;
+    if (o->number == RUNVESTOL_UNWANTED_KIND || o->number == RUNVESTOL_UNLISTED_NAME)
+        count = forms_around(reader, o->place, forms);
+    bool told = count > 0 && add_wanted(words, reader, &forms[count - 1], o->number)
+        && make_probe(&probe, reader, forms, count, &line) && add_met(words, &probe, shape, line, o->number);
+    text_free(&probe);
+    return told;
+}
