@@ -13,7 +13,7 @@ use Rattle.definitions.specs.Shape.{only-null, only-text, only-rec, rec-
 use Rattle.definitions.specs.Reader.{Place, read-place}
 use Rattle.definitions.specs.Operations.{Done, refusal, written, said, plain-operation, admits-operation, check-operation}
 use Rattle.definitions.specs.Calls.{plain-call, admits-call}
-use Rattle.definitions.specs.WorkSlices.{plain-slices, infer-slices, admits-slices, join-slices, below-slices}
+use Rattle.definitions.specs.WorkSlices.{plain-slices, infer-slices, admits-slices, join-slices, below-slices, check-slices, run-slices}
 use Rattle.definitions.specs.Evaluate.{evaluate}
 
 -- an output or answer buffer of n bytes
@@ -47,6 +47,14 @@ published-for-join = refl
 published-for-below : below-slices standard ≡ 1024 ∷ 1024 ∷ 4096 ∷ []
 unfolding evaluate
 published-for-below = refl
+
+published-for-check : check-slices standard ≡ 1536 ∷ 1024 ∷ 1024 ∷ 32 ∷ 4416 ∷ []
+unfolding evaluate
+published-for-check = refl
+
+published-for-run : run-slices standard ≡ 1536 ∷ 1536 ∷ 1536 ∷ 32 ∷ 4927 ∷ []
+unfolding evaluate
+published-for-run = refl
 
 -- ---- refusal 1
 

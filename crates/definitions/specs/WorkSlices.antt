@@ -26,6 +26,22 @@ value-words l n = 3 * most-values l n
 abbrev pub text-words : Limits → (n : ℕ) → ℕ
 text-words l n = (min (l .bytes) n + 8 * most-values l n - 2) / 8
 
+-- the forms of a reader, three words each
+abbrev pub reader-words : Limits → ℕ
+reader-words l = 3 * l .values
+
+-- the names and texts of a reader of n bytes, eight decoded bytes a word
+abbrev pub reader-texts : Limits → (n : ℕ) → ℕ
+reader-texts l n = (min (l .bytes) n + 5 * l .values + 6) / 8
+
+-- what is bound while a reader is checked or run, a word each
+abbrev pub bound-words : Limits → ℕ
+bound-words l = l .nesting
+
+-- the values of a result, three words each
+abbrev pub result-words : Limits → ℕ
+result-words l = 3 * l .values
+
 -- ---- what the texts of an operation ask for, by their lengths
 
 -- a document: nodes, pool
@@ -39,6 +55,15 @@ for-shape-document l n m = form-words l ∷ value-words l m ∷ (name-words l n 
 -- two shapes: shapes, others, pool
 abbrev pub for-two-shapes : Limits → (first second : ℕ) → List ℕ
 for-two-shapes l n m = form-words l ∷ form-words l ∷ (name-words l n + name-words l m) ∷ []
+
+-- a reader and a shape: forms, shapes, results, bindings, pool
+abbrev pub for-reader-shape : Limits → (reader shape : ℕ) → List ℕ
+for-reader-shape l n m = reader-words l ∷ form-words l ∷ form-words l ∷ bound-words l ∷ (reader-texts l n + name-words l m) ∷ []
+
+-- a reader and a document: forms, nodes, results, bindings, pool
+abbrev pub for-reader-document : Limits → (reader document : ℕ) → List ℕ
+for-reader-document l n m =
+    reader-words l ∷ value-words l m ∷ result-words l ∷ bound-words l ∷ (reader-texts l n + text-words l m) ∷ []
 
 -- ---- what each operation publishes
 
@@ -56,3 +81,9 @@ join-slices l = for-two-shapes l (l .bytes) (l .bytes)
 
 abbrev pub below-slices : Limits → List ℕ
 below-slices l = for-two-shapes l (l .bytes) (l .bytes)
+
+abbrev pub check-slices : Limits → List ℕ
+check-slices l = for-reader-shape l (l .bytes) (l .bytes)
+
+abbrev pub run-slices : Limits → List ℕ
+run-slices l = for-reader-document l (l .bytes) (l .bytes)

@@ -1,2 +1,3 @@
 pub mod ShapeTexts
 pub mod Pairs
+pub mod ReaderTexts

@@ -9,9 +9,17 @@ use Rattle.definitions.specs.Bytes.{Bytes}
 use Rattle.definitions.specs.Value.{Value}
 use Rattle.definitions.specs.Shape.{Shape, ascending, forms, levels}
 use Rattle.definitions.specs.ShapeText.{read-shape}
+use Rattle.definitions.specs.Reader.{Result, read-reader}
 use Rattle.definitions.specs.Operations.{Reading, passed, stopped, refusal, judge-text, judge-both, slices-short}
-use Rattle.definitions.specs.WorkSlices.{form-words, name-words, for-shape-document, for-two-shapes}
+use Rattle.definitions.specs.WorkSlices.{form-words, name-words, value-words, text-words, reader-words, reader-texts}
+use Rattle.definitions.specs.WorkSlices.{for-shape-document, for-two-shapes}
+use Rattle.laws.specs.FormGrammar.{result-forms, result-levels}
+use Rattle.laws.specs.Readers.{proper}
+use Rattle.laws.specs.Good.{Good-reader}
 use Rattle.shapes.specs.Shapes.{Shape-rows}
+use Rattle.forms.specs.Forms.{Form-rows}
+use Rattle.form_reader.specs.declared.FormsRead.{FormsRead}
+use Rattle.form_reader.specs.declared.FormsRead.the-variants as forms-read
 use Rattle.shape_reader.specs.declared.ShapeRead.{ShapeRead}
 use Rattle.shape_reader.specs.declared.ShapeRead.the-variants as shape-read
 use Rattle.documents.specs.Documents.{Value-table}
@@ -60,6 +68,39 @@ pub record Judges-first (l : Limits) (text : Bytes) (p shapes′ p′ : List ℕ
   pub answer : Shape-outcome l text p shapes′ p′ 0 r
   pub low : (words top : ℕ) → r ≡ shape-read.Read words top → top ≤ name-words l (length text)
 
+-- ---- a reader, which is always the first text
+
+-- the first words of a table hold a reader, its names and texts in the first `top` words of the pool
+pub record Reader-table (l : Limits) (forms pool : List ℕ) (words top : ℕ) (r : Result) : Type 0 where
+  pub rows : Form-rows (take top pool) 1 0 r (take words forms)
+  pub counted : words ≡ 3 * result-forms r
+  pub few : result-forms r ≤ l .values
+  pub nests : result-levels r ≤ l .nesting
+  pub names-once : proper r ≡ true
+  pub good : Good-reader r
+  pub within : top ≤ length pool
+  pub small : top < 65536
+
+-- the tables have room for this text, if it is short enough to be read
+pub record Reader-room (text : Bytes) (forms pool : List ℕ) (l : Limits) : Type 0 where
+  pub rows : reader-words l ≤ length forms
+  pub texts : reader-texts l (length text) ≤ length pool
+  pub small : Small l
+
+-- the text is a reader, which the tables hold; it takes no more of the pool than a reader can
+pub record Reader-passes (l : Limits) (text : Bytes) (forms′ p′ : List ℕ) (words top : ℕ) : Type 0 where
+  pub reader : Result
+  pub judged : (k : ℕ) → judge-text k l read-reader text ≡ passed reader
+  pub table : Reader-table l forms′ p′ words top reader
+  pub low : top ≤ reader-texts l (length text)
+
+abbrev pub Reader-outcome : Limits → Bytes → (forms′ p′ : List ℕ) → FormsRead → Type 0
+Reader-outcome l text forms′ p′ (forms-read.Read words top) = Reader-passes l text forms′ p′ words top
+Reader-outcome l text forms′ p′ (forms-read.Refused n place) = (k : ℕ) → judge-text k l read-reader text ≡ stopped (refusal n k place)
+
+pub record Judges-reader (l : Limits) (text : Bytes) (forms′ p′ : List ℕ) (r : FormsRead) : Type 0 where
+  pub answer : Reader-outcome l text forms′ p′ r
+
 -- ---- both
 
 -- both texts passed, and the tables hold what they mean
@@ -102,3 +143,27 @@ pub record Two-shapes-slices (one two : Bytes) (shapes others pool : List ℕ) (
 pub record Two-shapes-held (l : Limits) (shapes others pool : List ℕ) (a b top : ℕ) (s t : Shape) : Type 0 where
   pub one : Shape-table l shapes pool a top s
   pub other : Shape-table l others pool b top t
+
+-- ---- a reader and a shape
+
+pub record Reader-shape-slices (reader shape : Bytes) (forms shapes pool : List ℕ) (l : Limits) : Type 0 where
+  pub rows : reader-words l ≤ length forms
+  pub shape-rows : form-words l ≤ length shapes
+  pub texts : reader-texts l (length reader) + name-words l (length shape) ≤ length pool
+  pub small : Small l
+
+pub record Reader-shape-held (l : Limits) (forms shapes pool : List ℕ) (a b top : ℕ) (r : Result) (s : Shape) : Type 0 where
+  pub reader : Reader-table l forms pool a top r
+  pub shape : Shape-table l shapes pool b top s
+
+-- ---- a reader and a document
+
+pub record Reader-document-slices (reader document : Bytes) (forms nodes pool : List ℕ) (l : Limits) : Type 0 where
+  pub rows : reader-words l ≤ length forms
+  pub value-rows : value-words l (length document) ≤ length nodes
+  pub texts : reader-texts l (length reader) + text-words l (length document) ≤ length pool
+  pub small : Small l
+
+pub record Reader-document-held (l : Limits) (forms nodes pool : List ℕ) (a b top : ℕ) (r : Result) (v : Value) : Type 0 where
+  pub reader : Reader-table l forms pool a top r
+  pub value : Value-table nodes pool b top v

@@ -1,10 +1,14 @@
 // The texts of an operation, judged in order and read: all of the first one's causes go before any of the second's.
 ghost use Rattle.definitions.specs.ShapeText.{read-shape};
+ghost use Rattle.definitions.specs.Reader.{read-reader};
 ghost use Rattle.definitions.specs.Operations.{source};
 ghost use Rattle.inputs.specs.Inputs.{Shape-room, Judges-shape, Judges-first, Judges-both};
 ghost use Rattle.inputs.specs.Inputs.{Shape-document-slices, Shape-document-held, Two-shapes-slices, Two-shapes-held};
+ghost use Rattle.inputs.specs.Inputs.{Reader-room, Judges-reader, Reader-shape-slices, Reader-shape-held};
+ghost use Rattle.inputs.specs.Inputs.{Reader-document-slices, Reader-document-held};
 use definitions::Format;
 use definitions::Limits;
+use form_reader::FormsRead;
 use json::DocumentRead;
 use shape_reader::ShapeRead;
 
@@ -125,6 +129,101 @@ pub fn two_shapes(
                 } => Texts::Read {
                     first: words,
                     second: other,
+                    top: end,
+                },
+            }
+        }
+    }
+}
+
+// Judges and reads a reader. A text that is too long is not read.
+fn first_reader(text: &[u8], forms: &mut [u64], pool: &mut [u64], limits: Limits) -> FormsRead
+    requires { ⌜ Reader-room (now text) (now forms) (now pool) limits ⌝ }
+    ensures judged { λ r. ⌜ Judges-reader limits (now (text .entry)) (now (forms .exit)) (now (pool .exit)) r ⌝ }
+{
+    if limits.bytes < text.len() {
+        return FormsRead::Refused {
+            number: 2,
+            place: 0,
+        };
+    }
+    form_reader::read_reader(text, forms, pool, 0, limits)
+}
+
+// A reader, then a shape.
+pub fn reader_shape(
+    reader: &[u8],
+    shape: &[u8],
+    forms: &mut [u64],
+    shapes: &mut [u64],
+    pool: &mut [u64],
+    limits: Limits,
+) -> Texts
+    requires { ⌜ Reader-shape-slices (now reader) (now shape) (now forms) (now shapes) (now pool) limits ⌝ }
+    ensures judged { λ r. ⌜
+        Judges-both limits read-reader (now (reader .entry)) read-shape (now (shape .entry))
+        (Reader-shape-held limits (now (forms .exit)) (now (shapes .exit)) (now (pool .exit))) r ⌝ }
+{
+    match first_reader(reader, forms, pool, limits) {
+        FormsRead::Refused { number, place } => Texts::Refused {
+            number,
+            text: 1,
+            place,
+        },
+        FormsRead::Read { words, top } => {
+            match read_shape(shape, shapes, pool, top, limits) {
+                ShapeRead::Refused { number, place } => Texts::Refused {
+                    number,
+                    text: 2,
+                    place,
+                },
+                ShapeRead::Read {
+                    words: second,
+                    top: end,
+                } => Texts::Read {
+                    first: words,
+                    second,
+                    top: end,
+                },
+            }
+        }
+    }
+}
+
+// A reader, then a document.
+pub fn reader_document(
+    format: Format,
+    reader: &[u8],
+    document: &[u8],
+    forms: &mut [u64],
+    nodes: &mut [u64],
+    pool: &mut [u64],
+    limits: Limits,
+) -> Texts
+    requires { ⌜ Reader-document-slices (now reader) (now document) (now forms) (now nodes) (now pool) limits ⌝ }
+    ensures judged { λ r. ⌜
+        Judges-both limits read-reader (now (reader .entry)) (source format) (now (document .entry))
+        (Reader-document-held limits (now (forms .exit)) (now (nodes .exit)) (now (pool .exit))) r ⌝ }
+{
+    match first_reader(reader, forms, pool, limits) {
+        FormsRead::Refused { number, place } => Texts::Refused {
+            number,
+            text: 1,
+            place,
+        },
+        FormsRead::Read { words, top } => {
+            match documents::read(format, document, nodes, pool, top, limits) {
+                DocumentRead::Refused { number, place } => Texts::Refused {
+                    number,
+                    text: 2,
+                    place,
+                },
+                DocumentRead::Read {
+                    words: second,
+                    top: end,
+                } => Texts::Read {
+                    first: words,
+                    second,
                     top: end,
                 },
             }

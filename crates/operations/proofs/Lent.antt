@@ -11,10 +11,12 @@ use Rattle.definitions.specs.declared.Limits.{Limits}
 use Rattle.definitions.specs.Bytes.{Bytes}
 use Rattle.definitions.specs.Operations.{slices-short}
 use Rattle.definitions.specs.WorkSlices.{form-words, name-words, value-words, text-words, plain-slices, infer-slices, join-slices}
+use Rattle.definitions.specs.WorkSlices.{reader-words, reader-texts, bound-words, check-slices}
 use Rattle.slices.specs.Small.{Small}
 use Rattle.slices.specs.Long.{three-long, long-three, long-for-document, long-for-shape-document, long-for-two-shapes}
+use Rattle.slices.specs.Long.{five-long, long-five, long-for-reader-shape}
 use Rattle.inputs.specs.Inputs.{Shape-document-slices, Two-shapes-slices}
-use Rattle.perform.specs.Perform.{Document-slices}
+use Rattle.perform.specs.Perform.{Document-slices, Check-slices}
 
 module _ (l : Limits) (small : Small l) where
   pub for-one
@@ -72,5 +74,35 @@ module _ (l : Limits) (small : Small l) where
           long =
               three-long (form-words l) (form-words l) (name-words l (length one) + name-words l (length two))
               (length (take (2 * l .values) shapes)) (length others) (length pool) (omega (arith, length-take-le (2 * l .values) shapes enough-pair)) g f;
+          small = small;
+        }
+
+  module _ (reader shape : Bytes) (forms shapes results bindings pool : List ℕ)
+      (e : slices-short (check-slices l) (length forms ∷ length shapes ∷ length results ∷ length bindings ∷ length pool ∷ []) ≡ false) where
+    check-parts
+        : (reader-words l ≤ length forms) × (form-words l ≤ length shapes) × (form-words l ≤ length results)
+        × (bound-words l ≤ length bindings) × (reader-texts l (length reader) + name-words l (length shape) ≤ length pool)
+    check-parts =
+        long-five (reader-words l) (form-words l) (form-words l) (bound-words l)
+        (reader-texts l (length reader) + name-words l (length shape)) (length forms) (length shapes) (length results) (length bindings)
+        (length pool)
+        (long-for-reader-shape l (length forms) (length shapes) (length results) (length bindings) (length pool) (length reader) (length shape) e)
+
+    pub enough-checked : 2 * l .values ≤ length shapes
+    enough-checked = check-parts .1
+
+    pub enough-given : 2 * l .values ≤ length results
+    enough-given = check-parts .2
+
+    pub for-cut-check : Check-slices reader shape forms (take (2 * l .values) shapes) (take (2 * l .values) results) bindings pool l
+    for-cut-check =
+        let (a, b, c, d, f) = check-parts in
+        record {
+          long =
+              five-long (reader-words l) (form-words l) (form-words l) (bound-words l)
+              (reader-texts l (length reader) + name-words l (length shape)) (length forms) (length (take (2 * l .values) shapes))
+              (length (take (2 * l .values) results)) (length bindings) (length pool) a
+              (omega (arith, length-take-le (2 * l .values) shapes enough-checked))
+              (omega (arith, length-take-le (2 * l .values) results enough-given)) d f;
           small = small;
         }

@@ -6,7 +6,8 @@ ghost use lib.ListN.{length};
 ghost use Rattle.definitions.specs.Limits.{standard};
 ghost use Rattle.definitions.specs.Json.{read-json};
 ghost use Rattle.definitions.specs.Operations.{plain-operation, infer-operation, join-operation, below-operation, admits-operation};
-ghost use Rattle.definitions.specs.WorkSlices.{plain-slices, infer-slices, join-slices, below-slices, admits-slices};
+ghost use Rattle.definitions.specs.Operations.{check-operation};
+ghost use Rattle.definitions.specs.WorkSlices.{plain-slices, infer-slices, join-slices, below-slices, admits-slices, check-slices};
 use definitions::Answer;
 use definitions::Format;
 
@@ -133,4 +134,51 @@ pub fn admits(
         return answers::refusal(1, 0, 0);
     }
     perform::admits(Format::Json, shape, document, shapes, nodes, pool, limits)
+}
+
+// Checks a reader against a shape, and writes the shape of what it gives.
+pub fn check(
+    reader: &[u8],
+    shape: &[u8],
+    output: &mut [u8],
+    forms: &mut [u64],
+    shapes: &mut [u64],
+    results: &mut [u64],
+    bindings: &mut [u64],
+    pool: &mut [u64],
+) -> Answer
+    ensures answered { λ r. ⌜ r ≡
+        check-operation (check-slices standard)
+        (length (now (forms .entry)) ∷ length (now (shapes .entry)) ∷ length (now (results .entry))
+        ∷ length (now (bindings .entry)) ∷ length (now (pool .entry)) ∷ []) standard
+        (now (reader .entry)) (now (shape .entry)) (now (output .entry)) .answer ⌝ }
+    ensures written { λ _. ⌜ now (output .exit) ≡
+        check-operation (check-slices standard)
+        (length (now (forms .entry)) ∷ length (now (shapes .entry)) ∷ length (now (results .entry))
+        ∷ length (now (bindings .entry)) ∷ length (now (pool .entry)) ∷ []) standard
+        (now (reader .entry)) (now (shape .entry)) (now (output .entry)) .output ⌝ }
+{
+    let limits = slices::STANDARD;
+    if slices::reader_shape_short(
+        limits,
+        forms.len(),
+        shapes.len(),
+        results.len(),
+        bindings.len(),
+        pool.len(),
+    ) { // a reader and a shape
+        return answers::refusal(1, 0, 0);
+    }
+    let rows = 2 * limits.values; // as for infer
+    perform::check(
+        reader,
+        shape,
+        output,
+        forms,
+        &mut shapes[..rows],
+        &mut results[..rows],
+        bindings,
+        pool,
+        limits,
+    )
 }

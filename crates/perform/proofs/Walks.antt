@@ -11,7 +11,11 @@ use Rattle.definitions.specs.Shape.{Shape, forms}
 use Rattle.definitions.specs.Join.{join, shape-of}
 use Rattle.definitions.specs.declared.Answer.{Answer}
 use Rattle.definitions.specs.Bytes.{Bytes}
-use Rattle.definitions.specs.Operations.{refusal, shape-out, finish}
+use Rattle.definitions.specs.Outcome.{Outcome, ok, refused}
+use Rattle.definitions.specs.Reader.{Result}
+use Rattle.definitions.specs.Checking.{check-reader}
+use Rattle.definitions.specs.Operations.{Judged, passed, stopped, refusal, in-text, shape-out, finish}
+use Rattle.definitions.specs.WorkSlices.{form-words, name-words, reader-words, reader-texts, bound-words}
 use Rattle.laws.specs.Tests.{lt-ltb}
 use Rattle.laws.specs.Judging.{shape-out-over}
 use Rattle.laws.specs.Ends.{Comes, stopped-keeps}
@@ -30,8 +34,13 @@ use Rattle.infer.specs.Inferring.{Meets, Inferable, Joins as Infer-joins}
 use Rattle.order.specs.Comparing.{Shapes-asked}
 use Rattle.admits.specs.Admission.{Value-asked}
 use Rattle.documents.specs.Documents.{Value-table}
-use Rattle.inputs.specs.Inputs.{Shape-table, Shape-document-held, Two-shapes-held}
-use Rattle.perform.specs.Perform.{Grows-to}
+use Rattle.slices.specs.Long.{long-five}
+use Rattle.checking.specs.declared.Checked.{Checked}
+use Rattle.checking.specs.declared.Checked.the-variants.{Kinds, Refused}
+use Rattle.checking.specs.CheckContracts.{Checks, Meets-reader, Reader-asked, Checks-reader}
+use Rattle.result_shape.specs.Giving.{Meets-reader as Meets-given, Reader-asked as Given-asked, Holds-given, Gives-reader}
+use Rattle.inputs.specs.Inputs.{Shape-table, Shape-document-held, Two-shapes-held, Reader-shape-slices, Reader-shape-held}
+use Rattle.perform.specs.Perform.{Check-slices, Grows-to}
 
 -- ---- a table that grew, or was full
 
@@ -150,3 +159,94 @@ module _ {l : Limits} {shapes others pool : List ℕ} {used words top : ℕ} {s 
       : (shapes′ : List ℕ) (r : Joined) → 2 * l .values ≤ length shapes → Joins-to join shapes shapes′ others pool used 0 0 (l .nesting) r
       → Grows-to (join s t) r shapes′ pool l
   joined shapes′ r k i = grows (h .one) shapes′ (join s t) r k (i (take top pool) 0 0 s t joins)
+
+-- ---- a reader against a shape
+
+module _ {reader shape : Bytes} {forms shapes results bindings pool : List ℕ} {l : Limits}
+    (s : Check-slices reader shape forms shapes results bindings pool l) where
+  check-parts
+      : (reader-words l ≤ length forms) × (form-words l ≤ length shapes) × (form-words l ≤ length results)
+      × (bound-words l ≤ length bindings) × (reader-texts l (length reader) + name-words l (length shape) ≤ length pool)
+  check-parts =
+      long-five (reader-words l) (form-words l) (form-words l) (bound-words l) (reader-texts l (length reader) + name-words l (length shape))
+      (length forms) (length shapes) (length results) (length bindings) (length pool) (s .long)
+
+  pub check-texts : Reader-shape-slices reader shape forms shapes pool l
+  check-texts =
+      let (a, b, c, d, e) = check-parts in
+      record { rows = a; shape-rows = b; texts = e; small = s .small }
+
+  pub check-results : form-words l ≤ length results
+  check-results = check-parts .2
+
+  pub check-bindings : bound-words l ≤ length bindings
+  check-bindings = check-parts .3
+
+-- what a walk over a reader came to is judged of the reader's text
+module _ {A : Type 0} (k : ℕ) {o : Outcome ℕ A} where
+  pub walk-passes : {a : A} → o ≡ ok a → in-text k o ≡ passed a
+  unfolding in-text
+  walk-passes e = ap (λ x. in-text k x) e
+
+  pub walk-stops : {n q : ℕ} → o ≡ refused n q → in-text k o ≡ stopped (refusal n k q)
+  unfolding in-text
+  walk-stops e = ap (λ x. in-text k x) e
+
+module _ {l : Limits} {forms shapes pool : List ℕ} {words used top : ℕ} {r : Result} {s : Shape}
+    (h : Reader-shape-held l forms shapes pool words used top r s) (bindings : List ℕ) (k : bound-words l ≤ length bindings) where
+  checks : Meets-reader forms shapes pool bindings (take top pool) 0 (l .nesting) r s
+  checks =
+      record {
+        pooled = front-used pool top (h .shape .within) (h .shape .small);
+        stands =
+            record {
+              rows = take words forms;
+              rest = drop words forms;
+              encoded = h .reader .rows;
+              placed = sym (take-append-drop words forms);
+            };
+        shaped = shape-stands (h .shape);
+        ascends = h .shape .ascends;
+        nests = h .shape .nests;
+        room = omega (arith, h .reader .nests, k);
+      }
+
+  pub checkable : Reader-asked forms shapes pool bindings
+  checkable = record { p = take top pool; m = 0; deep = l .nesting; form = r; shape = s; meets = checks }
+
+  module _ {x : Checked} (c : Checks-reader forms shapes pool bindings x) where
+    told : {y : Checked} → x ≡ y → Checks (check-reader r s) y
+    told e = subst (Checks (check-reader r s)) e (c (take top pool) 0 (l .nesting) r s checks)
+
+    pub reader-checks : {kinds : ℕ} → x ≡ Kinds kinds → (t : Shape) × (check-reader r s ≡ ok t)
+    reader-checks e = let (t, f, g) = told e in (t, f)
+
+    pub reader-fails : {n q : ℕ} → x ≡ Refused n q → in-text 1 (check-reader r s) ≡ stopped (refusal n 1 q)
+    reader-fails e = walk-stops 1 (told e)
+
+  -- what it gives
+  module _ {t : Shape} (e : check-reader r s ≡ ok t) where
+    gives : Meets-given forms shapes pool bindings (take top pool) (l .nesting) 0 0 r s t
+    gives =
+        record {
+          pooled = checks .pooled;
+          form = checks .stands;
+          stands = checks .shaped;
+          ascends = checks .ascends;
+          nests = checks .nests;
+          gives = e;
+          once = h .reader .names-once;
+          room = checks .room;
+        }
+
+    pub giving : Given-asked forms shapes pool bindings (l .nesting)
+    giving = record { p = take top pool; m = 0; name = 0; reader = r; shape = s; given = t; meets = gives }
+
+    pub given
+        : (results′ : List ℕ) (long : ℕ) (o : Joined) → form-words l ≤ long
+        → Gives-reader forms shapes pool bindings results′ (l .nesting) long o → Grows-to t o results′ pool l
+    given results′ long o j g = go o (g (take top pool) 0 0 r s t gives)
+      where
+        go : (o : Joined) → Holds-given results′ pool long t o → Grows-to t o results′ pool l
+        go (Grown w) x = x
+        go Full x = omega (arith, x, j)

@@ -8,7 +8,7 @@ use Rattle.definitions.specs.declared.Limits.{Limits}
 use Rattle.definitions.specs.Bytes.{Bytes}
 use Rattle.definitions.specs.Shape.{Shape, forms}
 use Rattle.definitions.specs.Operations.{slices-short}
-use Rattle.definitions.specs.WorkSlices.{for-document}
+use Rattle.definitions.specs.WorkSlices.{for-document, for-reader-shape}
 use Rattle.shapes.specs.Held.{Holds-shape}
 use Rattle.join.specs.declared.Joined.{Joined}
 use Rattle.join.specs.declared.Joined.the-variants.{Grown, Full}
@@ -16,6 +16,13 @@ use Rattle.slices.specs.Small.{Small}
 
 pub record Document-slices (document : Bytes) (nodes pool : List ℕ) (l : Limits) : Type 0 where
   pub long : slices-short (for-document l (length document)) (length nodes ∷ length pool ∷ []) ≡ false
+  pub small : Small l
+
+pub record Check-slices (reader shape : Bytes) (forms shapes results bindings pool : List ℕ) (l : Limits) : Type 0 where
+  pub long
+      : slices-short (for-reader-shape l (length reader) (length shape))
+      (length forms ∷ length shapes ∷ length results ∷ length bindings ∷ length pool ∷ [])
+      ≡ false
   pub small : Small l
 
 -- a table that grew holds this shape; one that was full had no room for so many forms

@@ -6,8 +6,10 @@ ghost use Prim.Native.Nat.{_≤_};
 ghost use lib.ListN.{length};
 ghost use Rattle.definitions.specs.Shape.{Shape};
 ghost use Rattle.definitions.specs.Operations.{source, shape-out, finish, say, plain-judged, infer-judged, join-judged, below-judged, admits-judged};
+ghost use Rattle.definitions.specs.Operations.{check-judged};
 ghost use Rattle.inputs.specs.Inputs.{Shape-document-slices, Two-shapes-slices};
-ghost use Rattle.perform.specs.Perform.{Document-slices, Grows-to, Some-grown};
+ghost use Rattle.perform.specs.Perform.{Document-slices, Check-slices, Grows-to, Some-grown};
+use checking::Checked;
 use definitions::Answer;
 use definitions::Format;
 use definitions::Limits;
@@ -168,6 +170,46 @@ pub fn admits(
             second: _,
             top: _,
         } => { answers::said(admits::admits(shapes, 0, nodes, 0, pool)) }
+        Texts::Refused {
+            number,
+            text,
+            place,
+        } => answers::refusal(number, text, place),
+    }
+}
+
+// Checks a reader against a shape, and writes the shape of what it gives.
+pub fn check(
+    reader: &[u8],
+    shape: &[u8],
+    output: &mut [u8],
+    forms: &mut [u64],
+    shapes: &mut [u64],
+    results: &mut [u64],
+    bindings: &mut [u64],
+    pool: &mut [u64],
+    limits: Limits,
+) -> Answer
+    requires { ⌜ Check-slices (now reader) (now shape) (now forms) (now shapes) (now results) (now bindings) (now pool) limits ⌝ }
+    requires table { ⌜ length (now shapes) ≤ 65536 ⌝ }
+    requires grown { ⌜ length (now results) ≤ 65536 ⌝ }
+    ensures answered { λ r. ⌜ r ≡ finish (now (output .entry)) (check-judged limits (now (reader .entry)) (now (shape .entry))) .answer ⌝ }
+    ensures written { λ _. ⌜ now (output .exit) ≡
+        finish (now (output .entry)) (check-judged limits (now (reader .entry)) (now (shape .entry))) .output ⌝ }
+{
+    match inputs::reader_shape(reader, shape, forms, shapes, pool, limits) {
+        Texts::Read {
+            first: _,
+            second: _,
+            top: _,
+        } => match checking::check(forms, shapes, pool, bindings) {
+            Checked::Kinds { kinds: _ } => {
+                let grown =
+                    result_shape::result(forms, shapes, pool, bindings, results, limits.nesting);
+                deliver_grown(grown, output, results, pool, limits)
+            }
+            Checked::Refused { number, place } => answers::refusal(number, 1, place),
+        },
         Texts::Refused {
             number,
             text,

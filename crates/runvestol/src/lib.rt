@@ -3,7 +3,7 @@
 ghost use mathlib.Core.Path.{_≡_};
 ghost use Rattle.definitions.specs.Limits.{standard};
 ghost use Rattle.definitions.specs.Json.{read-json};
-ghost use Rattle.definitions.specs.Calls.{plain-call, infer-call, join-call, below-call, admits-call};
+ghost use Rattle.definitions.specs.Calls.{plain-call, infer-call, join-call, below-call, admits-call, check-call};
 use definitions::Format;
 
 // Writes a document as plain JSON. Returns the answer's number.
@@ -100,6 +100,29 @@ pub extern "C" fn runvestol_admits(shape: &[u8], document: &[u8], answer: &mut [
         return 1;
     }
     let done = workspace::admits(Format::Json, slices::STANDARD, shape, document);
+    answers::put_answer(answer, done);
+    done.number
+}
+
+// Checks a reader against a shape, and writes the shape of what it gives. Returns the answer's number.
+#[no_mangle]
+pub extern "C" fn runvestol_check(
+    reader: &[u8],
+    shape: &[u8],
+    output: &mut [u8],
+    answer: &mut [u8],
+) -> u64
+    ensures number { λ r. ⌜ r ≡
+        check-call standard (now (reader .entry)) (now (shape .entry)) (now (output .entry)) (now (answer .entry)) .number ⌝ }
+    ensures answered { λ _. ⌜ now (answer .exit) ≡
+        check-call standard (now (reader .entry)) (now (shape .entry)) (now (output .entry)) (now (answer .entry)) .answer ⌝ }
+    ensures written { λ _. ⌜ now (output .exit) ≡
+        check-call standard (now (reader .entry)) (now (shape .entry)) (now (output .entry)) (now (answer .entry)) .output ⌝ }
+{
+    if answer.len() < 40 {
+        return 1;
+    }
+    let done = workspace::check(slices::STANDARD, reader, shape, output);
     answers::put_answer(answer, done);
     done.number
 }

@@ -10,6 +10,8 @@ use Rattle.definitions.specs.declared.Limits.{Limits}
 use Rattle.definitions.specs.Operations.{slices-short}
 use Rattle.definitions.specs.WorkSlices.{form-words, name-words, most-values, value-words, text-words, for-document}
 use Rattle.definitions.specs.WorkSlices.{for-shape-document, for-two-shapes, plain-slices, infer-slices, join-slices}
+use Rattle.definitions.specs.WorkSlices.{reader-words, reader-texts, bound-words, result-words, for-reader-shape, for-reader-document}
+use Rattle.definitions.specs.WorkSlices.{check-slices, run-slices}
 use Rattle.laws.specs.Tests.{ltb-le, le-ltb}
 use Rattle.laws.specs.Bools.{or-false-left, or-false-right}
 
@@ -37,11 +39,34 @@ module _ (a b c x y z : ℕ) where
       let (h, g) = long-two b c y z (or-false-right (ltb x a) (slices-short (b ∷ c ∷ []) (y ∷ z ∷ [])) e) in
       (ltb-le _ _ (or-false-left (ltb x a) (slices-short (b ∷ c ∷ []) (y ∷ z ∷ [])) e), h, g)
 
+module _ (a b c d e v w x y z : ℕ) where
+  pub five-long
+      : a ≤ v → b ≤ w → c ≤ x → d ≤ y → e ≤ z → slices-short (a ∷ b ∷ c ∷ d ∷ e ∷ []) (v ∷ w ∷ x ∷ y ∷ z ∷ []) ≡ false
+  unfolding slices-short
+  five-long h g f i j = rw (le-ltb _ _ h, le-ltb _ _ g) (three-long c d e x y z f i j)
+
+  pub long-five
+      : slices-short (a ∷ b ∷ c ∷ d ∷ e ∷ []) (v ∷ w ∷ x ∷ y ∷ z ∷ []) ≡ false
+      → (a ≤ v) × (b ≤ w) × (c ≤ x) × (d ≤ y) × (e ≤ z)
+  unfolding slices-short
+  long-five q =
+      let q′ = or-false-right (ltb v a) (slices-short (b ∷ c ∷ d ∷ e ∷ []) (w ∷ x ∷ y ∷ z ∷ [])) q in
+      let (f, i, j) = long-three c d e x y z (or-false-right (ltb w b) (slices-short (c ∷ d ∷ e ∷ []) (x ∷ y ∷ z ∷ [])) q′) in (
+        ltb-le _ _ (or-false-left (ltb v a) (slices-short (b ∷ c ∷ d ∷ e ∷ []) (w ∷ x ∷ y ∷ z ∷ [])) q),
+        ltb-le _ _ (or-false-left (ltb w b) (slices-short (c ∷ d ∷ e ∷ []) (x ∷ y ∷ z ∷ [])) q′),
+        f,
+        i,
+        j,
+      )
+
 -- ---- what is published is enough for every text
 
 -- the longest text asks for most
 names-most : (l : Limits) (n : ℕ) → name-words l n ≤ name-words l (l .bytes)
 names-most l n = omega arith
+
+readers-most : (l : Limits) (n : ℕ) → reader-texts l n ≤ reader-texts l (l .bytes)
+readers-most l n = omega arith
 
 texts-most : (l : Limits) (n : ℕ) → text-words l n ≤ text-words l (l .bytes)
 texts-most l n =
@@ -72,3 +97,24 @@ module _ (l : Limits) (x y z n m : ℕ) where
       let (h, g, f) = long-three (form-words l) (form-words l) (name-words l (l .bytes) + name-words l (l .bytes)) x y z e in
       three-long (form-words l) (form-words l) (name-words l n + name-words l m) x y z h g
       (le-trans (add-le-add (names-most l n) (names-most l m)) f)
+
+module _ (l : Limits) (v w x y z n m : ℕ) where
+  pub long-for-reader-shape
+      : slices-short (check-slices l) (v ∷ w ∷ x ∷ y ∷ z ∷ []) ≡ false
+      → slices-short (for-reader-shape l n m) (v ∷ w ∷ x ∷ y ∷ z ∷ []) ≡ false
+  long-for-reader-shape e =
+      let (h, g, f, i, j) =
+      long-five (reader-words l) (form-words l) (form-words l) (bound-words l) (reader-texts l (l .bytes) + name-words l (l .bytes)) v w x
+      y z e in
+      five-long (reader-words l) (form-words l) (form-words l) (bound-words l) (reader-texts l n + name-words l m) v w x y z h g f i
+      (le-trans (add-le-add (readers-most l n) (names-most l m)) j)
+
+  pub long-for-reader-document
+      : slices-short (run-slices l) (v ∷ w ∷ x ∷ y ∷ z ∷ []) ≡ false
+      → slices-short (for-reader-document l n m) (v ∷ w ∷ x ∷ y ∷ z ∷ []) ≡ false
+  long-for-reader-document e =
+      let (h, g, f, i, j) =
+      long-five (reader-words l) (value-words l (l .bytes)) (result-words l) (bound-words l)
+      (reader-texts l (l .bytes) + text-words l (l .bytes)) v w x y z e in
+      five-long (reader-words l) (value-words l m) (result-words l) (bound-words l) (reader-texts l n + text-words l m) v w x y z h
+      (omega arith) f i (le-trans (add-le-add (readers-most l n) (texts-most l m)) j)

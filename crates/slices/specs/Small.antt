@@ -8,7 +8,9 @@ use Rattle.definitions.specs.Limits.{standard}
 pub record Small (l : Limits) : Type 0 where
   pub bytes : l .bytes ≤ 16384
   pub values : l .values ≤ 512
+  pub nesting : l .nesting ≤ 32
+  pub steps : l .steps ≤ 65536
 
 pub standard-small : {l : Limits} → l ≡ standard → Small l
 unfolding standard
-standard-small e = subst Small (sym e) (record { bytes = lit≤ tt; values = lit≤ tt })
+standard-small e = subst Small (sym e) (record { bytes = lit≤ tt; values = lit≤ tt; nesting = lit≤ tt; steps = lit≤ tt })

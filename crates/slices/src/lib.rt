@@ -3,7 +3,8 @@ ghost use mathlib.Core.Path.{_≡_};
 ghost use mathlib.Core.List.{[], _∷_};
 ghost use Prim.Native.Nat.{min};
 ghost use Rattle.definitions.specs.Operations.{slices-short};
-ghost use Rattle.definitions.specs.WorkSlices.{name-words, value-words, text-words, plain-slices, infer-slices, join-slices};
+ghost use Rattle.definitions.specs.WorkSlices.{name-words, value-words, text-words, reader-texts};
+ghost use Rattle.definitions.specs.WorkSlices.{plain-slices, infer-slices, join-slices, check-slices, run-slices};
 ghost use Rattle.slices.specs.Small.{Small};
 use definitions::Limits;
 
@@ -50,6 +51,14 @@ fn text_words(limits: Limits) -> usize
     (eighths - 2) / 8
 }
 
+// The words that the names and texts of the longest reader can take.
+fn reader_texts(limits: Limits) -> usize
+    requires { ⌜ Small limits ⌝ }
+    ensures counted { λ r. ⌜ r ≡ reader-texts limits (limits .bytes) ⌝ }
+{
+    (limits.bytes + 5 * limits.values + 6) / 8
+}
+
 // Whether one of two slices is shorter than published.
 fn two_short(a: usize, x: usize, b: usize, y: usize) -> bool
     ensures told { λ r. ⌜ r ≡ slices-short (a ∷ b ∷ []) (x ∷ y ∷ []) ⌝ }
@@ -68,6 +77,30 @@ fn three_short(a: usize, x: usize, b: usize, y: usize, c: usize, z: usize) -> bo
         return true;
     }
     two_short(b, y, c, z)
+}
+
+// Whether one of five slices is shorter than published.
+fn five_short(
+    a: usize,
+    v: usize,
+    b: usize,
+    w: usize,
+    c: usize,
+    x: usize,
+    d: usize,
+    y: usize,
+    e: usize,
+    z: usize,
+) -> bool
+    ensures told { λ r. ⌜ r ≡ slices-short (a ∷ b ∷ c ∷ d ∷ e ∷ []) (v ∷ w ∷ x ∷ y ∷ z ∷ []) ⌝ }
+{
+    if v < a {
+        return true;
+    }
+    if w < b {
+        return true;
+    }
+    three_short(c, x, d, y, e, z)
 }
 
 // Whether a slice for a document is short.
@@ -102,4 +135,60 @@ pub fn two_shapes_short(limits: Limits, shapes: usize, others: usize, pool: usiz
     let names = name_words(limits, limits.bytes);
     let rows = 2 * limits.values;
     three_short(rows, shapes, rows, others, names + names, pool)
+}
+
+// Whether a slice for a reader and a shape is short.
+pub fn reader_shape_short(
+    limits: Limits,
+    forms: usize,
+    shapes: usize,
+    results: usize,
+    bindings: usize,
+    pool: usize,
+) -> bool
+    requires { ⌜ Small limits ⌝ }
+    ensures told { λ r. ⌜ r ≡ slices-short (check-slices limits) (forms ∷ shapes ∷ results ∷ bindings ∷ pool ∷ []) ⌝ }
+{
+    let rows = 2 * limits.values;
+    let texts = reader_texts(limits) + name_words(limits, limits.bytes);
+    five_short(
+        3 * limits.values,
+        forms,
+        rows,
+        shapes,
+        rows,
+        results,
+        limits.nesting,
+        bindings,
+        texts,
+        pool,
+    )
+}
+
+// Whether a slice for a reader and a document is short.
+pub fn reader_document_short(
+    limits: Limits,
+    forms: usize,
+    nodes: usize,
+    results: usize,
+    bindings: usize,
+    pool: usize,
+) -> bool
+    requires { ⌜ Small limits ⌝ }
+    ensures told { λ r. ⌜ r ≡ slices-short (run-slices limits) (forms ∷ nodes ∷ results ∷ bindings ∷ pool ∷ []) ⌝ }
+{
+    let rows = 3 * limits.values;
+    let texts = reader_texts(limits) + text_words(limits);
+    five_short(
+        rows,
+        forms,
+        value_words(limits),
+        nodes,
+        rows,
+        results,
+        limits.nesting,
+        bindings,
+        texts,
+        pool,
+    )
 }

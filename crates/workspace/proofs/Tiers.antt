@@ -7,11 +7,11 @@ use mathlib.Core.List.{List}
 use lib.ListN.{length}
 use Rattle.definitions.specs.declared.Limits.{Limits}
 use Rattle.definitions.specs.Bytes.{Bytes}
-use Rattle.definitions.specs.WorkSlices.{form-words, name-words, most-values, value-words, text-words}
+use Rattle.definitions.specs.WorkSlices.{form-words, name-words, most-values, value-words, text-words, reader-words, reader-texts, bound-words}
 use Rattle.slices.specs.Small.{Small}
-use Rattle.slices.specs.Long.{two-long, three-long}
+use Rattle.slices.specs.Long.{two-long, three-long, five-long}
 use Rattle.inputs.specs.Inputs.{Shape-document-slices, Two-shapes-slices}
-use Rattle.perform.specs.Perform.{Document-slices}
+use Rattle.perform.specs.Perform.{Document-slices, Check-slices}
 
 -- ---- what texts of at most so many bytes ask for
 
@@ -39,6 +39,18 @@ module _ (l : Limits) (small : Small l) (n : ℕ) where
     where
       at : (b v : ℕ) → b + 8 * v ≤ 8191 → (b + 8 * v - 2) / 8 ≤ 1023
       at b v h = omega arith
+
+  bound-most : bound-words l ≤ 32
+  bound-most = small .nesting
+
+  reader-most : reader-words l ≤ 1536
+  reader-most = omega (arith, small .values)
+
+  readers-most : reader-texts l n ≤ 2368
+  readers-most = omega (arith, small .bytes, small .values)
+
+  readers-short : n < 1024 → reader-texts l n ≤ 448
+  readers-short h = omega (arith, small .values)
 
   record-values : n < 256 → value-words l n ≤ 768
   record-values h = omega arith
@@ -112,3 +124,30 @@ module _ (l : Limits) (small : Small l) (one two : Bytes) (shapes others pool : 
 
   pub long-pair : length pool ≡ 4096 → Two-shapes-slices one two shapes others pool l
   long-pair g = pair g (add-le-add (names-most l small (length one)) (names-most l small (length two)))
+
+-- ---- a reader and a shape
+
+module _ (l : Limits) (small : Small l) (reader shape : Bytes) (forms shapes results bindings pool : List ℕ)
+    (e : length forms ≡ 1536) (f : length shapes ≡ 1024) (g : length results ≡ 1024) (h : length bindings ≡ 32) where
+  checked
+      : {k : ℕ} → length pool ≡ k → reader-texts l (length reader) + name-words l (length shape) ≤ k
+      → Check-slices reader shape forms shapes results bindings pool l
+  checked {k} i j =
+      record {
+        long =
+            five-long (reader-words l) (form-words l) (form-words l) (bound-words l)
+            (reader-texts l (length reader) + name-words l (length shape)) (length forms) (length shapes) (length results) (length bindings)
+            (length pool) (omega (arith, reader-most l small 0, e)) (omega (arith, forms-most l small 0, f))
+            (omega (arith, forms-most l small 0, g)) (omega (arith, bound-most l small 0, h)) (fits i j);
+        small = small;
+      }
+    where
+      fits : {x : ℕ} → length pool ≡ k → x ≤ k → x ≤ length pool
+      fits g h = omega arith
+
+  pub short-check
+      : length pool ≡ 576 → length reader < 1024 → length shape < 1024 → Check-slices reader shape forms shapes results bindings pool l
+  short-check i j k = checked i (add-le-add (readers-short l small (length reader) j) (names-short l small (length shape) k))
+
+  pub long-check : length pool ≡ 4416 → Check-slices reader shape forms shapes results bindings pool l
+  long-check i = checked i (add-le-add (readers-most l small (length reader)) (names-most l small (length shape)))

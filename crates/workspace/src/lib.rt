@@ -4,6 +4,7 @@ ghost use mathlib.Core.Path.{_≡_};
 ghost use Prim.Native.Nat.{_<_};
 ghost use lib.ListN.{length};
 ghost use Rattle.definitions.specs.Operations.{source, finish, say, plain-judged, infer-judged, join-judged, below-judged, admits-judged};
+ghost use Rattle.definitions.specs.Operations.{check-judged};
 ghost use Rattle.slices.specs.Small.{Small};
 use definitions::Answer;
 use definitions::Format;
@@ -276,4 +277,71 @@ pub fn admits(format: Format, limits: Limits, shape: &[u8], document: &[u8]) -> 
         }
     }
     long_admits(format, limits, shape, document)
+}
+
+// `check` on texts of at most 1,023 and 1,023 bytes.
+fn short_check(limits: Limits, reader: &[u8], shape: &[u8], output: &mut [u8]) -> Answer
+    requires { ⌜ Small limits ⌝ }
+    requires reader { ⌜ length (now reader) < 1024 ⌝ }
+    requires shape { ⌜ length (now shape) < 1024 ⌝ }
+    ensures answered { λ r. ⌜ r ≡ finish (now (output .entry)) (check-judged limits (now (reader .entry)) (now (shape .entry))) .answer ⌝ }
+    ensures written { λ _. ⌜ now (output .exit) ≡
+        finish (now (output .entry)) (check-judged limits (now (reader .entry)) (now (shape .entry))) .output ⌝ }
+{
+    let mut forms = [0u64; 1536];
+    let mut shapes = [0u64; 1024];
+    let mut results = [0u64; 1024];
+    let mut bindings = [0u64; 32];
+    let mut pool = [0u64; 576];
+    perform::check(
+        reader,
+        shape,
+        output,
+        &mut forms,
+        &mut shapes,
+        &mut results,
+        &mut bindings,
+        &mut pool,
+        limits,
+    )
+}
+
+// `check` on texts of any length.
+fn long_check(limits: Limits, reader: &[u8], shape: &[u8], output: &mut [u8]) -> Answer
+    requires { ⌜ Small limits ⌝ }
+    ensures answered { λ r. ⌜ r ≡ finish (now (output .entry)) (check-judged limits (now (reader .entry)) (now (shape .entry))) .answer ⌝ }
+    ensures written { λ _. ⌜ now (output .exit) ≡
+        finish (now (output .entry)) (check-judged limits (now (reader .entry)) (now (shape .entry))) .output ⌝ }
+{
+    let mut forms = [0u64; 1536];
+    let mut shapes = [0u64; 1024];
+    let mut results = [0u64; 1024];
+    let mut bindings = [0u64; 32];
+    let mut pool = [0u64; 4416];
+    perform::check(
+        reader,
+        shape,
+        output,
+        &mut forms,
+        &mut shapes,
+        &mut results,
+        &mut bindings,
+        &mut pool,
+        limits,
+    )
+}
+
+// `check` with work slices of its own.
+pub fn check(limits: Limits, reader: &[u8], shape: &[u8], output: &mut [u8]) -> Answer
+    requires { ⌜ Small limits ⌝ }
+    ensures answered { λ r. ⌜ r ≡ finish (now (output .entry)) (check-judged limits (now (reader .entry)) (now (shape .entry))) .answer ⌝ }
+    ensures written { λ _. ⌜ now (output .exit) ≡
+        finish (now (output .entry)) (check-judged limits (now (reader .entry)) (now (shape .entry))) .output ⌝ }
+{
+    if reader.len() < 1024 {
+        if shape.len() < 1024 {
+            return short_check(limits, reader, shape, output);
+        }
+    }
+    long_check(limits, reader, shape, output)
 }

@@ -1,0 +1,24 @@
+-- `inputs::first_reader` meets its contract. Assumes nothing.
+use borrow.Author.Needs.{needs}
+use Rattle.inputs.proofs.ReaderTexts.{reader-long, reader-room, reader-judged}
+use Rattle.inputs.proofs.first_reader.Statement.{statement}
+use Rattle.inputs.proofs.first_reader.Tie as tie
+
+returns : tie.Need-returns
+returns c =
+    let a = c .before .before .before .before .before .args in
+    reader-long (a .forms .now) (a .pool .now) (c .if1 .taken)
+
+read-reader-requires : tie.Need-read-reader-requires
+read-reader-requires c κs =
+    let at-start = c .before .before .before .before .before .before .before in
+    reader-room (at-start .pre) (c .before .before .if1 .left)
+
+returns-2 : tie.Need-returns-2
+returns-2 c =
+    let after-read-reader = c .before .before .before .before in
+    reader-judged (after-read-reader .before .before .before .if1 .left) (after-read-reader .read-reader .ensures)
+
+pub first-reader-spec : {M : Type 1} → statement M
+first-reader-spec =
+    tie.close (tie.spec returns read-reader-requires (λ c. search needs) (λ c. search needs) returns-2)
