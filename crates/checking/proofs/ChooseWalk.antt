@@ -76,11 +76,10 @@ module _ (forms shapes pool b : List ℕ) (row d : ℕ) (choose : getD forms row
   choose-ends h = go (h .form) (h .meets) (as-choose (h .meets))
     where
       go : (r : Result) → Meets (h .p) (h .m) (h .deep) r (h .env) → Is-choose r → (second + 3 ≤ length forms) × (third + 3 ≤ length forms)
-      go (Result.choose at r₁ r₂ r₃) m is-choose =
-          (
-            omega (arith, stands-within (choose-second (m .stands)), forms-some r₂),
-            omega (arith, stands-within (choose-third (m .stands)), forms-some r₃),
-          )
+      go (Result.choose at r₁ r₂ r₃) m is-choose = (
+        omega (arith, stands-within (choose-second (m .stands)), forms-some r₂),
+        omega (arith, stands-within (choose-third (m .stands)), forms-some r₃),
+      )
 
   -- what comes behind the first result, and behind the second
   abbrev behind-first : (at : ℕ) (r₂ r₃ : Result) (env : List Shape) → Outcome ℕ Shape → Outcome ℕ Shape

@@ -72,12 +72,11 @@ module _ (forms shapes pool b : List ℕ) (row d : ℕ) (each : getD forms row 0
     where
       go : (r : Result) → Meets (h .p) (h .m) (h .deep) r (h .env) → Is-each r
           → (row + 3 ≤ after forms (row + 3)) × (after forms (row + 3) + 3 ≤ length forms) × (d < length b)
-      go (Result.each at q r) m is-each =
-          (
-            omega arith,
-            omega (arith, stands-within (each-result (m .stands)), forms-some r),
-            part-there at (length b) d q r (m .room),
-          )
+      go (Result.each at q r) m is-each = (
+        omega arith,
+        omega (arith, stands-within (each-result (m .stands)), forms-some r),
+        part-there at (length b) d q r (m .room),
+      )
 
   pub each-place-asked : Form-asked forms shapes pool b row d → Place-asked forms shapes pool b (row + 3)
   each-place-asked h = go (h .form) (h .meets) (as-each (h .meets))

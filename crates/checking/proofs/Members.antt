@@ -97,8 +97,7 @@ module _ (shapes pool : List ℕ) (row kinds k place : ℕ) {w : Bool} (told : w
               → Gives-field shapes pool row kinds k place (located.At at left)
           member-found {at} e l p deep n s h =
               let f = fields (h .bound) in
-              let g = tells (member.Found at) e h in
-              (
+              let g = tells (member.Found at) e h in (
                 g .shape,
                 field-found place n s (sym (among-rec (h .bound)) ∙ met) (f .0) (g .shape) (f .1) (g .found),
                 rw l (found-bound n (bound-members (h .bound) (f .0) (f .1)) (g .found) (g .stands)),

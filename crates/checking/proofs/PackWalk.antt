@@ -103,11 +103,10 @@ module _ (forms shapes pool b : List ℕ) (row d : ℕ) (pack : getD forms row 0
   as-pack {r} h = pack-coded r (h .stands) (coded-as pack (h .stands))
 
   pub pack-ends : Form-asked forms shapes pool b row d → (row + 3 ≤ row + size-at forms row) × (row + size-at forms row ≤ length forms)
-  pack-ends h =
-      (
-        omega (arith, stands-size (h .meets .stands), forms-some (h .form)),
-        omega (arith, stands-size (h .meets .stands), stands-within (h .meets .stands)),
-      )
+  pack-ends h = (
+    omega (arith, stands-size (h .meets .stands), forms-some (h .form)),
+    omega (arith, stands-size (h .meets .stands), stands-within (h .meets .stands)),
+  )
 
   module _ {size : ℕ} (wide : size ≡ size-at forms row) (asked : Form-asked forms shapes pool b row d) where
     pub pack-begins : Left-at forms shapes pool b b row (row + size) d (row + 3)
@@ -166,11 +165,10 @@ module _ (forms shapes pool b : List ℕ) (row d : ℕ) (pack : getD forms row 0
           first-left = subst (λ (qs : Pairs). Left ps qs env) (first .same) (inv .left p m deep at ps env h .3)
 
           first-size : (i < i + size-at forms i) × (i + size-at forms i ≤ row + size)
-          first-size =
-              (
-                omega (arith, stands-size (first .stands), forms-some (first .result)),
-                omega (arith, first .more .reaches),
-              )
+          first-size = (
+            omega (arith, stands-size (first .stands), forms-some (first .result)),
+            omega (arith, first .more .reaches),
+          )
 
         pub part-asked : Form-asked forms shapes pool b₁ i d
         part-asked = go (asked .form) (asked .meets) (as-pack (asked .meets))
@@ -212,8 +210,7 @@ module _ (forms shapes pool b : List ℕ) (row d : ℕ) (pack : getD forms row 0
                 behind = omega (arith, inv .behind);
                 left =
                     λ p m deep at ps env h.
-                    let t = part-told forms shapes pool part (checked.Kinds given) answer f (part-meets h) in
-                    (
+                    let t = part-told forms shapes pool part (checked.Kinds given) answer f (part-meets h) in (
                       first h .others,
                       rw w (first h .more),
                       others-levels h,

@@ -43,8 +43,7 @@ module _ (forms shapes pool b : List ℕ) where
         : Reader-asked forms shapes pool b → (b₂ : List ℕ) (x : Checked) → Gives-form forms shapes pool b₁ b₂ 0 1 x
         → Checks-reader forms shapes pool b x × (length b₂ ≡ length b)
     unfolding check-reader
-    reader-told asked b₂ x gives =
-        (
-          λ p m deep r s h. gives .told p 0 deep r (s ∷ []) (meets h),
-          gives .kept .same ∙ bind-kept b b₁ 0 0 k put (some-bindings asked) (omega arith) .same,
-        )
+    reader-told asked b₂ x gives = (
+      λ p m deep r s h. gives .told p 0 deep r (s ∷ []) (meets h),
+      gives .kept .same ∙ bind-kept b b₁ 0 0 k put (some-bindings asked) (omega arith) .same,
+    )

@@ -76,12 +76,11 @@ module _ (forms shapes pool b : List ℕ) (row d : ℕ) (when : getD forms row 0
     where
       go : (r : Result) → Meets (h .p) (h .m) (h .deep) r (h .env) → Is-when r
           → (first + 3 ≤ length forms) × (second + 3 ≤ length forms) × (d < length b)
-      go (Result.when at k q r₁ r₂) m is-when =
-          (
-            omega (arith, stands-within (when-first (m .stands)), forms-some r₁),
-            omega (arith, stands-within (when-second (m .stands)), forms-some r₂),
-            there at (length b) d k q r₁ r₂ (m .room),
-          )
+      go (Result.when at k q r₁ r₂) m is-when = (
+        omega (arith, stands-within (when-first (m .stands)), forms-some r₁),
+        omega (arith, stands-within (when-second (m .stands)), forms-some r₂),
+        there at (length b) d k q r₁ r₂ (m .room),
+      )
 
   pub when-place-asked : Form-asked forms shapes pool b row d → Place-asked forms shapes pool b (row + 3)
   when-place-asked h = go (h .form) (h .meets) (as-when (h .meets))
@@ -278,8 +277,7 @@ module _ (forms shapes pool b : List ℕ) (row d : ℕ) (when : getD forms row 0
               unfolding _>>=_
               joins {given₂} g (Result.when at k q r₁ r₂) h is-when =
                   let t = part-told forms shapes pool part (checked.Kinds given) answer f (first-meets h) in
-                  let u = part-told forms shapes pool part₂ (checked.Kinds given₂) answer₂ g (second-meets h) in
-                  (
+                  let u = part-told forms shapes pool part₂ (checked.Kinds given₂) answer₂ g (second-meets h) in (
                     join (t .0) (u .0),
                     whole-is h ∙ ap (λ (o : Outcome ℕ Shape). o >>= λ t₂. ok (join (t .0) t₂)) (u .1),
                     sym (union-bits (t .0) (u .0)) ∙ ap₂ (λ (x y : ℕ). bitOr x y) (t .2) (u .2),

@@ -45,7 +45,12 @@ fn check_each(
         return part;
     };
     let place = forms::place(forms, row);
-    simple::want(kinds, Shape::LIST.kinds | Shape::NULL.kinds, Shape::LIST.kinds, place)
+    simple::want(
+        kinds,
+        Shape::LIST.kinds | Shape::NULL.kinds,
+        Shape::LIST.kinds,
+        place,
+    )
 }
 
 // Checks `when`: its place, then each result with what K leaves of the place bound.
@@ -139,7 +144,9 @@ fn check_pack(
         };
         i += forms::size(forms, i);
     }
-    Checked::Kinds { kinds: Shape::REC.kinds }
+    Checked::Kinds {
+        kinds: Shape::REC.kinds,
+    }
 }
 
 // Checks the result at a row of the forms table.

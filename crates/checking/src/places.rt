@@ -13,14 +13,7 @@ pub enum Located {
 }
 
 // The member of a name of the shape at a row, of which these kinds are left.
-fn member(
-    shapes: &[u64],
-    row: usize,
-    kinds: u64,
-    pool: &[u64],
-    name: u64,
-    place: usize,
-) -> Located
+fn member(shapes: &[u64], row: usize, kinds: u64, pool: &[u64], name: u64, place: usize) -> Located
     requires { ⌜ Field-asked (now shapes) (now pool) row kinds name ⌝ }
     ensures found { λ r. ⌜ Gives-field (now (shapes .entry)) (now (pool .entry)) row kinds name place r ⌝ }
 {
@@ -44,13 +37,7 @@ fn member(
 }
 
 // The shape of the place at a row of the forms table.
-pub fn locate(
-    forms: &[u64],
-    row: usize,
-    shapes: &[u64],
-    pool: &[u64],
-    bindings: &[u64],
-) -> Located
+pub fn locate(forms: &[u64], row: usize, shapes: &[u64], pool: &[u64], bindings: &[u64]) -> Located
     requires { ⌜ Place-asked (now forms) (now shapes) (now pool) (now bindings) row ⌝ }
     ensures found { λ r. ⌜ Gives-place (now (forms .entry)) (now (shapes .entry)) (now (pool .entry)) (now (bindings .entry)) row r ⌝ }
 {

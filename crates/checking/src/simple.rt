@@ -88,7 +88,12 @@ fn check_place(
     }
     let place = forms::place(forms, row);
     if code == forms::COUNT {
-        return want(kinds, Shape::LIST.kinds | Shape::NULL.kinds, Shape::INT.kinds, place);
+        return want(
+            kinds,
+            Shape::LIST.kinds | Shape::NULL.kinds,
+            Shape::INT.kinds,
+            place,
+        );
     }
     let converted = conversion_kinds(code);
     want(kinds, converted, converted, place)
