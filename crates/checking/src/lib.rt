@@ -2,7 +2,6 @@
 ghost use Prim.Native.Nat.{_%_, _^_, _<_};
 ghost use mathlib.Core.Path.{_≡_};
 ghost use lib.ListN.{length, getD};
-ghost use Rattle.checking.specs.Bindings.{Kept};
 ghost use Rattle.checking.specs.CheckContracts.{Form-asked, Gives-form, Reader-asked, Checks-reader};
 use places::Located;
 use shapes::Shape;

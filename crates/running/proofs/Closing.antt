@@ -1,12 +1,12 @@
 -- The rows of lists and records closed, and of values copied. Assumes nothing.
-use Prim.Native.Nat.{ℕ, suc, _+_, _-_, _*_, _/_, _%_, _^_, _≤_, _<_, max}
+use Prim.Native.Nat.{ℕ, suc, _+_, _-_, _*_, _/_, _%_, _≤_, _<_, max}
 use native.Mathlib.Omega.{arith}
 use mathlib.Core.Path.{_≡_, refl, sym, ap, _∙_, subst}
 use mathlib.Core.Bool.{true, false}
 use mathlib.Core.List.{List, [], _∷_, _++_, append-assoc}
 use lib.ListN.{length, getD, take, drop, set, length-append, length-set, length-drop}
-use lib.Seq.{length-take-le, take-at, take-append-add, set-append-left, take-set-le, take-append-le, take-take, take-append-seam}
-use Rattle.definitions.specs.Value.{Value, Items, Members, size, size-items, size-members}
+use lib.Seq.{length-take-le, take-at, set-append-left, take-set-le}
+use Rattle.definitions.specs.Value.{Value, Items, Members, size}
 use Rattle.definitions.specs.Plain.{plain}
 use Rattle.definitions.specs.Json.{null-name}
 use Rattle.definitions.specs.Bytes.{bytes}
@@ -16,13 +16,12 @@ use Rattle.nodes.specs.RowLaws.{with-row, row-alone}
 use Rattle.nodes.specs.Standing.{Value-stands}
 use Rattle.nodes.specs.StandingLaws.{size-some, value-size, value-within}
 use Rattle.plain.specs.PlainLaws.{items-length, members-length, length-list, length-rec}
-use Rattle.plain.specs.Table.{Bounded-numbers}
 use Rattle.running.specs.Bindings.{Bound, standing, missing}
 use Rattle.running.specs.BindingsLaws.{bound-kind}
 use Rattle.running.specs.Lengths.{items-most, members-most}
-use Rattle.running.specs.Rows.{Put-row, Some-bound, Keeps, Items-at, Some-items, Members-at, Some-members, List-closable, Closes-list, Record-closable}
+use Rattle.running.specs.Rows.{Put-row, Some-bound, Keeps, Items-at, Some-items, Members-at, Some-members, Closes-list}
 use Rattle.running.specs.Rows.{Closes-record}
-use Rattle.running.specs.Walk.{Appended, Puts}
+use Rattle.running.specs.Walk.{Puts}
 use Rattle.running.proofs.PutRows.{with-row-front}
 
 -- ---- lists

@@ -1,36 +1,35 @@
 -- What running `each` answers, element by element. Assumes nothing.
-use Prim.Native.Nat.{ℕ, suc, _+_, _*_, _^_, _≤_, _<_, max}
+use Prim.Native.Nat.{ℕ, suc, _+_, _*_, _^_, _≤_, _<_}
 use native.Mathlib.Numerals.{add-one}
 use native.Mathlib.Omega.{arith}
 use mathlib.Core.Path.{_≡_, refl, sym, ap, _∙_, subst}
 use mathlib.Core.List.{List, [], _∷_, _++_, append-assoc, append-nil}
-use lib.ListN.{length, getD, take, drop, set, length-set, length-append, take-append-drop}
+use lib.ListN.{length, take, drop, set, length-set, take-append-drop}
 use lib.Seq.{take-take, length-take-le, drop-at}
 use Rattle.definitions.specs.declared.Limits.{Limits}
-use Rattle.definitions.specs.Outcome.{Outcome, refused}
 use Rattle.definitions.specs.Value.{Value, Items, no-items, item, items-onto, size, size-items}
 use Rattle.definitions.specs.Reader.{Place, Result}
-use Rattle.definitions.specs.Running.{Ran, gives, items-of, run-items, run}
-use Rattle.laws.specs.FormGrammar.{place-levels, result-levels}
+use Rattle.definitions.specs.Running.{items-of, run-items, run}
+use Rattle.laws.specs.FormGrammar.{result-levels}
 use Rattle.laws.specs.Good.{Good-reader, good-each}
-use Rattle.nodes.specs.Nodes.{kind-code, head-word, row-size, Rows, list-rows, Item-rows, Items-before, no-items-before, item-before}
+use Rattle.nodes.specs.Nodes.{kind-code, head-word, row-size, list-rows, Items-before, no-items-before, item-before}
 use Rattle.nodes.specs.NodesLaws.{items-read, size-items-onto, length-items-before}
-use Rattle.nodes.specs.RowLaws.{with-row, row-put}
+use Rattle.nodes.specs.RowLaws.{row-put}
 use Rattle.nodes.specs.Standing.{Items-stand}
 use Rattle.nodes.specs.StandingLaws.{size-some, value-size, value-within, first-item, no-item-left}
 use Rattle.plain.specs.Table.{Bounded-numbers, Bounded-items}
-use Rattle.forms.specs.Forms.{Form-stands, size-at}
+use Rattle.forms.specs.Forms.{Form-stands}
 use Rattle.forms.specs.FormsLaws.{stands-code, stands-within, forms-some}
 use Rattle.forms.specs.PartsLaws as parts
 use Rattle.running.specs.declared.going.Cursor.{Cursor}
 use Rattle.running.specs.declared.going.Part.{Part}
 use Rattle.running.specs.declared.going.Part.the-variants as Part-is
-use Rattle.running.specs.Bindings.{Bound, standing, Binds}
+use Rattle.running.specs.Bindings.{Bound, standing}
 use Rattle.running.specs.BindingsLaws.{binds-kept, binds-more, bound-within}
 use Rattle.running.specs.Codes.{Is-each, is-each, each-of}
 use Rattle.running.specs.FormLaws as laws
-use Rattle.running.specs.Rows.{Ends-items, Items-at, Some-items, List-closable, Closes-list}
-use Rattle.running.specs.Walk.{follow, Meets, Small-tables, Paid, Ready, Following, Appended, Puts, Made, Comes, Kept, Runs, Follows}
+use Rattle.running.specs.Rows.{Ends-items, Items-at, List-closable, Closes-list}
+use Rattle.running.specs.Walk.{follow, Meets, Paid, Ready, Following, Appended, Made, Comes, Runs, Follows}
 use Rattle.running.proofs.WhenRuns.{part-meets, kept-before}
 
 -- ---- rows of parts
@@ -111,11 +110,12 @@ module _ {forms nodes pool bindings₀ results₀ : List ℕ} {limit : ℕ} {c :
       go : (form : Result) → Is-each form
           → Meets forms nodes pool bindings₀ limit (c .row) (c .bound) (f .ready .limits) (f .ready .used) form (f .ready .env)
           → (parts.after forms (c .row + 3) + 3 ≤ length forms) × (c .bound < length bindings₀) × (at ≤ 65536) × (c .begun + 1 ≤ 2 ^ 60)
-      go (Result.each a q r) is-each m =
-          (omega (arith, stands-within (parts.each-result (m .stands)), forms-some r),
-           omega (arith, m .room),
-           omega (arith, bound-within (f .bound), f .ready .small .rows),
-           omega (arith, f .ready .paid, f .counted, f .left, f .ready .small .steps))
+      go (Result.each a q r) is-each m = (
+        omega (arith, stands-within (parts.each-result (m .stands)), forms-some r),
+        omega (arith, m .room),
+        omega (arith, bound-within (f .bound), f .ready .small .rows),
+        omega (arith, f .ready .paid, f .counted, f .left, f .ready .small .steps),
+      )
 
   pub each-begins
       : {end : ℕ} → ((p : List ℕ) (v : Value) → Bound nodes p at v → Ends-items nodes p at v end)
@@ -148,12 +148,13 @@ module _ {forms nodes pool bindings₀ results₀ : List ℕ} {limit : ℕ} {c :
             paid = omega (arith, f .ready .paid, f .counted);
             more = f .counted;
             within = f .left;
-            put = λ h.
-                ([],
-                 no-items-before,
-                 record {
-                   placed = ap (λ (n : ℕ). take (3 * n) results₀) (add-one (c .begun)) ∙ sym (append-nil (take (3 * suc (c .begun)) results₀));
-                 });
+            put = λ h. (
+              [],
+              no-items-before,
+              record {
+                placed = ap (λ (n : ℕ). take (3 * n) results₀) (add-one (c .begun)) ∙ sym (append-nil (take (3 * suc (c .begun)) results₀));
+              },
+            );
           }
 
   module _ {end : ℕ} {bindings results : List ℕ} {i begun steps : ℕ}
@@ -192,7 +193,8 @@ module _ {forms nodes pool bindings₀ results₀ : List ℕ} {limit : ℕ} {c :
           go n =
               part-meets n
               (subst (λ (j : ℕ). Form-stands forms p j (c .bound + 1) 0 (s .body)) (sym e)
-              (subst (λ (j : ℕ). Form-stands forms p (parts.after forms (c .row + 3)) j 0 (s .body)) (sym (add-one (c .bound))) (parts.each-result (n .stands))))
+              (subst (λ (j : ℕ). Form-stands forms p (parts.after forms (c .row + 3)) j 0 (s .body)) (sym (add-one (c .bound)))
+              (parts.each-result (n .stands))))
               (good-body (n .good))
               (omega (arith, n .counted))
               (binds-more (c .bound) (n .counted) (omega (arith, n .room, w .same-bindings)) (standing (first-item (s .stand) going-on .stands) (bd .0))
@@ -284,10 +286,11 @@ module _ {forms nodes pool bindings₀ results₀ : List ℕ} {limit : ℕ} {c :
                     within = x .left;
                     put = λ h.
                         let q = s .put (omega (arith, h, x .puts .counted)) in
-                        let a = x .puts .put (omega (arith, h, w .same-results)) in
-                        (q .0 ++ a .rows,
-                         item-before (q .1) (a .encoded),
-                         subst (λ (k : ℕ). Parts-put results₀ results′ (c .begun) k (q .0 ++ a .rows)) (sym (x .puts .counted)) (parts-more (q .2) a));
+                        let a = x .puts .put (omega (arith, h, w .same-results)) in (
+                          q .0 ++ a .rows,
+                          item-before (q .1) (a .encoded),
+                          subst (λ (k : ℕ). Parts-put results₀ results′ (c .begun) k (q .0 ++ a .rows)) (sym (x .puts .counted)) (parts-more (q .2) a),
+                        );
                   };
             }
 
@@ -344,7 +347,8 @@ module _ {forms nodes pool bindings₀ results₀ : List ℕ} {limit : ℕ} {c :
                   value = Value.list (items-onto (s .done) no-items);
                   ran =
                       s .whole
-                      ∙ ap (λ (vs : Items). laws.items-behind (s .done) (run-items (λ x n. run (s .body) l (x ∷ env) n) vs steps)) (no-item-left (s .stand) past)
+                      ∙ ap (λ (vs : Items). laws.items-behind (s .done) (run-items (λ x n. run (s .body) l (x ∷ env) n) vs steps))
+                      (no-item-left (s .stand) past)
                       ∙ laws.each-ends (λ x n. run (s .body) l (x ∷ env) n) (s .done) steps;
                   kinded = refl;
                   bounded = bounded-onto (s .done) no-items (s .bounded-done) tt;
@@ -356,7 +360,9 @@ module _ {forms nodes pool bindings₀ results₀ : List ℕ} {limit : ℕ} {c :
                             let q = s .put h in
                             let total : c .begun + size (Value.list (items-onto (s .done) no-items)) ≡ begun = omega (arith, s .counted, sized) in
                             record {
-                              rows = head-word (Value.list (items-onto (s .done) no-items)) ∷ 3 * size (Value.list (items-onto (s .done) no-items)) ∷ c .name ∷ q .0;
+                              rows =
+                                  head-word (Value.list (items-onto (s .done) no-items)) ∷ 3 * size (Value.list (items-onto (s .done) no-items)) ∷ c .name
+                                  ∷ q .0;
                               encoded = list-rows (items-read (q .1));
                               placed =
                                   ap (λ (n : ℕ). take (3 * n) results′) total

@@ -1,12 +1,11 @@
 -- The elements of a value: where they end, how many they are, and how long in plain JSON. Assumes nothing.
-use Prim.Native.Nat.{ℕ, suc, _+_, _*_, _/_, _%_, _≤_, _<_}
-use native.Mathlib.Numerals.{add-one}
+use Prim.Native.Nat.{ℕ, _+_, _*_, _/_, _%_, _≤_, _<_}
 use native.Mathlib.Omega.{arith}
 use mathlib.Core.Path.{_≡_, refl, sym, ap, _∙_, subst}
 use mathlib.Core.Bool.{true, false}
-use mathlib.Core.List.{List, [], _∷_, _++_}
+use mathlib.Core.List.{List, []}
 use lib.ListN.{length, getD, drop, length-append, length-drop}
-use Rattle.definitions.specs.Value.{Value, Items, no-items, item, count, size, size-items}
+use Rattle.definitions.specs.Value.{Value, Items, no-items, count, size-items}
 use Rattle.definitions.specs.Plain.{plain}
 use Rattle.definitions.specs.Running.{items-of}
 use Rattle.nodes.specs.Nodes.{kind-code, row-size, no-item-rows}
@@ -16,9 +15,9 @@ use Rattle.nodes.specs.StandingLaws.{size-some, value-head, value-size, value-w
 use Rattle.plain.specs.HeadLaws.{bits-small, head-length}
 use Rattle.plain.specs.PlainLaws.{items-length}
 use Rattle.plain.specs.Table.{Bounded-numbers, Bounded-items}
-use Rattle.running.specs.Bindings.{Bound, standing, missing}
+use Rattle.running.specs.Bindings.{Bound, standing}
 use Rattle.running.specs.BindingsLaws.{bound-kind, bound-within}
-use Rattle.running.specs.Lengths.{value-most, items-most}
+use Rattle.running.specs.Lengths.{items-most}
 use Rattle.running.specs.Rows.{Some-bound, Ends-items, Items-at, Some-items}
 
 -- ---- where they end
@@ -145,10 +144,11 @@ module _ (results : List ℕ) (row end : ℕ) where
         let bd : Bounded-numbers (f .value) × Bounded-items (f .others) = subst Bounded-items (f .same) (l .held .bounded) in
         let z = value-size (f .stands) in
         let t = items-most (s .held .stand .encoded) (s .pooled) (s .held .bounded) in
-        let k = length-item-rows (s .held .stand .encoded) in
-        (omega (arith, z, size-some (f .value)),
-         omega (arith, z, value-within (f .stands), s .small),
-         omega (arith, l .whole, ap items-length (f .same), written-at (f .stands) (bd .0) e, t, k, items-within s))
+        let k = length-item-rows (s .held .stand .encoded) in (
+          omega (arith, z, size-some (f .value)),
+          omega (arith, z, value-within (f .stands), s .small),
+          omega (arith, l .whole, ap items-length (f .same), written-at (f .stands) (bd .0) e, t, k, items-within s),
+        )
       where
         items-within : (s : Some-items results row end) → 3 * size-items (s .items) ≤ 65536
         items-within q =

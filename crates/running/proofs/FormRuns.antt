@@ -1,43 +1,36 @@
 -- What running a form answers that has no loop. Assumes nothing.
-use Prim.Native.Nat.{ℕ, suc, _+_, _*_, _/_, _%_, _≤_, _<_, max}
+use Prim.Native.Nat.{ℕ, _+_, _/_, _%_, _≤_, _<_}
 use native.Mathlib.Numerals.{add-one}
 use native.Mathlib.Omega.{arith}
 use mathlib.Core.Path.{_≡_, refl, sym, ap, _∙_, subst}
-use mathlib.Core.Bool.{Bool, true, false}
-use mathlib.Core.List.{List, _∷_}
-use lib.ListN.{length, getD, take, set, length-set}
-use lib.Seq.{take-all, take-take, take-set-le}
+use mathlib.Core.List.{List}
+use lib.ListN.{length, getD}
 use Rattle.definitions.specs.declared.Limits.{Limits}
-use Rattle.definitions.specs.Outcome.{Outcome, ok, refused, _>>=_}
+use Rattle.definitions.specs.Outcome.{Outcome, refused, _>>=_}
 use Rattle.definitions.specs.Value.{Value, count}
-use Rattle.definitions.specs.Shape.{among}
-use Rattle.definitions.specs.Admits.{kind-of}
-use Rattle.definitions.specs.Reader.{Place, to-int, to-dec, to-bool, to-text, Test, Result}
-use Rattle.definitions.specs.Checking.{test-kinds}
+use Rattle.definitions.specs.Reader.{Place, to-int, to-dec, to-bool, to-text, Result}
 use Rattle.definitions.specs.Running.{Ran, gives, items-of, int-value, run}
-use Rattle.laws.specs.FormGrammar.{place-levels, result-levels, result-forms}
-use Rattle.laws.specs.Good.{Good-reader, good-when, good-choose, good-literal}
-use Rattle.nodes.specs.Nodes.{kind-code}
+use Rattle.laws.specs.FormGrammar.{result-levels}
+use Rattle.laws.specs.Good.{Good-reader, good-literal}
 use Rattle.plain.specs.GoodBounded.{good-bounded}
 use Rattle.plain.specs.Table.{Bounded-numbers}
-use Rattle.forms.specs.Forms.{conversion-code, form-code, form-operand, form-at, test-code, Form-stands, size-at}
+use Rattle.forms.specs.Forms.{conversion-code, form-code, form-operand}
 use Rattle.forms.specs.FormsLaws.{stands-code, stands-operand, stands-at, stands-within, forms-some}
-use Rattle.forms.specs.PartsLaws.{after, when-first, when-second, choose-first, choose-second, choose-third, literal-stands}
+use Rattle.forms.specs.PartsLaws.{after, literal-stands}
 use Rattle.running.specs.declared.going.Cursor.{Cursor}
 use Rattle.running.specs.declared.going.Part.{Part}
 use Rattle.running.specs.declared.going.Part.the-variants as Part-is
 use Rattle.running.specs.declared.going.Seen.{Seen}
 use Rattle.running.specs.declared.going.Seen.the-variants as Seen-is
-use Rattle.running.specs.Bindings.{Bound, Binds}
-use Rattle.running.specs.BindingsLaws.{binds-kept, binds-more, bound-within}
-use Rattle.running.specs.Codes.{Is-when, is-when, Is-choose, is-choose, Is-count, is-count, Is-same, is-convert, is-keep, Is-literal, is-literal}
-use Rattle.running.specs.Codes.{when-of, choose-of, count-of, same-of, literal-of}
+use Rattle.running.specs.Bindings.{Bound}
+use Rattle.running.specs.Codes.{Is-when, is-when, Is-count, is-count, Is-same, is-convert, is-keep, Is-literal, is-literal}
+use Rattle.running.specs.Codes.{when-of, count-of, same-of, literal-of}
 use Rattle.running.specs.FormLaws as laws
 use Rattle.running.specs.Rows.{Some-bound}
 use Rattle.running.specs.Singles.{Giving, Gives, Counts, Literal-at, Some-literal}
-use Rattle.running.specs.Walk.{operand, follow, Meets, Small-tables, Operand-ready, Ready, Entered, Following, branch, Seen-at, Sees, Sees-operand}
-use Rattle.running.specs.Walk.{Puts, Made, Comes, Kept, Runs, Follows}
-use Rattle.running.proofs.Operands.{Has-place, has-place}
+use Rattle.running.specs.Walk.{operand, follow, Meets, Operand-ready, Ready, Following, branch, Seen-at, Sees, Sees-operand}
+use Rattle.running.specs.Walk.{Comes, Kept, Runs, Follows}
+use Rattle.running.proofs.Operands.{has-place}
 
 -- ---- answers carried on
 
@@ -74,16 +67,17 @@ module _ {forms nodes pool bindings : List ℕ} {limit row bound : ℕ} where
       → (v : Value) × Literal-at forms pool row p v
       × ((n : ℕ) → n < limit → run form l env n ≡ gives v (n + 1))
   unfolding form-code form-operand
-  literal-here {l} {p} {env} (Result.literal at v) is-literal m =
-      (v,
-       record {
-         coded = stands-code (m .stands);
-         operand = stands-operand (m .stands);
-         payload = literal-stands (m .stands);
-         pooled = m .pooled;
-         bounded = good-of (m .good);
-       },
-       λ n h. laws.literal-given at v l env n (omega (arith, m .limited)) ∙ ap (gives v) (sym (add-one n)))
+  literal-here {l} {p} {env} (Result.literal at v) is-literal m = (
+    v,
+    record {
+      coded = stands-code (m .stands);
+      operand = stands-operand (m .stands);
+      payload = literal-stands (m .stands);
+      pooled = m .pooled;
+      bounded = good-of (m .good);
+    },
+    λ n h. laws.literal-given at v l env n (omega (arith, m .limited)) ∙ ap (gives v) (sym (add-one n)),
+  )
     where
       good-of : Good-reader (Result.literal at v) → Bounded-numbers v
       good-of (good-literal g) = good-bounded g
@@ -209,7 +203,9 @@ module _ {forms nodes pool bindings results : List ℕ} {limit : ℕ} {c : Curso
               kept = f .kept;
               told = λ l p form env m.
                   let x = seen-at seen e form m in
-                  comes-as limit p results results′ c (split form (omega (arith, coded, early, other)) h m ∙ laws.split-given form l env (x .value) behind (x .ran)) r (f .told l p form env (x .value) m (x .bound));
+                  comes-as limit p results results′ c
+                  (split form (omega (arith, coded, early, other)) h m ∙ laws.split-given form l env (x .value) behind (x .ran)) r
+                  (f .told l p form env (x .value) m (x .bound));
             }
 
   -- ---- behind the place

@@ -10,3 +10,5 @@ pub mod FormRuns
 pub mod WhenRuns
 pub mod EachRuns
 pub mod PackRuns
+pub mod Depths
+pub mod Readers

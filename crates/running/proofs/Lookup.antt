@@ -6,7 +6,7 @@ use mathlib.Core.List.{List}
 use native.Mathlib.Omega.{arith}
 use lib.ListN.{length, getD}
 use Rattle.definitions.specs.Bytes.{Bytes, same}
-use Rattle.definitions.specs.Value.{Value, Members, size}
+use Rattle.definitions.specs.Value.{Value, Members}
 use Rattle.definitions.specs.Running.{member-of}
 use Rattle.pool.specs.Pool.{text-in}
 use Rattle.nodes.specs.Nodes.{Refers, row-size}

@@ -1,16 +1,16 @@
 -- Members and their names: how long they are in plain JSON. Assumes nothing.
-use Prim.Native.Nat.{ℕ, suc, _+_, _*_, _/_, _%_, _^_, _≤_, _<_}
+use Prim.Native.Nat.{ℕ, _+_, _*_, _/_, _%_, _^_, _≤_, _<_}
 use native.Mathlib.Omega.{arith}
-use mathlib.Core.Path.{_≡_, refl, sym, ap, ap₂, _∙_, subst}
+use mathlib.Core.Path.{_≡_, sym, ap, ap₂, _∙_, subst}
 use mathlib.Core.List.{List}
 use lib.ListN.{length, getD, length-append, length-drop}
 use Rattle.definitions.specs.Bytes.{Bytes}
-use Rattle.definitions.specs.Value.{Value, Members, size, size-members}
-use Rattle.definitions.specs.Plain.{plain, plain-text}
+use Rattle.definitions.specs.Value.{Members, size-members}
+use Rattle.definitions.specs.Plain.{plain-text}
 use Rattle.pool.specs.Pool.{words, text-in}
 use Rattle.nodes.specs.Nodes.{Refers, row-size}
 use Rattle.nodes.specs.NodesLaws.{length-member-rows}
-use Rattle.nodes.specs.Standing.{Members-stand, First-member}
+use Rattle.nodes.specs.Standing.{First-member}
 use Rattle.nodes.specs.StandingLaws.{size-some, value-name, value-size, value-within, first-member, no-member-left}
 use Rattle.plain.specs.PlainLaws.{members-length}
 use Rattle.plain.specs.Table.{Bounded-numbers, Bounded-members, Used}
@@ -30,11 +30,12 @@ module _ {results pool : List ℕ} {row k w n : ℕ} (named : k ≡ getD results
 
   pub name-room : Some-name results pool row → (w + words n ≤ length pool) × (length (plain-text (text-in pool w n)) < 2 ^ 64)
   name-room s =
-      let h = s .held in
-      (subst (λ (x : ℕ). x + words n ≤ length pool) (sym worded)
-       (subst (λ (y : ℕ). k % 65536 + words y ≤ length pool) (sym sized)
-       (subst (λ (j : ℕ). j % 65536 + words (j / 65536) ≤ length pool) (sym named) (found (h .pooled) (h .refers) .within))),
-       omega (arith, ap length (name-plain (s .used) (s .name) h), text-most (h .refers) (h .pooled .small)))
+      let h = s .held in (
+        subst (λ (x : ℕ). x + words n ≤ length pool) (sym worded)
+            (subst (λ (y : ℕ). k % 65536 + words y ≤ length pool) (sym sized)
+            (subst (λ (j : ℕ). j % 65536 + words (j / 65536) ≤ length pool) (sym named) (found (h .pooled) (h .refers) .within))),
+        omega (arith, ap length (name-plain (s .used) (s .name) h), text-most (h .refers) (h .pooled .small)),
+      )
 
 -- ---- members
 
@@ -72,18 +73,19 @@ module _ (results pool : List ℕ) (row end : ℕ) where
         let f = first-member (l .held .stand) more in
         let bd : Bounded-numbers (f .value) × Bounded-members (f .others) = subst Bounded-members (f .same) (l .held .bounded) in
         let z = value-size (f .stands) in
-        let t = members-most (s .held .stand .encoded) (s .held .pooled .small) (s .held .bounded) in
-        (omega (arith, z, size-some (f .value)),
-         omega (arith, z, value-within (f .stands), s .small),
-         omega (
-           arith,
-           l .whole,
-           ap members-length (f .same),
-           written-at (f .stands) (bd .0) e,
-           g (s .used) (f .name) (name-of-first (s .held .pooled) f),
-           t,
-           members-within s,
-         ))
+        let t = members-most (s .held .stand .encoded) (s .held .pooled .small) (s .held .bounded) in (
+          omega (arith, z, size-some (f .value)),
+          omega (arith, z, value-within (f .stands), s .small),
+          omega (
+            arith,
+            l .whole,
+            ap members-length (f .same),
+            written-at (f .stands) (bd .0) e,
+            g (s .used) (f .name) (name-of-first (s .held .pooled) f),
+            t,
+            members-within s,
+          ),
+        )
       where
         members-within : (q : Some-members results pool row end) → 3 * size-members (q .members) ≤ 65536
         members-within q =

@@ -1,7 +1,7 @@
 -- The place of a form, and what judging its value answers. Assumes nothing.
-use Prim.Native.Nat.{ℕ, suc, _+_, _*_, _/_, _%_, _≤_, _<_}
+use Prim.Native.Nat.{ℕ, _+_, _/_, _%_, _≤_}
 use native.Mathlib.Omega.{arith}
-use mathlib.Core.Path.{_≡_, refl, sym, ap, _∙_, subst}
+use mathlib.Core.Path.{_≡_, sym, ap, _∙_, subst}
 use mathlib.Core.Bool.{Bool, true, false}
 use mathlib.Core.List.{List}
 use lib.ListN.{length, getD}
@@ -9,10 +9,9 @@ use Rattle.definitions.specs.declared.Limits.{Limits}
 use Rattle.definitions.specs.Outcome.{refused}
 use Rattle.definitions.specs.Value.{Value}
 use Rattle.definitions.specs.Reader.{Place, Result}
-use Rattle.definitions.specs.Running.{gives, run-place}
-use Rattle.laws.specs.FormGrammar.{result-levels}
-use Rattle.forms.specs.Forms.{conversion-code, literal-code, form-code, form-at, Literal-payload, null-payload, yes-payload, no-payload, number-payload}
-use Rattle.forms.specs.Forms.{text-payload, Form-stands, Place-stands}
+use Rattle.definitions.specs.Running.{run-place}
+use Rattle.forms.specs.Forms.{literal-code, form-code, Literal-payload, null-payload, yes-payload, no-payload, number-payload}
+use Rattle.forms.specs.Forms.{text-payload, Place-stands}
 use Rattle.forms.specs.FormsLaws.{stands-code, stands-at, place-stands-within, place-forms-some}
 use Rattle.forms.specs.PartsLaws.{convert-place, keep-place, count-place, each-place, when-place, literal-stands}
 use Rattle.running.specs.declared.going.Seen.{Seen}
@@ -21,7 +20,7 @@ use Rattle.running.specs.Bindings.{Bound}
 use Rattle.running.specs.Kinds.{wanted}
 use Rattle.running.specs.FormLaws.{Placed-form, placed-convert, placed-keep, placed-count, placed-each, placed-when, operand-judged, judged-refused}
 use Rattle.running.specs.FormLaws.{judged-stuck, judged-given}
-use Rattle.running.specs.Walk.{operand, Meets, Meets-place, Operand-ready, Place-ready, Seen-at, Sees, Sees-place, Sees-operand}
+use Rattle.running.specs.Walk.{Meets, Meets-place, Operand-ready, Place-ready, Seen-at, Sees, Sees-place, Sees-operand}
 
 literal-some : {p : List ℕ} {v : Value} {k : ℕ} → Literal-payload p v k → 12 ≤ literal-code v
 unfolding literal-code

@@ -1,5 +1,5 @@
 -- What running `pack` answers, result by result. Assumes nothing.
-use Prim.Native.Nat.{ℕ, suc, _+_, _*_, _^_, _≤_, _<_, max}
+use Prim.Native.Nat.{ℕ, suc, _+_, _*_, _^_, _≤_, _<_}
 use native.Mathlib.Numerals.{add-one}
 use native.Mathlib.Omega.{arith}
 use mathlib.Core.Path.{_≡_, refl, sym, ap, _∙_, subst}
@@ -7,18 +7,17 @@ use mathlib.Core.List.{List, [], _∷_, _++_, append-nil}
 use lib.ListN.{length, getD, take, drop}
 use lib.Seq.{take-take}
 use Rattle.definitions.specs.declared.Limits.{Limits}
-use Rattle.definitions.specs.Outcome.{Outcome, refused}
 use Rattle.definitions.specs.Value.{Value, Members, no-members, member, members-onto, size, size-members}
 use Rattle.definitions.specs.Bytes.{Bytes}
-use Rattle.definitions.specs.Reader.{Result, Pairs, no-pairs, pair}
-use Rattle.definitions.specs.Running.{Ran, gives, run, run-pairs}
+use Rattle.definitions.specs.Reader.{Result, Pairs, pair}
+use Rattle.definitions.specs.Running.{run, run-pairs}
 use Rattle.laws.specs.FormGrammar.{result-levels, pairs-levels}
 use Rattle.laws.specs.Good.{Good-reader, good-pack, Good-pairs, good-pair}
-use Rattle.nodes.specs.Nodes.{kind-code, head-word, Refers, Rows, rec-rows, Members-before, no-members-before, member-before}
+use Rattle.nodes.specs.Nodes.{kind-code, head-word, Refers, rec-rows, Members-before, no-members-before, member-before}
 use Rattle.nodes.specs.NodesLaws.{members-read, size-members-onto, length-members-before}
-use Rattle.nodes.specs.RowLaws.{with-row, row-put}
+use Rattle.nodes.specs.RowLaws.{row-put}
 use Rattle.plain.specs.Table.{Bounded-numbers, Bounded-members}
-use Rattle.forms.specs.Forms.{Form-stands, Pairs-stand, size-at}
+use Rattle.forms.specs.Forms.{Pairs-stand, size-at}
 use Rattle.forms.specs.FormsLaws.{stands-code, stands-name, stands-size, stands-within, forms-some}
 use Rattle.forms.specs.PartsLaws as parts
 use Rattle.running.specs.declared.going.Cursor.{Cursor}
@@ -27,8 +26,8 @@ use Rattle.running.specs.declared.going.Part.the-variants as Part-is
 use Rattle.running.specs.BindingsLaws.{binds-kept}
 use Rattle.running.specs.Codes.{Is-pack, is-pack, pack-of}
 use Rattle.running.specs.FormLaws as laws
-use Rattle.running.specs.Rows.{Members-at, Some-members, Record-closable, Closes-record}
-use Rattle.running.specs.Walk.{Meets, Small-tables, Paid, Ready, Entered, Appended, Puts, Made, Comes, Kept, Runs}
+use Rattle.running.specs.Rows.{Members-at, Record-closable, Closes-record}
+use Rattle.running.specs.Walk.{Meets, Paid, Ready, Entered, Made, Comes, Runs}
 use Rattle.running.proofs.WhenRuns.{part-meets}
 use Rattle.running.proofs.EachRuns.{Parts-put, parts-more, parts-stand}
 
@@ -69,11 +68,12 @@ module _ {forms nodes pool bindings₀ results₀ : List ℕ} {limit : ℕ} {c :
   pub pack-within : (parts.after forms (c .row) ≤ length forms) × (c .row + 3 ≤ length forms) × (c .begun + 1 ≤ 2 ^ 60) × (c .steps + 1 ≤ 65536)
   pack-within =
       let m = f .ready .meets in
-      let h = stands-within (m .stands) in
-      (omega (arith, h, stands-size (m .stands)),
-       omega (arith, h, forms-some (f .ready .form)),
-       omega (arith, f .ready .paid, f .left, f .ready .small .steps),
-       omega (arith, f .left, f .ready .small .steps))
+      let h = stands-within (m .stands) in (
+        omega (arith, h, stands-size (m .stands)),
+        omega (arith, h, forms-some (f .ready .form)),
+        omega (arith, f .ready .paid, f .left, f .ready .small .steps),
+        omega (arith, f .left, f .ready .small .steps),
+      )
 
   pub pack-begins
       : {end : ℕ} → end ≡ parts.after forms (c .row)
@@ -109,12 +109,13 @@ module _ {forms nodes pool bindings₀ results₀ : List ℕ} {limit : ℕ} {c :
             paid = omega (arith, f .ready .paid);
             more = omega arith;
             within = omega (arith, f .left);
-            put = λ h.
-                ([],
-                 no-members-before,
-                 record {
-                   placed = ap (λ (n : ℕ). take (3 * n) results₀) (add-one (c .begun)) ∙ sym (append-nil (take (3 * suc (c .begun)) results₀));
-                 });
+            put = λ h. (
+              [],
+              no-members-before,
+              record {
+                placed = ap (λ (n : ℕ). take (3 * n) results₀) (add-one (c .begun)) ∙ sym (append-nil (take (3 * suc (c .begun)) results₀));
+              },
+            );
           }
 
   module _ {end : ℕ} {bindings results : List ℕ} {row begun steps : ℕ}
@@ -248,10 +249,11 @@ module _ {forms nodes pool bindings₀ results₀ : List ℕ} {limit : ℕ} {c :
                     within = x .left;
                     put = λ h.
                         let q = s .put (omega (arith, h, x .puts .counted)) in
-                        let a = x .puts .put (omega (arith, h, w .same-results)) in
-                        (q .0 ++ a .rows,
-                         member-before (q .1) (k .refers) (a .encoded),
-                         subst (λ (i : ℕ). Parts-put results₀ results′ (c .begun) i (q .0 ++ a .rows)) (sym (x .puts .counted)) (parts-more (q .2) a));
+                        let a = x .puts .put (omega (arith, h, w .same-results)) in (
+                          q .0 ++ a .rows,
+                          member-before (q .1) (k .refers) (a .encoded),
+                          subst (λ (i : ℕ). Parts-put results₀ results′ (c .begun) i (q .0 ++ a .rows)) (sym (x .puts .counted)) (parts-more (q .2) a),
+                        );
                   };
             }
 
@@ -321,7 +323,9 @@ module _ {forms nodes pool bindings₀ results₀ : List ℕ} {limit : ℕ} {c :
                             let q = s .put h in
                             let total : c .begun + size (Value.rec (members-onto (s .done) no-members)) ≡ begun = omega (arith, s .counted, sized) in
                             record {
-                              rows = head-word (Value.rec (members-onto (s .done) no-members)) ∷ 3 * size (Value.rec (members-onto (s .done) no-members)) ∷ c .name ∷ q .0;
+                              rows =
+                                  head-word (Value.rec (members-onto (s .done) no-members)) ∷ 3 * size (Value.rec (members-onto (s .done) no-members)) ∷ c .name
+                                  ∷ q .0;
                               encoded = rec-rows (members-read (q .1));
                               placed =
                                   ap (λ (n : ℕ). take (3 * n) results′) total

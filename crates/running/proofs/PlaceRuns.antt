@@ -1,5 +1,5 @@
 -- What running a place answers, for each way through it. Assumes nothing.
-use Prim.Native.Nat.{ℕ, suc, _+_, _*_, _/_, _%_, _≤_, _<_}
+use Prim.Native.Nat.{ℕ, suc, _+_, _/_, _%_, _≤_, _<_}
 use native.Mathlib.Numerals.{add-one}
 use native.Mathlib.Omega.{arith}
 use mathlib.Core.Path.{_≡_, refl, sym, ap, _∙_, subst}
@@ -7,20 +7,18 @@ use mathlib.Core.List.{List}
 use lib.ListN.{length, getD}
 use Rattle.definitions.specs.declared.Limits.{Limits}
 use Rattle.definitions.specs.Bytes.{Bytes}
-use Rattle.definitions.specs.Outcome.{Outcome, refused}
+use Rattle.definitions.specs.Outcome.{refused}
 use Rattle.definitions.specs.Value.{Value, Members}
 use Rattle.definitions.specs.Reader.{Place}
-use Rattle.definitions.specs.Running.{Ran, gives, member-of, run-place}
-use Rattle.laws.specs.FormGrammar.{place-forms}
-use Rattle.nodes.specs.Nodes.{kind-code, Refers}
-use Rattle.plain.specs.Table.{Bounded-numbers}
+use Rattle.definitions.specs.Running.{gives, member-of, run-place}
+use Rattle.nodes.specs.Nodes.{Refers}
 use Rattle.forms.specs.Forms.{place-code, place-at, slot}
 use Rattle.forms.specs.FormsLaws.{place-stands-code, place-stands-within, place-forms-some}
 use Rattle.forms.specs.PartsLaws.{it-slot, field-name, field-place}
 use Rattle.running.specs.declared.going.Seen.{Seen}
 use Rattle.running.specs.declared.going.Seen.the-variants as Seen-is
 use Rattle.running.specs.Bindings.{Bound, standing}
-use Rattle.running.specs.BindingsLaws.{bound-kind, bound-within, binds-at, slot-within}
+use Rattle.running.specs.BindingsLaws.{bound-kind, binds-at, slot-within}
 use Rattle.running.specs.Codes.{Is-it, is-it, it-of}
 use Rattle.running.specs.Members.{Record-at, Some-record}
 use Rattle.running.specs.PlaceLaws.{place-stops, it-given, field-of, field-entered, field-refused, field-stuck, Is-rec, is-rec, rec-of-kind, field-given}
@@ -77,7 +75,8 @@ module _ {forms nodes pool bindings : List ℕ} {limit row : ℕ} where
   it-parts
       : {l : Limits} {p : List ℕ} (q : Place) {env : List Value} (steps : ℕ) → Meets-place forms nodes pool bindings limit row l p q env
       → getD forms row 0 % 32 ≡ 1 → steps < limit
-      → (getD forms (row + 1) 0 < length bindings) × Seen-at (run-place q l env steps) nodes p limit steps (getD bindings (getD forms (row + 1) 0) 0) (suc steps)
+      → (getD forms (row + 1) 0 < length bindings)
+      × Seen-at (run-place q l env steps) nodes p limit steps (getD bindings (getD forms (row + 1) 0) 0) (suc steps)
   it-parts {l} {p} q {env} steps m f h = go q (it-of q (sym (place-stands-code (m .stands)) ∙ f)) m
     where
       go : (a : Place) → Is-it a → Meets-place forms nodes pool bindings limit row l p a env
@@ -86,15 +85,16 @@ module _ {forms nodes pool bindings : List ℕ} {limit row : ℕ} where
       go (Place.it at n) is-it w =
           let s = it-slot (w .stands) in
           let e : getD forms (row + 1) 0 ≡ slot (length env) n = s .0 ∙ ap (λ (d : ℕ). slot d n) (sym (w .counted)) in
-          let k : n < length env = omega (arith, s .1, w .counted) in
-          (omega (arith, e, slot-within (length env) n k, w .counted, w .room),
-           record {
-             value = getD env n Value.null;
-             ran = it-given at n l env steps (omega (arith, w .limited));
-             bound = subst (λ (i : ℕ). Bound nodes p (getD bindings i 0) (getD env n Value.null)) (sym e) (binds-at n (w .binds) k);
-             counted = omega arith;
-             left = omega arith;
-           })
+          let k : n < length env = omega (arith, s .1, w .counted) in (
+            omega (arith, e, slot-within (length env) n k, w .counted, w .room),
+            record {
+              value = getD env n Value.null;
+              ran = it-given at n l env steps (omega (arith, w .limited));
+              bound = subst (λ (i : ℕ). Bound nodes p (getD bindings i 0) (getD env n Value.null)) (sym e) (binds-at n (w .binds) k);
+              counted = omega arith;
+              left = omega arith;
+            },
+          )
 
   pub it-within
       : {steps : ℕ} → Place-ready forms nodes pool bindings limit row steps → getD forms row 0 % 32 ≡ 1 → steps < limit

@@ -1,14 +1,13 @@
 -- Rows put and copied, in lists. Assumes nothing.
-use Prim.Native.Nat.{ℕ, suc, _+_, _*_, _/_, _≤_, _<_}
+use Prim.Native.Nat.{ℕ, _+_, _*_, _≤_, _<_}
 use native.Mathlib.Numerals.{add-one}
 use native.Mathlib.Omega.{arith}
-use mathlib.Core.Path.{_≡_, refl, sym, ap, _∙_, subst}
-use mathlib.Core.Bool.{true, false}
-use mathlib.Core.List.{List, [], _∷_, _++_, append-assoc}
-use lib.ListN.{length, getD, take, drop, set, length-append, length-set, length-drop}
-use lib.Seq.{length-take-le, take-at, drop-at, getD-drop, paste, paste-zero, paste-suc, take-append-le, take-take}
+use mathlib.Core.Path.{_≡_, refl, sym, ap, _∙_}
+use mathlib.Core.List.{List, _∷_, _++_}
+use lib.ListN.{length, getD, take, drop, set, length-set, length-drop}
+use lib.Seq.{length-take-le, take-at, getD-drop, paste, paste-zero, paste-suc}
 use Rattle.running.specs.Rows.{Put-row}
-use Rattle.nodes.specs.RowLaws.{with-row, length-with-row}
+use Rattle.nodes.specs.RowLaws.{with-row}
 
 -- ---- one row
 

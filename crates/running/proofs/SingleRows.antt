@@ -1,11 +1,11 @@
 -- Results that are one value. Assumes nothing.
-use Prim.Native.Nat.{ℕ, suc, _+_, _*_, _/_, _%_, _^_, _≤_, _<_}
+use Prim.Native.Nat.{ℕ, _+_, _*_, _/_, _%_, _^_, _≤_, _<_}
 use native.Mathlib.Omega.{arith}
 use mathlib.Core.Path.{_≡_, refl, sym, ap, ap₂, _∙_, subst}
 use mathlib.Core.Bool.{Bool, true, false}
 use mathlib.Core.List.{List, [], _∷_}
 use lib.Dec.{eqb}
-use lib.ListN.{length, getD, take}
+use lib.ListN.{length, getD}
 use Rattle.definitions.specs.Bytes.{Bytes, bytes}
 use Rattle.definitions.specs.Number.{Number, most-coefficient, most-scale}
 use Rattle.definitions.specs.Value.{Value, Items, no-items, item, count, size, size-items}
@@ -16,8 +16,7 @@ use Rattle.pool.specs.Pool.{words, text-in}
 use Rattle.number.specs.NumberWrite.{Bounded, as-number}
 use Rattle.number.specs.DecimalLaws.{plain-short}
 use Rattle.nodes.specs.Nodes.{kind-code, sign-bit, number-bits, head-of, head-word, Refers, Rows, null-row, bool-row, number-row, text-row}
-use Rattle.nodes.specs.NodesLaws.{head-word-is, length-rows, length-item-rows}
-use Rattle.nodes.specs.Standing.{Value-stands, Items-stand}
+use Rattle.nodes.specs.NodesLaws.{head-word-is}
 use Rattle.nodes.specs.StandingLaws.{size-some, value-within}
 use Rattle.plain.specs.HeadLaws.{head-kind}
 use Rattle.plain.specs.Table.{Bounded-numbers, Used}
@@ -29,8 +28,8 @@ use Rattle.running.specs.Bindings.{Bound, standing, missing}
 use Rattle.running.specs.BindingsLaws.{bound-kind}
 use Rattle.running.specs.Lengths.{text-most}
 use Rattle.running.specs.Rows.{Put-row, Some-bound, Keeps}
-use Rattle.running.specs.Singles.{Giving, Gives, Counts, Number-word, Some-number, Literal-at, Some-literal}
-use Rattle.running.specs.Walk.{Puts, Paid, Made}
+use Rattle.running.specs.Singles.{Giving, Gives, Counts, Number-word, Some-number, Literal-at}
+use Rattle.running.specs.Walk.{Puts, Made}
 use Rattle.running.proofs.Closing.{put-alone}
 
 -- no more rows than the document has
@@ -112,7 +111,8 @@ module _ {results results′ : List ℕ} {limit : ℕ} {c : Cursor} {steps : ℕ
             record { signed = refl; whole = refl; bounded = bd } in
             subst (λ (u : Value). Made (gives u steps) limit p results results′ c 3 begun steps) (sym e)
             (made (int-value n) refl bd
-            (put-alone (subst (λ (x : ℕ). Put-row results results′ (c .begun) x n (c .name) begun) (h (record { negative = false; coefficient = n; scale = 0 }) w) q)
+            (put-alone
+            (subst (λ (x : ℕ). Put-row results results′ (c .begun) x n (c .name) begun) (h (record { negative = false; coefficient = n; scale = 0 }) w) q)
             refl number-row)
             (omega arith));
       }
@@ -269,9 +269,10 @@ module _ {pool : List ℕ} {k w n : ℕ} (worded : w ≡ k % 65536) (sized : n �
   text-here u f = ap₂ (λ (x y : ℕ). plain-text (text-in pool x y)) worded sized ∙ ap plain-text (found u f .text)
 
   pub text-room : {p : List ℕ} {t : Bytes} → Used pool p → Refers p t k → (w + words n ≤ length pool) × (length (plain-text (text-in pool w n)) < 2 ^ 64)
-  text-room u f =
-      (subst (λ (x : ℕ). x + words n ≤ length pool) (sym worded) (subst (λ (y : ℕ). k % 65536 + words y ≤ length pool) (sym sized) (found u f .within)),
-       omega (arith, ap length (text-here u f), text-most f (u .small)))
+  text-room u f = (
+    subst (λ (x : ℕ). x + words n ≤ length pool) (sym worded) (subst (λ (y : ℕ). k % 65536 + words y ≤ length pool) (sym sized) (found u f .within)),
+    omega (arith, ap length (text-here u f), text-most f (u .small)),
+  )
 
   pub text-fits
       : {p : List ℕ} {t : Bytes} {written : ℕ} → Used pool p → Refers p t k → written ≡ length (plain-text (text-in pool w n)) → head-of 4 0 written < 2 ^ 64

@@ -1,5 +1,5 @@
 -- What running `when` and `if` answers. Assumes nothing.
-use Prim.Native.Nat.{ℕ, suc, _+_, _*_, _/_, _%_, _≤_, _<_, max}
+use Prim.Native.Nat.{ℕ, suc, _+_, _*_, _/_, _%_, _≤_}
 use native.Mathlib.Numerals.{add-one}
 use native.Mathlib.Omega.{arith}
 use mathlib.Core.Path.{_≡_, refl, sym, ap, _∙_, subst}
@@ -8,17 +8,16 @@ use mathlib.Core.List.{List, _∷_}
 use lib.ListN.{length, getD, take, set, length-set}
 use lib.Seq.{take-all, take-take, take-set-le}
 use Rattle.definitions.specs.declared.Limits.{Limits}
-use Rattle.definitions.specs.Outcome.{Outcome, ok, refused, _>>=_}
+use Rattle.definitions.specs.Outcome.{refused}
 use Rattle.definitions.specs.Value.{Value}
 use Rattle.definitions.specs.Shape.{among}
 use Rattle.definitions.specs.Admits.{kind-of}
 use Rattle.definitions.specs.Reader.{Place, Test, Result}
 use Rattle.definitions.specs.Checking.{test-kinds}
 use Rattle.definitions.specs.Running.{run}
-use Rattle.laws.specs.FormGrammar.{place-levels, result-levels}
+use Rattle.laws.specs.FormGrammar.{result-levels}
 use Rattle.laws.specs.Good.{Good-reader, good-when, good-choose}
-use Rattle.nodes.specs.Nodes.{kind-code}
-use Rattle.forms.specs.Forms.{form-code, form-operand, form-at, test-code, Form-stands, size-at}
+use Rattle.forms.specs.Forms.{form-operand, form-at, test-code, Form-stands, size-at}
 use Rattle.forms.specs.FormsLaws.{stands-code, stands-operand, stands-at, stands-within, forms-some}
 use Rattle.forms.specs.PartsLaws as parts
 use Rattle.running.specs.declared.going.Cursor.{Cursor}
@@ -28,8 +27,8 @@ use Rattle.running.specs.Bindings.{Bound, Binds}
 use Rattle.running.specs.BindingsLaws.{binds-kept, binds-more}
 use Rattle.running.specs.Codes.{Is-when, is-when, Is-choose, is-choose, when-of, choose-of}
 use Rattle.running.specs.FormLaws as laws
-use Rattle.running.specs.Walk.{follow, Meets, Small-tables, Ready, Entered, Following, branch, Made, Comes, Kept, Runs, Follows}
-use Rattle.running.proofs.FormRuns.{comes-on, comes-as}
+use Rattle.running.specs.Walk.{follow, Meets, Ready, Entered, Following, branch, Made, Comes, Kept, Runs, Follows}
+use Rattle.running.proofs.FormRuns.{comes-on}
 
 -- a part of a form, with what is bound at it
 pub part-meets
@@ -43,7 +42,8 @@ part-meets {m = m} w st g n b h =
 -- ---- `when`
 
 -- its branches
-record When-meets (forms nodes pool bindings : List ℕ) (limit row first second bound : ℕ) (l : Limits) (p : List ℕ) (form : Result) (env : List Value) : Type 0 where
+record When-meets (forms nodes pool bindings : List ℕ) (limit row first second bound : ℕ) (l : Limits) (p : List ℕ) (form : Result) (env : List Value)
+    : Type 0 where
   place : ℕ
   test : Test
   inner : Place
@@ -71,7 +71,9 @@ module _ {forms nodes pool bindings : List ℕ} {limit row bound at first second
       more : Binds nodes p (set bindings bound at) (v ∷ env)
       more = binds-more bound (m .counted) (omega (arith, m .room)) b (m .binds)
 
-      go : Good-reader (Result.when a k q r₁ r₂) → When-meets forms nodes pool (set bindings bound at) limit row first second (bound + 1) l p (Result.when a k q r₁ r₂) (v ∷ env)
+      go
+          : Good-reader (Result.when a k q r₁ r₂)
+          → When-meets forms nodes pool (set bindings bound at) limit row first second (bound + 1) l p (Result.when a k q r₁ r₂) (v ∷ env)
       go (good-when gp g₁ g₂) =
           record {
             place = a;
@@ -241,7 +243,9 @@ abbrev pub condition : Cursor → (results : List ℕ) → Cursor
 condition c results = record { row = c .row + 3; name = 0; bound = c .bound; begun = length results; steps = c .steps + 1 }
 
 -- its rows have no room
-all-kept : (results results′ : List ℕ) → length results′ ≡ length results → take (3 * length results) results′ ≡ take (3 * length results) results → results′ ≡ results
+all-kept
+    : (results results′ : List ℕ) → length results′ ≡ length results → take (3 * length results) results′ ≡ take (3 * length results) results
+    → results′ ≡ results
 all-kept results results′ n e =
     sym (take-all (3 * length results) results′ (omega (arith, n))) ∙ e ∙ take-all (3 * length results) results (omega arith)
 
@@ -252,12 +256,14 @@ module _ {forms nodes pool bindings results : List ℕ} {limit : ℕ} {c : Curso
   chooses form m = choose-meets form (choose-of form (sym (stands-code (m .stands)) ∙ w .coded)) m
 
   pub choose-within
-      : (c .row + 6 ≤ length forms) × (parts.after forms (c .row + 3) + 3 ≤ length forms) × (parts.after forms (parts.after forms (c .row + 3)) + 3 ≤ length forms)
+      : (c .row + 6 ≤ length forms) × (parts.after forms (c .row + 3) + 3 ≤ length forms)
+      × (parts.after forms (parts.after forms (c .row + 3)) + 3 ≤ length forms)
   choose-within =
-      let k = chooses (w .ready .form) (w .ready .meets) in
-      (omega (arith, stands-within (k .tests .stands), forms-some (k .test)),
-       omega (arith, stands-within (k .yes .stands), forms-some (k .one)),
-       omega (arith, stands-within (k .no .stands), forms-some (k .two)))
+      let k = chooses (w .ready .form) (w .ready .meets) in (
+        omega (arith, stands-within (k .tests .stands), forms-some (k .test)),
+        omega (arith, stands-within (k .yes .stands), forms-some (k .one)),
+        omega (arith, stands-within (k .no .stands), forms-some (k .two)),
+      )
 
   pub test-ready : Ready forms nodes pool bindings results limit (condition c results)
   test-ready =

@@ -1,15 +1,13 @@
 -- Laws of the values of bindings, in the order of their definitions. Assumes nothing.
-use Prim.Native.Nat.{ℕ, zero, suc, _+_, _-_, _*_, _%_, _≤_, _<_}
+use Prim.Native.Nat.{ℕ, zero, suc, _-_, _%_, _≤_, _<_}
 use mathlib.Core.Path.{_≡_, refl, sym, ap, _∙_, subst}
 use mathlib.Core.List.{List, [], _∷_}
-use native.Mathlib.Nat.{add-zero}
 use native.Mathlib.Omega.{arith}
 use lib.ListN.{length, getD, take, set}
 use lib.Seq.{getD-take, getD-set-same, take-set-le}
 use Rattle.definitions.specs.Number.{Number, most-scale}
-use Rattle.definitions.specs.Value.{Value, size}
+use Rattle.definitions.specs.Value.{Value}
 use Rattle.nodes.specs.Nodes.{kind-code, head-word}
-use Rattle.nodes.specs.Standing.{Value-stands}
 use Rattle.nodes.specs.StandingLaws.{value-head, value-within, size-some}
 use Rattle.plain.specs.Table.{Bounded-numbers}
 use Rattle.plain.specs.HeadLaws.{head-kind}

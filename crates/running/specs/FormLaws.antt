@@ -1,9 +1,9 @@
 -- Laws of running a form, one for each way through it. Assumes nothing.
-use Prim.Native.Nat.{ℕ, suc, _+_, _/_, _%_, _≤_, _<_}
-use mathlib.Core.Path.{_≡_, refl, sym, ap, _∙_}
+use Prim.Native.Nat.{ℕ, suc, _≤_, _<_}
+use mathlib.Core.Path.{_≡_, refl, ap, _∙_}
 use mathlib.Core.Bool.{Bool, true, false}
 use mathlib.Core.List.{List, _∷_}
-use mathlib.Core.Option.{Option, none, some}
+use mathlib.Core.Option.{none, some}
 use native.Mathlib.Omega.{arith}
 use Rattle.definitions.specs.declared.Limits.{Limits}
 use Rattle.definitions.specs.Outcome.{Outcome, ok, refused, _>>=_}
@@ -271,6 +271,7 @@ module _ (name : Bytes) (r : Result) (ps : Pairs) (l : Limits) (env : List Value
       go (refused k a) = refl
 
 pub pack-ends
-    : (l : Limits) (env : List Value) (done : Members) (n : ℕ) → members-behind done (run-pairs no-pairs l env n) ≡ gives (Value.rec (members-onto done no-members)) n
+    : (l : Limits) (env : List Value) (done : Members) (n : ℕ)
+    → members-behind done (run-pairs no-pairs l env n) ≡ gives (Value.rec (members-onto done no-members)) n
 unfolding run _>>=_ gives
 pack-ends l env done n = refl

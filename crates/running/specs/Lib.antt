@@ -10,3 +10,6 @@ pub mod FormLaws
 pub mod Rows
 pub mod Lengths
 pub mod Singles
+pub mod Depth
+pub mod Run
+pub mod RunEnds

@@ -1,11 +1,10 @@
 -- Laws of running a place, one for each way through it. Assumes nothing.
-use Prim.Native.Nat.{ℕ, suc, _+_, _/_, _%_, _≤_, _<_}
+use Prim.Native.Nat.{ℕ, suc, _/_, _%_, _≤_, _<_}
 use mathlib.Core.Path.{_≡_, refl, sym, ap, _∙_}
 use mathlib.Core.Bool.{Bool, true, false}
 use mathlib.Core.List.{List, _++_}
 use borrow.Author.Tests.{lt-ltb, le-ltb}
 use native.Mathlib.Omega.{arith}
-use lib.Dec.{ltb}
 use native.Mathlib.Nat.{add-zero}
 use lib.ListN.{drop, getD}
 use Rattle.definitions.specs.declared.Limits.{Limits}
@@ -15,7 +14,7 @@ use Rattle.definitions.specs.Outcome.{Outcome, ok, refused, _>>=_}
 use Rattle.definitions.specs.Value.{Value, Members}
 use Rattle.definitions.specs.Shape.{Kind, among, rank}
 use Rattle.definitions.specs.Admits.{kind-of}
-use Rattle.definitions.specs.Reader.{Place, Result}
+use Rattle.definitions.specs.Reader.{Place}
 use Rattle.definitions.specs.Checking.{field-kinds}
 use Rattle.definitions.specs.Running.{Ran, gives, enter, stuck-unless, member-of, members-of, field-value, run-place}
 use Rattle.nodes.specs.Nodes.{kind-code}

@@ -2,7 +2,7 @@
 use Prim.Native.Nat.{ℕ, _+_, _*_, _/_, _%_, _≤_, _<_}
 use mathlib.Core.Path.{_≡_}
 use mathlib.Core.List.{List}
-use lib.ListN.{length, getD, take}
+use lib.ListN.{getD, take}
 use Rattle.definitions.specs.Number.{Number}
 use Rattle.definitions.specs.Value.{Value, count}
 use Rattle.definitions.specs.Running.{gives, items-of, int-value}

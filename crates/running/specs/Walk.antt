@@ -1,18 +1,18 @@
 -- What running a form asks of its tables, and what it answers. Assumes nothing.
 use Prim.Native.Nat.{ℕ, _+_, _*_, _%_, _≤_, _<_}
 use mathlib.Core.Path.{_≡_}
-use mathlib.Core.Bool.{Bool, true, false}
+use mathlib.Core.Bool.{true, false}
 use mathlib.Core.List.{List, _∷_, _++_}
 use lib.ListN.{length, getD, take}
 use Rattle.definitions.specs.declared.Limits.{Limits}
-use Rattle.definitions.specs.Outcome.{Outcome, ok, refused, _>>=_}
+use Rattle.definitions.specs.Outcome.{Outcome, refused, _>>=_}
 use Rattle.definitions.specs.Value.{Value, count, size}
 use Rattle.definitions.specs.Shape.{among}
 use Rattle.definitions.specs.Admits.{kind-of}
 use Rattle.definitions.specs.Reader.{Place, Result}
 use Rattle.definitions.specs.Checking.{convert-kinds, list-kinds, test-kinds}
 use Rattle.definitions.specs.Running.{Ran, gives, stuck-unless, items-of, int-value, run-place, run-items, run}
-use Rattle.laws.specs.FormGrammar.{place-levels, result-levels}
+use Rattle.laws.specs.FormGrammar.{result-levels}
 use Rattle.laws.specs.Good.{Good-reader}
 use Rattle.nodes.specs.Nodes.{kind-code, Rows}
 use Rattle.plain.specs.Table.{Bounded-numbers, Used}

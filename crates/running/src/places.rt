@@ -1,8 +1,6 @@
 // The values of places: rows of the document's table.
-ghost use mathlib.Core.Path.{_≡_};
 ghost use mathlib.Core.List.{List};
-ghost use Prim.Native.Nat.{ℕ, _+_, _≤_, _<_};
-ghost use lib.ListN.{length};
+ghost use Prim.Native.Nat.{ℕ};
 ghost use Rattle.definitions.specs.Bytes.{Bytes};
 ghost use Rattle.definitions.specs.Value.{Members};
 ghost use Rattle.definitions.specs.Running.{member-of};
@@ -56,7 +54,11 @@ pub fn run_place(
         };
     }
     let inner = run_place(forms, row + 3, nodes, pool, bindings, limit, steps + 1);
-    let Seen::At { row: at, steps: behind } = inner else {
+    let Seen::At {
+        row: at,
+        steps: behind,
+    } = inner
+    else {
         return inner;
     };
     if nodes::row_kind(nodes, at) != nodes::RECORD {

@@ -1,7 +1,7 @@
 // Results that are one value: of a place, a count, a literal.
 ghost use mathlib.Core.Path.{_≡_};
 ghost use mathlib.Core.List.{List};
-ghost use Prim.Native.Nat.{ℕ, suc, _+_};
+ghost use Prim.Native.Nat.{ℕ, _+_};
 ghost use Rattle.definitions.specs.Number.{Number};
 ghost use Rattle.definitions.specs.Value.{Value};
 ghost use Rattle.nodes.specs.Nodes.{head-word};
@@ -15,7 +15,14 @@ use crate::rows::keep;
 use crate::rows::put;
 
 // Puts the value at a row of the document.
-pub fn give_value(results: &mut [u64], nodes: &[u64], at: usize, limit: usize, c: Cursor, steps: usize) -> Part
+pub fn give_value(
+    results: &mut [u64],
+    nodes: &[u64],
+    at: usize,
+    limit: usize,
+    c: Cursor,
+    steps: usize,
+) -> Part
     requires { ⌜ Giving limit c steps ⌝ }
     requires there { ⌜ Some-bound (now nodes) at 0 ⌝ }
     ensures given { λ r. ⌜ Gives (now (results .entry)) (now (results .exit)) limit c steps (λ p v. Bound (now (nodes .entry)) p at v) r ⌝ }
@@ -35,7 +42,14 @@ fn number_head(bits: u64, coefficient: u64) -> u64
 }
 
 // Puts how many elements the value at a row of the document has.
-pub fn give_count(results: &mut [u64], nodes: &[u64], at: usize, limit: usize, c: Cursor, steps: usize) -> Part
+pub fn give_count(
+    results: &mut [u64],
+    nodes: &[u64],
+    at: usize,
+    limit: usize,
+    c: Cursor,
+    steps: usize,
+) -> Part
     requires { ⌜ Giving limit c steps ⌝ }
     requires there { ⌜ Some-bound (now nodes) at 0 ⌝ }
     ensures given { λ r. ⌜ Gives (now (results .entry)) (now (results .exit)) limit c steps (Counts (now (nodes .entry)) at) r ⌝ }
@@ -60,7 +74,11 @@ fn literal_head(forms: &[u64], row: usize, pool: &[u64]) -> u64
         return number_head(forms::operand(forms, row), payload);
     }
     if code == forms::STR {
-        let written = text::text_length(pool, nodes::text_word(payload), nodes::text_bytes(payload));
+        let written = text::text_length(
+            pool,
+            nodes::text_word(payload),
+            nodes::text_bytes(payload),
+        );
         return nodes::head_word(nodes::TEXT, 0, written);
     }
     if code == forms::YES {
@@ -73,7 +91,13 @@ fn literal_head(forms: &[u64], row: usize, pool: &[u64]) -> u64
 }
 
 // Puts the literal at a row.
-pub fn give_literal(results: &mut [u64], forms: &[u64], pool: &[u64], limit: usize, c: Cursor) -> Part
+pub fn give_literal(
+    results: &mut [u64],
+    forms: &[u64],
+    pool: &[u64],
+    limit: usize,
+    c: Cursor,
+) -> Part
     requires { ⌜ Giving limit c (c .steps + 1) ⌝ }
     requires there { ⌜ Some-literal (now forms) (now pool) (c .row) ⌝ }
     ensures given { λ r. ⌜ Gives (now (results .entry)) (now (results .exit)) limit c (c .steps + 1)

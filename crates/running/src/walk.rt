@@ -41,7 +41,12 @@ fn run_pack(
             steps,
         };
         let r = run_form(forms, nodes, pool, bindings, results, limit, part);
-        let Part::Done { kind: _, begun: to, steps: behind } = r else {
+        let Part::Done {
+            kind: _,
+            begun: to,
+            steps: behind,
+        } = r
+        else {
             return r;
         };
         begun = to;
@@ -79,7 +84,12 @@ fn run_if(
         steps: c.steps + 1,
     };
     let r = run_form(forms, nodes, pool, bindings, results, limit, test);
-    let Part::Done { kind, begun: _, steps } = r else {
+    let Part::Done {
+        kind,
+        begun: _,
+        steps,
+    } = r
+    else {
         return r;
     };
     let second = first + forms::size(forms, first);
@@ -169,7 +179,12 @@ fn run_each(
             steps,
         };
         let r = run_form(forms, nodes, pool, bindings, results, limit, part);
-        let Part::Done { kind: _, begun: to, steps: after } = r else {
+        let Part::Done {
+            kind: _,
+            begun: to,
+            steps: after,
+        } = r
+        else {
             return r;
         };
         begun = to;
@@ -241,8 +256,27 @@ pub fn run_form(
     if forms::IF < code {
         return give_literal(results, forms, pool, limit, c);
     }
-    match run_operand(forms, c.row, nodes, pool, bindings, c.bound, limit, c.steps + 1) {
-        Seen::At { row, steps } => run_on(forms, nodes, pool, bindings, results, limit, c, row, steps),
+    match run_operand(
+        forms,
+        c.row,
+        nodes,
+        pool,
+        bindings,
+        c.bound,
+        limit,
+        c.steps + 1,
+    ) {
+        Seen::At { row, steps } => run_on(
+            forms,
+            nodes,
+            pool,
+            bindings,
+            results,
+            limit,
+            c,
+            row,
+            steps,
+        ),
         Seen::Refused { number, place } => Part::Refused { number, place },
     }
 }

@@ -17,7 +17,7 @@ put-head-requires c κs =
       at-start .pre .0,
       omega (
         arith,
-        head-as (at-start .args .kinds .kinds) (at-start .args .words) (c .before .before .before .union .ensures)
+        head-as _ (at-start .args .words) (c .before .before .before .union .ensures)
             (after-kinds .kinds .ensures) (c .before .size .ensures),
         at-start .pre .1,
       ),

@@ -4,8 +4,7 @@ use Prim.Native.Nat.{ℕ, _/_, _%_, _<_}
 use mathlib.Core.Path.{_≡_, ap, _∙_}
 use mathlib.Core.Bool.{Bool, true, false}
 use native.Mathlib.Omega.{arith}
-use lib.Dec.{eqb}
-use Rattle.definitions.specs.Number.{Number, is-int}
+use Rattle.definitions.specs.Number.{Number}
 use Rattle.definitions.specs.Value.{Value}
 use Rattle.nodes.specs.Nodes.{head-word, kind-code, number-bits, sign-bit}
 use Rattle.nodes.proofs.row_is_int.Statement.{statement}
