@@ -118,7 +118,7 @@ module _
               }
 
           pub new-room-then : Member-inferable shapes nodes pool used first last at → Room shapes₁ (used + opened)
-          new-room-then w = 
+          new-room-then w =
               new-room had (λ (s : Shape). infer-into (w .value) s) (w .meets .fields) (w .meets .refers) room (place-new (w .meets)) told (name-is (w .meets))
               (row-put shapes shapes₁ used row kinds name o₁ q₁ e₁)
 
@@ -142,7 +142,7 @@ module _
               pub new-answer : Infers-member shapes nodes pool shapes₂ used first last at had (Grown (opened + words))
               new-answer p fs n k v h =
                   new-put had (λ (s : Shape). infer-into v s) (h .fields) (h .refers) room (place-new h) told (name-is h)
-                (row-put shapes shapes₁ used row kinds name o₁ q₁ e₁)
+                  (row-put shapes shapes₁ used row kinds name o₁ q₁ e₁)
                   (subst
                   (λ (x : Joined). Becomes shapes₁ shapes₂ p (used + opened) row k (member-start had) (infer-into v (member-start had)) x)
                   e₂

@@ -224,7 +224,7 @@ fn join_members(
 }
 
 // Joins the second's members into the first's.
-fn join_record(
+pub fn join_record(
     shapes: &mut [u64],
     used: usize,
     row: usize,
@@ -255,7 +255,7 @@ fn join_record(
 }
 
 // Joins the second's element into the first's.
-fn join_element(
+pub fn join_element(
     shapes: &mut [u64],
     used: usize,
     row: usize,

@@ -1,0 +1,15 @@
+pub mod Steps
+pub mod BareKinds
+pub mod KeepSteps
+pub mod PairNames
+pub mod Parts
+pub mod Places
+pub mod Branches
+pub mod ChooseSteps
+pub mod WhenSteps
+pub mod EachSteps
+pub mod PairSteps
+pub mod PairsLoop
+pub mod PackSteps
+pub mod BareSteps
+pub mod ReaderSteps
