@@ -15,7 +15,7 @@ use Rattle.definitions.specs.Outcome.{Outcome, ok, refused}
 use Rattle.definitions.specs.Reader.{Result}
 use Rattle.definitions.specs.Checking.{check-reader}
 use Rattle.definitions.specs.Running.{run-reader}
-use Rattle.definitions.specs.Operations.{Judged, passed, stopped, refusal, in-text, shape-out, finish}
+use Rattle.definitions.specs.Operations.{passed, stopped, refusal, in-text, shape-out, finish}
 use Rattle.definitions.specs.WorkSlices.{form-words, name-words, value-words, text-words, reader-words, reader-texts, bound-words, result-words}
 use Rattle.laws.specs.Tests.{lt-ltb}
 use Rattle.laws.specs.Judging.{shape-out-over}
