@@ -19,7 +19,8 @@ use Rattle.forms.specs.Forms.{number-payload, text-payload, Form-stands}
 use Rattle.forms.specs.PartsLaws.{after, keep-place, each-place, each-result, when-place, when-first, when-second, choose-second, choose-third}
 use Rattle.forms.specs.PartsLaws.{literal-stands, pack-stands}
 use Rattle.forms.specs.FormsLaws.{stands-operand}
-use Rattle.checking.specs.CheckContracts.{Meets-place, Meets-form, Meets-pairs}
+use Rattle.checking.specs.CheckContracts.{Meets-place, Meets-form}
+use Rattle.result_shape.specs.Giving.{Meets-pairs}
 use Rattle.result_shape.specs.Results.{Bare, bare-convert, bare-count, bare-null, bare-bool, bare-number, bare-text}
 use Rattle.result_shape.specs.ResultsLaws.{keep-gives, convert-gives, count-gives, literal-gives}
 use Rattle.result_shape.specs.ResultsLaws.{each-gives, when-gives, choose-gives, Pack-gives, pack-gives}

@@ -11,7 +11,7 @@ use Rattle.definitions.specs.Shape.{Shape, Fields, ascending, ascending-fields,
 use Rattle.definitions.specs.Join.{join}
 use Rattle.definitions.specs.Reader.{Result, Pairs, among-pairs}
 use Rattle.definitions.specs.Checking.{check, check-reader}
-use Rattle.laws.specs.FormGrammar.{result-levels}
+use Rattle.laws.specs.FormGrammar.{result-levels, pairs-levels}
 use Rattle.laws.specs.Readers.{proper, proper-pairs}
 use Rattle.nodes.specs.Nodes.{Refers}
 use Rattle.plain.specs.Table.{Used}
@@ -23,8 +23,8 @@ use Rattle.join.specs.declared.Joined.the-variants.{Grown, Full}
 use Rattle.growing.specs.Growing.{member-start, place, join-in}
 use Rattle.growing.specs.Rows.{Meets-fields, Fields-become}
 use Rattle.forms.specs.Forms.{form-code, form-operand, Form-stands, Pairs-stand}
-use Rattle.checking.specs.Bindings.{Bound}
-use Rattle.checking.specs.CheckContracts.{Meets-form, Meets-pairs}
+use Rattle.checking.specs.Bindings.{Bound, Bindings}
+use Rattle.checking.specs.CheckContracts.{Meets-form}
 use Rattle.result_shape.specs.Results.{Bare, Given}
 
 -- ---- the tables
@@ -123,6 +123,12 @@ Gives-pair table shapes pool bindings result result′ row d used first last dee
     → Fields-become result result′ p used first fs (place n (member-start had) (λ s. join s t) fs) o
 
 -- ---- a pack's results into members
+
+pub record Meets-pairs (table shapes pool bindings p : List ℕ) (row end d deep : ℕ) (ps : Pairs) (env : List Shape) : Type 0 where
+  pub pooled : Used pool p
+  pub stand : Pairs-stand table p row end d ps
+  pub bound : Bindings shapes p bindings deep d env
+  pub room : d + pairs-levels ps ≤ length bindings + 1
 
 pub record Meets-pack
     (table shapes pool bindings result p : List ℕ) (row end d used first last deep : ℕ) (ps : Pairs) (env : List Shape) (gs fs : Fields)

@@ -21,7 +21,7 @@ fn keep_members(
     ensures kept { λ r. ⌜ Gives-kept join-records (now (shapes .entry)) (now (pool .entry)) (now (result .entry)) (now (result .exit))
         at kinds used dest deep r ⌝ }
 {
-    if !shapes::has(kinds, Shape::REC) {
+    if !shapes::has(Shape { kinds }, Shape::REC) {
         return Joined::Grown { words: 0 };
     }
     join::join_record(result, used, dest, shapes, at, pool, deep)
@@ -43,7 +43,7 @@ fn keep_element(
     ensures kept { λ r. ⌜ Gives-kept join-elements (now (shapes .entry)) (now (pool .entry)) (now (result .entry)) (now (result .exit))
         at kinds used dest deep r ⌝ }
 {
-    if !shapes::has(kinds, Shape::LIST) {
+    if !shapes::has(Shape { kinds }, Shape::LIST) {
         return Joined::Grown { words: 0 };
     }
     join::join_element(result, used, dest, shapes, at, pool, deep)
@@ -73,7 +73,7 @@ pub fn keep(
     let Joined::Grown { words: more } = r else {
         return Joined::Full;
     };
-    growing::raise(result, dest, kinds, 0);
+    growing::raise(result, dest, Shape { kinds }, 0);
     Joined::Grown {
         words: words + more,
     }

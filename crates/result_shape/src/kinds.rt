@@ -7,24 +7,24 @@ ghost use Rattle.result_shape.specs.Giving.{Tells-bare};
 use shapes::Shape;
 
 // The kinds of `num`, from its sign and scale: a decimal has int and dec.
-fn number_kinds(operand: u64) -> u64
-    ensures told { λ r. ⌜ r ≡ elim (eqb (operand / 2) 0) [ true ↦ 4 | false ↦ 12 ] ⌝ }
+fn number_kinds(operand: u64) -> Shape
+    ensures told { λ r. ⌜ r .kinds ≡ elim (eqb (operand / 2) 0) [ true ↦ 4 | false ↦ 12 ] ⌝ }
 {
     if operand / 2 == 0 {
         return Shape::INT;
     }
-    Shape::INT | Shape::DEC
+    shapes::union(Shape::INT, Shape::DEC)
 }
 
 // The kinds of a conversion, of `count` and of a literal.
-pub fn bare_kinds(code: u64, operand: u64) -> u64
-    ensures told { λ r. ⌜ Tells-bare code operand r ⌝ }
+pub fn bare_kinds(code: u64, operand: u64) -> Shape
+    ensures told { λ r. ⌜ Tells-bare code operand (r .kinds) ⌝ }
 {
     if code == forms::NUM {
         return number_kinds(operand);
     }
     if code == forms::DEC {
-        return Shape::INT | Shape::DEC;
+        return shapes::union(Shape::INT, Shape::DEC);
     }
     if code == forms::TEXT {
         return Shape::TEXT;

@@ -494,6 +494,7 @@ pub fn result(
         return Joined::Full;
     }
     shapes::put_row(result, 0, Shape::NOTHING, 2, 0);
-    bindings::bind(bindings, 0, 0, shapes::kinds(shapes, 0));
+    let whole = shapes::kinds(shapes, 0);
+    bindings::bind(bindings, 0, 0, whole.kinds);
     result_into(forms, 0, shapes, pool, bindings, 1, result, 2, 0, deep)
 }

@@ -9,7 +9,7 @@ returns : tie.Need-returns
 returns c = at-number (c .before .if1 .taken) (c .number-kinds .ensures)
 
 returns-2 : tie.Need-returns-2
-returns-2 c = at-dec (c .if2 .taken) refl
+returns-2 c = at-dec (c .before .if2 .taken) (c .union .ensures)
 
 returns-3 : tie.Need-returns-3
 returns-3 c = at-text (c .if3 .taken) refl
@@ -35,4 +35,4 @@ returns-8 c =
 
 pub bare-kinds-spec : {M : Type 1} → statement M
 bare-kinds-spec =
-    tie.close (tie.spec (λ c κs. search needs) returns returns-2 returns-3 returns-4 returns-5 returns-6 returns-7 returns-8)
+    tie.close (tie.spec (λ c κs. search needs) returns (λ c κs. search needs) returns-2 returns-3 returns-4 returns-5 returns-6 returns-7 returns-8)
