@@ -13,3 +13,4 @@ pub mod Singles
 pub mod Depth
 pub mod Run
 pub mod RunEnds
+pub mod RunLaws
