@@ -52,7 +52,7 @@ published-for-check : check-slices standard ≡ 1536 ∷ 1024 ∷ 1024 ∷ 32 �
 unfolding evaluate
 published-for-check = refl
 
-published-for-run : run-slices standard ≡ 1536 ∷ 1536 ∷ 1536 ∷ 32 ∷ 4927 ∷ []
+published-for-run : run-slices standard ≡ 1536 ∷ 1536 ∷ 1536 ∷ 33 ∷ 4927 ∷ []
 unfolding evaluate
 published-for-run = refl
 

@@ -63,7 +63,7 @@ for-reader-shape l n m = reader-words l ∷ form-words l ∷ form-words l ∷ bo
 -- a reader and a document: forms, nodes, results, bindings, pool
 abbrev pub for-reader-document : Limits → (reader document : ℕ) → List ℕ
 for-reader-document l n m =
-    reader-words l ∷ value-words l m ∷ result-words l ∷ bound-words l ∷ (reader-texts l n + text-words l m) ∷ []
+    reader-words l ∷ value-words l m ∷ result-words l ∷ (bound-words l + 1) ∷ (reader-texts l n + text-words l m) ∷ []
 
 -- ---- what each operation publishes
 

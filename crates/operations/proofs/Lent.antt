@@ -11,12 +11,12 @@ use Rattle.definitions.specs.declared.Limits.{Limits}
 use Rattle.definitions.specs.Bytes.{Bytes}
 use Rattle.definitions.specs.Operations.{slices-short}
 use Rattle.definitions.specs.WorkSlices.{form-words, name-words, value-words, text-words, plain-slices, infer-slices, join-slices}
-use Rattle.definitions.specs.WorkSlices.{reader-words, reader-texts, bound-words, check-slices}
+use Rattle.definitions.specs.WorkSlices.{reader-words, reader-texts, bound-words, result-words, check-slices, run-slices}
 use Rattle.slices.specs.Small.{Small}
 use Rattle.slices.specs.Long.{three-long, long-three, long-for-document, long-for-shape-document, long-for-two-shapes}
-use Rattle.slices.specs.Long.{five-long, long-five, long-for-reader-shape}
+use Rattle.slices.specs.Long.{five-long, long-five, long-for-reader-shape, long-for-reader-document}
 use Rattle.inputs.specs.Inputs.{Shape-document-slices, Two-shapes-slices}
-use Rattle.perform.specs.Perform.{Document-slices, Check-slices}
+use Rattle.perform.specs.Perform.{Document-slices, Check-slices, Run-slices}
 
 module _ (l : Limits) (small : Small l) where
   pub for-one
@@ -104,5 +104,44 @@ module _ (l : Limits) (small : Small l) where
               (length (take (2 * l .values) results)) (length bindings) (length pool) a
               (omega (arith, length-take-le (2 * l .values) shapes enough-checked))
               (omega (arith, length-take-le (2 * l .values) results enough-given)) d f;
+          small = small;
+        }
+
+  module _ (reader document : Bytes) (forms nodes results bindings pool : List ℕ)
+      (e : slices-short (run-slices l) (length forms ∷ length nodes ∷ length results ∷ length bindings ∷ length pool ∷ []) ≡ false) where
+    published-parts
+        : (reader-words l ≤ length forms) × (value-words l (l .bytes) ≤ length nodes) × (result-words l ≤ length results)
+        × (bound-words l + 1 ≤ length bindings) × (reader-texts l (l .bytes) + text-words l (l .bytes) ≤ length pool)
+    published-parts =
+        long-five (reader-words l) (value-words l (l .bytes)) (result-words l) (bound-words l + 1)
+        (reader-texts l (l .bytes) + text-words l (l .bytes)) (length forms) (length nodes) (length results) (length bindings) (length pool) e
+
+    run-parts
+        : (reader-words l ≤ length forms) × (value-words l (length document) ≤ length nodes) × (result-words l ≤ length results)
+        × (bound-words l + 1 ≤ length bindings) × (reader-texts l (length reader) + text-words l (length document) ≤ length pool)
+    run-parts =
+        long-five (reader-words l) (value-words l (length document)) (result-words l) (bound-words l + 1)
+        (reader-texts l (length reader) + text-words l (length document)) (length forms) (length nodes) (length results) (length bindings)
+        (length pool)
+        (long-for-reader-document l (length forms) (length nodes) (length results) (length bindings) (length pool) (length reader)
+        (length document) e)
+
+    -- a document of any length has as many values at most as the limit says
+    pub enough-read : l .values ≤ l .bytes → 3 * l .values ≤ length nodes
+    enough-read h = omega (arith, published-parts .1, h)
+
+    pub enough-made : 3 * l .values ≤ length results
+    enough-made = run-parts .2
+
+    pub for-cut-run : l .values ≤ l .bytes → Run-slices reader document forms (take (3 * l .values) nodes) (take (3 * l .values) results) bindings pool l
+    for-cut-run h =
+        let (a, b, c, d, f) = run-parts in
+        record {
+          long =
+              five-long (reader-words l) (value-words l (length document)) (result-words l) (bound-words l + 1)
+              (reader-texts l (length reader) + text-words l (length document)) (length forms) (length (take (3 * l .values) nodes))
+              (length (take (3 * l .values) results)) (length bindings) (length pool) a
+              (omega (arith, length-take-le (3 * l .values) nodes (enough-read h)))
+              (omega (arith, length-take-le (3 * l .values) results enough-made)) d f;
           small = small;
         }

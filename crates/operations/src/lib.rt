@@ -6,8 +6,9 @@ ghost use lib.ListN.{length};
 ghost use Rattle.definitions.specs.Limits.{standard};
 ghost use Rattle.definitions.specs.Json.{read-json};
 ghost use Rattle.definitions.specs.Operations.{plain-operation, infer-operation, join-operation, below-operation, admits-operation};
-ghost use Rattle.definitions.specs.Operations.{check-operation};
+ghost use Rattle.definitions.specs.Operations.{check-operation, run-operation};
 ghost use Rattle.definitions.specs.WorkSlices.{plain-slices, infer-slices, join-slices, below-slices, admits-slices, check-slices};
+ghost use Rattle.definitions.specs.WorkSlices.{run-slices};
 use definitions::Answer;
 use definitions::Format;
 
@@ -164,7 +165,7 @@ pub fn check(
         forms.len(),
         shapes.len(),
         results.len(),
-        bindings.len(),
+        bindings.len(), // one for each level of the reader
         pool.len(),
     ) { // a reader and a shape
         return answers::refusal(1, 0, 0);
@@ -176,6 +177,54 @@ pub fn check(
         output,
         forms,
         &mut shapes[..rows],
+        &mut results[..rows],
+        bindings,
+        pool,
+        limits,
+    )
+}
+
+// Runs a reader on a document, and writes what it gives as plain JSON.
+pub fn run(
+    reader: &[u8],
+    document: &[u8],
+    output: &mut [u8],
+    forms: &mut [u64],
+    nodes: &mut [u64],
+    results: &mut [u64],
+    bindings: &mut [u64],
+    pool: &mut [u64],
+) -> Answer
+    ensures answered { λ r. ⌜ r ≡
+        run-operation read-json (run-slices standard)
+        (length (now (forms .entry)) ∷ length (now (nodes .entry)) ∷ length (now (results .entry))
+        ∷ length (now (bindings .entry)) ∷ length (now (pool .entry)) ∷ []) standard
+        (now (reader .entry)) (now (document .entry)) (now (output .entry)) .answer ⌝ }
+    ensures written { λ _. ⌜ now (output .exit) ≡
+        run-operation read-json (run-slices standard)
+        (length (now (forms .entry)) ∷ length (now (nodes .entry)) ∷ length (now (results .entry))
+        ∷ length (now (bindings .entry)) ∷ length (now (pool .entry)) ∷ []) standard
+        (now (reader .entry)) (now (document .entry)) (now (output .entry)) .output ⌝ }
+{
+    let limits = slices::STANDARD;
+    if slices::reader_document_short(
+        limits,
+        forms.len(),
+        nodes.len(),
+        results.len(),
+        bindings.len(), // and one for the document
+        pool.len(),
+    ) { // a reader and a document
+        return answers::refusal(1, 0, 0);
+    }
+    let rows = 3 * limits.values; // no document and no result has more
+    perform::run(
+        Format::Json,
+        reader,
+        document,
+        output,
+        forms,
+        &mut nodes[..rows],
         &mut results[..rows],
         bindings,
         pool,

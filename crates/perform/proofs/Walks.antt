@@ -14,8 +14,9 @@ use Rattle.definitions.specs.Bytes.{Bytes}
 use Rattle.definitions.specs.Outcome.{Outcome, ok, refused}
 use Rattle.definitions.specs.Reader.{Result}
 use Rattle.definitions.specs.Checking.{check-reader}
-use Rattle.definitions.specs.Operations.{Judged, passed, stopped, refusal, in-text, shape-out, finish}
-use Rattle.definitions.specs.WorkSlices.{form-words, name-words, reader-words, reader-texts, bound-words}
+use Rattle.definitions.specs.Running.{run-reader}
+use Rattle.definitions.specs.Operations.{passed, stopped, refusal, in-text, shape-out, finish}
+use Rattle.definitions.specs.WorkSlices.{form-words, name-words, value-words, text-words, reader-words, reader-texts, bound-words, result-words}
 use Rattle.laws.specs.Tests.{lt-ltb}
 use Rattle.laws.specs.Judging.{shape-out-over}
 use Rattle.laws.specs.Ends.{Comes, stopped-keeps}
@@ -39,8 +40,11 @@ use Rattle.checking.specs.declared.Checked.{Checked}
 use Rattle.checking.specs.declared.Checked.the-variants.{Kinds, Refused}
 use Rattle.checking.specs.CheckContracts.{Checks, Meets-reader, Reader-asked, Checks-reader}
 use Rattle.result_shape.specs.Giving.{Meets-reader as Meets-given, Reader-asked as Given-asked, Holds-given, Gives-reader}
+use Rattle.running.specs.declared.Came.{Came}
+use Rattle.running.specs.Run.{Reads-both, Runnable, Comes-to, Runs-reader}
+use Rattle.inputs.specs.Inputs.{Reader-document-slices, Reader-document-held}
 use Rattle.inputs.specs.Inputs.{Shape-table, Shape-document-held, Two-shapes-held, Reader-shape-slices, Reader-shape-held}
-use Rattle.perform.specs.Perform.{Check-slices, Grows-to}
+use Rattle.perform.specs.Perform.{Check-slices, Run-slices, Grows-to}
 
 -- ---- a table that grew, or was full
 
@@ -250,3 +254,72 @@ module _ {l : Limits} {forms shapes pool : List ℕ} {words used top : ℕ} {r :
         go : (o : Joined) → Holds-given results′ pool long t o → Grows-to t o results′ pool l
         go (Grown w) x = x
         go Full x = omega (arith, x, j)
+
+-- ---- a reader on a document
+
+module _ {reader document : Bytes} {forms nodes results bindings pool : List ℕ} {l : Limits}
+    (s : Run-slices reader document forms nodes results bindings pool l) where
+  run-parts
+      : (reader-words l ≤ length forms) × (value-words l (length document) ≤ length nodes) × (result-words l ≤ length results)
+      × (bound-words l + 1 ≤ length bindings) × (reader-texts l (length reader) + text-words l (length document) ≤ length pool)
+  run-parts =
+      long-five (reader-words l) (value-words l (length document)) (result-words l) (bound-words l + 1)
+      (reader-texts l (length reader) + text-words l (length document)) (length forms) (length nodes) (length results) (length bindings)
+      (length pool) (s .long)
+
+  pub run-texts : Reader-document-slices reader document forms nodes pool l
+  run-texts =
+      let (a, b, c, d, e) = run-parts in
+      record { rows = a; value-rows = b; texts = e; small = s .small }
+
+  pub run-results : result-words l ≤ length results
+  run-results = run-parts .2
+
+  pub run-bindings : bound-words l < length bindings
+  run-bindings = omega (arith, run-parts .3)
+
+module _ {l : Limits} {forms nodes pool : List ℕ} {words many top : ℕ} {r : Result} {v : Value}
+    (h : Reader-document-held l forms nodes pool words many top r v) where
+  reads : Reads-both forms nodes pool l (take top pool) r v
+  reads =
+      record {
+        pooled = front-used pool top (h .value .within) (h .value .small);
+        reader-name = 0;
+        reader =
+            record {
+              rows = take words forms;
+              rest = drop words forms;
+              encoded = h .reader .rows;
+              placed = sym (take-append-drop words forms);
+            };
+        good = h .reader .good;
+        levels = h .reader .nests;
+        document-name = 0;
+        document =
+            record {
+              rows = take many nodes;
+              rest = drop many nodes;
+              encoded = h .value .rows;
+              placed = sym (take-append-drop many nodes);
+            };
+        bounded = good-bounded (h .value .good);
+      }
+
+  pub runnable
+      : (bindings results : List ℕ) → bound-words l < length bindings → result-words l ≤ length results → length nodes ≤ 65536
+      → length results ≤ 65536 → l .steps ≤ 65536 → Runnable forms nodes pool bindings results l
+  runnable bindings results b w n m s =
+      record {
+        used = take top pool;
+        form = r;
+        value = v;
+        held = reads;
+        bound = b;
+        room = w;
+        small-nodes = n;
+        small-results = m;
+        few-steps = s;
+      }
+
+  pub came : {results′ : List ℕ} {x y : Came} → Runs-reader forms nodes pool results′ l x → x ≡ y → Comes-to (run-reader r l v) l results′ pool y
+  came {results′} c e = subst (Comes-to (run-reader r l v) l results′ pool) e (c .told (take top pool) r v reads)

@@ -8,7 +8,7 @@ use Rattle.definitions.specs.declared.Limits.{Limits}
 use Rattle.definitions.specs.Bytes.{Bytes}
 use Rattle.definitions.specs.Shape.{Shape, forms}
 use Rattle.definitions.specs.Operations.{slices-short}
-use Rattle.definitions.specs.WorkSlices.{for-document, for-reader-shape}
+use Rattle.definitions.specs.WorkSlices.{for-document, for-reader-shape, for-reader-document}
 use Rattle.shapes.specs.Held.{Holds-shape}
 use Rattle.join.specs.declared.Joined.{Joined}
 use Rattle.join.specs.declared.Joined.the-variants.{Grown, Full}
@@ -22,6 +22,13 @@ pub record Check-slices (reader shape : Bytes) (forms shapes results bindings po
   pub long
       : slices-short (for-reader-shape l (length reader) (length shape))
       (length forms ∷ length shapes ∷ length results ∷ length bindings ∷ length pool ∷ [])
+      ≡ false
+  pub small : Small l
+
+pub record Run-slices (reader document : Bytes) (forms nodes results bindings pool : List ℕ) (l : Limits) : Type 0 where
+  pub long
+      : slices-short (for-reader-document l (length reader) (length document))
+      (length forms ∷ length nodes ∷ length results ∷ length bindings ∷ length pool ∷ [])
       ≡ false
   pub small : Small l
 

@@ -6,9 +6,9 @@ ghost use Prim.Native.Nat.{_≤_};
 ghost use lib.ListN.{length};
 ghost use Rattle.definitions.specs.Shape.{Shape};
 ghost use Rattle.definitions.specs.Operations.{source, shape-out, finish, say, plain-judged, infer-judged, join-judged, below-judged, admits-judged};
-ghost use Rattle.definitions.specs.Operations.{check-judged};
+ghost use Rattle.definitions.specs.Operations.{check-judged, run-judged};
 ghost use Rattle.inputs.specs.Inputs.{Shape-document-slices, Two-shapes-slices};
-ghost use Rattle.perform.specs.Perform.{Document-slices, Check-slices, Grows-to, Some-grown};
+ghost use Rattle.perform.specs.Perform.{Document-slices, Check-slices, Run-slices, Grows-to, Some-grown};
 use checking::Checked;
 use definitions::Answer;
 use definitions::Format;
@@ -16,6 +16,7 @@ use definitions::Limits;
 use inputs::Texts;
 use join::Joined;
 use json::DocumentRead;
+use running::Came;
 
 // Writes a document as plain JSON.
 pub fn plain(
@@ -215,6 +216,45 @@ pub fn check(
                 deliver_grown(grown, output, results, pool, limits)
             }
             Checked::Refused { number, place } => answers::refusal(number, 1, place),
+        },
+        Texts::Refused {
+            number,
+            text,
+            place,
+        } => answers::refusal(number, text, place),
+    }
+}
+
+// Runs a reader on a document, and writes what it gives as plain JSON.
+pub fn run(
+    format: Format,
+    reader: &[u8],
+    document: &[u8],
+    output: &mut [u8],
+    forms: &mut [u64],
+    nodes: &mut [u64],
+    results: &mut [u64],
+    bindings: &mut [u64],
+    pool: &mut [u64],
+    limits: Limits,
+) -> Answer
+    requires { ⌜ Run-slices (now reader) (now document) (now forms) (now nodes) (now results) (now bindings) (now pool) limits ⌝ }
+    requires table { ⌜ length (now nodes) ≤ 65536 ⌝ }
+    requires made { ⌜ length (now results) ≤ 65536 ⌝ }
+    ensures answered { λ r. ⌜ r ≡
+        finish (now (output .entry)) (run-judged (source format) limits (now (reader .entry)) (now (document .entry))) .answer ⌝ }
+    ensures written { λ _. ⌜ now (output .exit) ≡
+        finish (now (output .entry)) (run-judged (source format) limits (now (reader .entry)) (now (document .entry))) .output ⌝ }
+{
+    match inputs::reader_document(format, reader, document, forms, nodes, pool, limits) {
+        Texts::Read {
+            first: _,
+            second: _,
+            top: _,
+        } => match running::run(forms, nodes, pool, bindings, results, limits) {
+            Came::Ran { steps } => plain::deliver(output, results, pool, steps),
+            Came::Over => answers::refusal(14, 0, 0),
+            Came::Refused { number, place } => answers::refusal(number, 1, place),
         },
         Texts::Refused {
             number,

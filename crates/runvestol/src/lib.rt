@@ -3,7 +3,7 @@
 ghost use mathlib.Core.Path.{_≡_};
 ghost use Rattle.definitions.specs.Limits.{standard};
 ghost use Rattle.definitions.specs.Json.{read-json};
-ghost use Rattle.definitions.specs.Calls.{plain-call, infer-call, join-call, below-call, admits-call, check-call};
+ghost use Rattle.definitions.specs.Calls.{plain-call, infer-call, join-call, below-call, admits-call, check-call, run-call};
 use definitions::Format;
 
 // Writes a document as plain JSON. Returns the answer's number.
@@ -123,6 +123,32 @@ pub extern "C" fn runvestol_check(
         return 1;
     }
     let done = workspace::check(slices::STANDARD, reader, shape, output);
+    answers::put_answer(answer, done);
+    done.number
+}
+
+// Runs a reader on a document, and writes what it gives as plain JSON. Returns the answer's number.
+#[no_mangle]
+pub extern "C" fn runvestol_run(
+    reader: &[u8],
+    document: &[u8],
+    output: &mut [u8],
+    answer: &mut [u8],
+) -> u64
+    ensures number { λ r. ⌜ r ≡
+        run-call read-json standard (now (reader .entry)) (now (document .entry)) (now (output .entry))
+        (now (answer .entry)) .number ⌝ }
+    ensures answered { λ _. ⌜ now (answer .exit) ≡
+        run-call read-json standard (now (reader .entry)) (now (document .entry)) (now (output .entry))
+        (now (answer .entry)) .answer ⌝ }
+    ensures written { λ _. ⌜ now (output .exit) ≡
+        run-call read-json standard (now (reader .entry)) (now (document .entry)) (now (output .entry))
+        (now (answer .entry)) .output ⌝ }
+{
+    if answer.len() < 40 {
+        return 1;
+    }
+    let done = workspace::run(Format::Json, slices::STANDARD, reader, document, output);
     answers::put_answer(answer, done);
     done.number
 }

@@ -114,7 +114,7 @@ module _ (l : Limits) (v w x y z n m : ℕ) where
       → slices-short (for-reader-document l n m) (v ∷ w ∷ x ∷ y ∷ z ∷ []) ≡ false
   long-for-reader-document e =
       let (h, g, f, i, j) =
-      long-five (reader-words l) (value-words l (l .bytes)) (result-words l) (bound-words l)
+      long-five (reader-words l) (value-words l (l .bytes)) (result-words l) (bound-words l + 1)
       (reader-texts l (l .bytes) + text-words l (l .bytes)) v w x y z e in
-      five-long (reader-words l) (value-words l m) (result-words l) (bound-words l) (reader-texts l n + text-words l m) v w x y z h
+      five-long (reader-words l) (value-words l m) (result-words l) (bound-words l + 1) (reader-texts l n + text-words l m) v w x y z h
       (omega arith) f i (le-trans (add-le-add (readers-most l n) (texts-most l m)) j)

@@ -186,7 +186,7 @@ pub fn reader_document_short(
         nodes,
         rows,
         results,
-        limits.nesting,
+        limits.nesting + 1,
         bindings,
         texts,
         pool,

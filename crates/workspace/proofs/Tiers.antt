@@ -8,10 +8,11 @@ use lib.ListN.{length}
 use Rattle.definitions.specs.declared.Limits.{Limits}
 use Rattle.definitions.specs.Bytes.{Bytes}
 use Rattle.definitions.specs.WorkSlices.{form-words, name-words, most-values, value-words, text-words, reader-words, reader-texts, bound-words}
+use Rattle.definitions.specs.WorkSlices.{result-words}
 use Rattle.slices.specs.Small.{Small}
 use Rattle.slices.specs.Long.{two-long, three-long, five-long}
 use Rattle.inputs.specs.Inputs.{Shape-document-slices, Two-shapes-slices}
-use Rattle.perform.specs.Perform.{Document-slices, Check-slices}
+use Rattle.perform.specs.Perform.{Document-slices, Check-slices, Run-slices}
 
 -- ---- what texts of at most so many bytes ask for
 
@@ -151,3 +152,30 @@ module _ (l : Limits) (small : Small l) (reader shape : Bytes) (forms shapes res
 
   pub long-check : length pool ≡ 4416 → Check-slices reader shape forms shapes results bindings pool l
   long-check i = checked i (add-le-add (readers-most l small (length reader)) (names-most l small (length shape)))
+
+-- ---- a reader and a document
+
+module _ (l : Limits) (small : Small l) (reader document : Bytes) (forms nodes results bindings pool : List ℕ)
+    (e : length forms ≡ 1536) (f : length nodes ≡ 1536) (g : length results ≡ 1536) (h : length bindings ≡ 33) where
+  ran
+      : {k : ℕ} → length pool ≡ k → reader-texts l (length reader) + text-words l (length document) ≤ k
+      → Run-slices reader document forms nodes results bindings pool l
+  ran {k} i j =
+      record {
+        long =
+            five-long (reader-words l) (value-words l (length document)) (result-words l) (bound-words l + 1)
+            (reader-texts l (length reader) + text-words l (length document)) (length forms) (length nodes) (length results) (length bindings)
+            (length pool) (omega (arith, reader-most l small 0, e)) (omega (arith, values-most l small (length document), f))
+            (omega (arith, reader-most l small 0, g)) (omega (arith, bound-most l small 0, h)) (fits i j);
+        small = small;
+      }
+    where
+      fits : {x : ℕ} → length pool ≡ k → x ≤ k → x ≤ length pool
+      fits g h = omega arith
+
+  pub short-run
+      : length pool ≡ 1471 → length reader < 1024 → length document < 4096 → Run-slices reader document forms nodes results bindings pool l
+  short-run i j k = ran i (add-le-add (readers-short l small (length reader) j) (texts-short l small (length document) k))
+
+  pub long-run : length pool ≡ 4927 → Run-slices reader document forms nodes results bindings pool l
+  long-run i = ran i (add-le-add (readers-most l small (length reader)) (texts-most l small (length document)))

@@ -4,7 +4,7 @@ ghost use mathlib.Core.Path.{_≡_};
 ghost use Prim.Native.Nat.{_<_};
 ghost use lib.ListN.{length};
 ghost use Rattle.definitions.specs.Operations.{source, finish, say, plain-judged, infer-judged, join-judged, below-judged, admits-judged};
-ghost use Rattle.definitions.specs.Operations.{check-judged};
+ghost use Rattle.definitions.specs.Operations.{check-judged, run-judged};
 ghost use Rattle.slices.specs.Small.{Small};
 use definitions::Answer;
 use definitions::Format;
@@ -344,4 +344,94 @@ pub fn check(limits: Limits, reader: &[u8], shape: &[u8], output: &mut [u8]) -> 
         }
     }
     long_check(limits, reader, shape, output)
+}
+
+// `run` on texts of at most 1,023 and 4,095 bytes.
+fn short_run(
+    format: Format,
+    limits: Limits,
+    reader: &[u8],
+    document: &[u8],
+    output: &mut [u8],
+) -> Answer
+    requires { ⌜ Small limits ⌝ }
+    requires reader { ⌜ length (now reader) < 1024 ⌝ }
+    requires document { ⌜ length (now document) < 4096 ⌝ }
+    ensures answered { λ r. ⌜ r ≡
+        finish (now (output .entry)) (run-judged (source format) limits (now (reader .entry)) (now (document .entry))) .answer ⌝ }
+    ensures written { λ _. ⌜ now (output .exit) ≡
+        finish (now (output .entry)) (run-judged (source format) limits (now (reader .entry)) (now (document .entry))) .output ⌝ }
+{
+    let mut forms = [0u64; 1536];
+    let mut nodes = [0u64; 1536];
+    let mut results = [0u64; 1536];
+    let mut bindings = [0u64; 33];
+    let mut pool = [0u64; 1471];
+    perform::run(
+        format,
+        reader,
+        document,
+        output,
+        &mut forms,
+        &mut nodes,
+        &mut results,
+        &mut bindings,
+        &mut pool,
+        limits,
+    )
+}
+
+// `run` on texts of any length.
+fn long_run(
+    format: Format,
+    limits: Limits,
+    reader: &[u8],
+    document: &[u8],
+    output: &mut [u8],
+) -> Answer
+    requires { ⌜ Small limits ⌝ }
+    ensures answered { λ r. ⌜ r ≡
+        finish (now (output .entry)) (run-judged (source format) limits (now (reader .entry)) (now (document .entry))) .answer ⌝ }
+    ensures written { λ _. ⌜ now (output .exit) ≡
+        finish (now (output .entry)) (run-judged (source format) limits (now (reader .entry)) (now (document .entry))) .output ⌝ }
+{
+    let mut forms = [0u64; 1536];
+    let mut nodes = [0u64; 1536];
+    let mut results = [0u64; 1536];
+    let mut bindings = [0u64; 33];
+    let mut pool = [0u64; 4927];
+    perform::run(
+        format,
+        reader,
+        document,
+        output,
+        &mut forms,
+        &mut nodes,
+        &mut results,
+        &mut bindings,
+        &mut pool,
+        limits,
+    )
+}
+
+// `run` with work slices of its own.
+pub fn run(
+    format: Format,
+    limits: Limits,
+    reader: &[u8],
+    document: &[u8],
+    output: &mut [u8],
+) -> Answer
+    requires { ⌜ Small limits ⌝ }
+    ensures answered { λ r. ⌜ r ≡
+        finish (now (output .entry)) (run-judged (source format) limits (now (reader .entry)) (now (document .entry))) .answer ⌝ }
+    ensures written { λ _. ⌜ now (output .exit) ≡
+        finish (now (output .entry)) (run-judged (source format) limits (now (reader .entry)) (now (document .entry))) .output ⌝ }
+{
+    if reader.len() < 1024 {
+        if document.len() < 4096 {
+            return short_run(format, limits, reader, document, output);
+        }
+    }
+    long_run(format, limits, reader, document, output)
 }

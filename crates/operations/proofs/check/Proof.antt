@@ -17,47 +17,58 @@ use Rattle.operations.proofs.check.Tie as tie
 returns : tie.Need-returns
 unfolding check-operation standard
 returns c =
-    let a = c .before .before .before .before .before .before .before .before .before .before .before .args in
+    let after-reader-shape-short = c .before .before in
+    let a = after-reader-shape-short .before .before .before .before .before .before .before .before .before .args in
     finishes-short (check-slices standard)
     (length (a .forms .now) ∷ length (a .shapes .now) ∷ length (a .results .now) ∷ length (a .bindings .now) ∷ length (a .pool .now) ∷ [])
-    (a .output .now) (check-judged standard (a .reader .now) (a .shape .now)) (sym (c .before .before .reader-shape-short .ensures) ∙ c .before .if1 .taken)
+    (a .output .now) (check-judged standard (a .reader .now) (a .shape .now))
+    (sym (after-reader-shape-short .reader-shape-short .ensures) ∙ c .before .if1 .taken)
     (c .refusal .ensures)
 
 shapes-prefix : tie.Need-slice-relend-prefix-check
 unfolding standard
 shapes-prefix c =
-    let a = c .before .before .before .before .before .before .before .before .before .before .before .before .before .args in
+    let after-reader-shape-short = c .before .before .before .before in
+    let a = after-reader-shape-short .before .before .before .before .before .before .before .before .before .args in
     enough-checked standard (standard-small refl) (a .reader .now) (a .shape .now) (a .forms .now) (a .shapes .now) (a .results .now)
-    (a .bindings .now) (a .pool .now) (sym (c .before .before .before .before .reader-shape-short .ensures) ∙ c .before .before .before .if1 .left)
+    (a .bindings .now) (a .pool .now) (sym (after-reader-shape-short .reader-shape-short .ensures) ∙ c .before .before .before .if1 .left)
 
 shapes-part : tie.Need-slice-aggregate-check
 unfolding standard
 shapes-part c =
-    let a = c .before .before .before .before .before .before .before .before .before .before .before .before .before .before .args in
+    let else1 = c .before .before .before .before in
+    let after-reader-shape-short = else1 .before in
+    let a = after-reader-shape-short .before .before .before .before .before .before .before .before .before .args in
     sym (length-take-le 1024 (a .shapes .now)
     (enough-checked standard (standard-small refl) (a .reader .now) (a .shape .now) (a .forms .now) (a .shapes .now) (a .results .now)
-    (a .bindings .now) (a .pool .now) (sym (c .before .before .before .before .before .reader-shape-short .ensures) ∙ c .before .before .before .before .if1 .left)))
+    (a .bindings .now) (a .pool .now) (sym (after-reader-shape-short .reader-shape-short .ensures) ∙ else1 .if1 .left)))
 
 results-prefix : tie.Need-slice-relend-prefix-check-2
 unfolding standard
 results-prefix c =
-    let a = c .before .before .before .before .before .before .before .before .before .before .before .before .before .before .args in
+    let else1 = c .before .before .before .before in
+    let after-reader-shape-short = else1 .before in
+    let a = after-reader-shape-short .before .before .before .before .before .before .before .before .before .args in
     enough-given standard (standard-small refl) (a .reader .now) (a .shape .now) (a .forms .now) (a .shapes .now) (a .results .now)
-    (a .bindings .now) (a .pool .now) (sym (c .before .before .before .before .before .reader-shape-short .ensures) ∙ c .before .before .before .before .if1 .left)
+    (a .bindings .now) (a .pool .now) (sym (after-reader-shape-short .reader-shape-short .ensures) ∙ else1 .if1 .left)
 
 results-part : tie.Need-slice-aggregate-check-2
 unfolding standard
 results-part c =
-    let a = c .before .before .before .before .before .before .before .before .before .before .before .before .before .before .before .args in
+    let else1 = c .before .before .before .before .before in
+    let after-reader-shape-short = else1 .before in
+    let a = after-reader-shape-short .before .before .before .before .before .before .before .before .before .args in
     sym (length-take-le 1024 (a .results .now)
     (enough-given standard (standard-small refl) (a .reader .now) (a .shape .now) (a .forms .now) (a .shapes .now) (a .results .now)
-    (a .bindings .now) (a .pool .now) (sym (c .before .before .before .before .before .before .reader-shape-short .ensures) ∙ c .before .before .before .before .before .if1 .left)))
+    (a .bindings .now) (a .pool .now) (sym (after-reader-shape-short .reader-shape-short .ensures) ∙ else1 .if1 .left)))
 
 check-requires : tie.Need-check-requires
 unfolding standard
 check-requires c κs =
-    let a = c .before .before .before .before .before .before .before .before .before .before .before .before .before .before .before .before .before .args in
-    let e = sym (c .before .before .before .before .before .before .before .before .reader-shape-short .ensures) ∙ c .before .before .before .before .before .before .before .if1 .left in
+    let else1 = c .before .before .before .before .before .before .before in
+    let after-reader-shape-short = else1 .before in
+    let a = after-reader-shape-short .before .before .before .before .before .before .before .before .before .args in
+    let e = sym (after-reader-shape-short .reader-shape-short .ensures) ∙ else1 .if1 .left in
     let h = enough-checked standard (standard-small refl) (a .reader .now) (a .shape .now) (a .forms .now) (a .shapes .now) (a .results .now)
     (a .bindings .now) (a .pool .now) e in
     let g = enough-given standard (standard-small refl) (a .reader .now) (a .shape .now) (a .forms .now) (a .shapes .now) (a .results .now)
@@ -70,11 +81,15 @@ check-requires c κs =
 returns-2 : tie.Need-returns-2
 unfolding check-operation standard
 returns-2 c =
-    let a = c .before .before .before .before .before .before .before .before .before .before .before .before .before .before .before .before .before .before .before .before .before .before .before .before .before .before .before .before .before .before .args in
+    let after-results = c .before .before .before .before .before in
+    let after-check = after-results .before .before .before .before .before .before .before in
+    let else1 = after-check .before .before .before .before .before .before .before .before in
+    let after-reader-shape-short = else1 .before in
+    let a = after-reader-shape-short .before .before .before .before .before .before .before .before .before .args in
     finishes-long (check-slices standard)
     (length (a .forms .now) ∷ length (a .shapes .now) ∷ length (a .results .now) ∷ length (a .bindings .now) ∷ length (a .pool .now) ∷ [])
-    (a .output .now) (check-judged standard (a .reader .now) (a .shape .now)) (sym (c .before .before .before .before .before .before .before .before .before .before .before .before .before .before .before .before .before .before .before .before .before .reader-shape-short .ensures) ∙ c .before .before .before .before .before .before .before .before .before .before .before .before .before .before .before .before .before .before .before .before .if1 .left)
-    (c .before .before .before .before .before .before .before .before .before .before .before .before .check .ensures)
+    (a .output .now) (check-judged standard (a .reader .now) (a .shape .now)) (sym (after-reader-shape-short .reader-shape-short .ensures) ∙ else1 .if1 .left)
+    (after-check .check .ensures)
 
 pub check-spec : {M : Type 1} → statement M
 check-spec =

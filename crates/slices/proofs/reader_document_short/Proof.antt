@@ -8,10 +8,11 @@ use Rattle.slices.proofs.reader_document_short.Tie as tie
 
 returns : tie.Need-returns
 returns c =
-    let a = c .before .before .before .before .before .args in
+    let a = c .before .before .before .before .before .before .args in
     c .five-short .ensures ∙ ap (λ ms. slices-short ms (a .forms ∷ a .nodes ∷ a .results ∷ a .bindings ∷ a .pool ∷ [])) (cc)
 
 pub reader-document-short-spec : {M : Type 1} → statement M
 reader-document-short-spec =
     tie.close
-    (tie.spec (λ c. search needs) (λ c κs. search needs) (λ c κs. search needs) (λ c. search needs) (λ c κs. search needs) (λ c κs. search needs) returns)
+    (tie.spec (λ c. search needs) (λ c κs. search needs) (λ c κs. search needs) (λ c. search needs) (λ c κs. search needs)
+    (λ c. search needs) (λ c κs. search needs) returns)
