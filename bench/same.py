@@ -1,6 +1,6 @@
 #!/usr/bin/env python3
-"""Compares what each peer made of each document with what runvestol_plain made of it: the same bytes, the same value, or
-neither. A value's numbers are compared as exact decimals, its members in their order."""
+"""Compares what each peer made of each document with what the first one, ours, made of it: the same bytes, the same value,
+or neither. A value's numbers are compared as exact decimals, its members in their order."""
 
 import decimal
 import json

@@ -1,5 +1,7 @@
 #include "call.h"
 
+#include <stdlib.h>
+
 #include "runvestol.h"
 
 /* a text as the two parameters that it is */
@@ -37,6 +39,11 @@ uint64_t call_check(const struct text *texts, struct output output, uint8_t *ans
     return runvestol_check(LEND(texts[0]), LEND(texts[1]), LEND(output), answer, RUNVESTOL_ANSWER_BYTES);
 }
 
+uint64_t call_run(const struct text *texts, struct output output, uint8_t *answer)
+{
+    return runvestol_run(LEND(texts[0]), LEND(texts[1]), LEND(output), answer, RUNVESTOL_ANSWER_BYTES);
+}
+
 static uint64_t word(const uint8_t *bytes)
 {
     uint64_t value = 0;
@@ -50,5 +57,28 @@ struct outcome make_call(library_call *call, const struct text *texts, struct ou
     uint8_t answer[RUNVESTOL_ANSWER_BYTES] = {0};
     uint64_t number = call(texts, output, answer);
     return (struct outcome){number, word(answer + RUNVESTOL_TEXT_AT), word(answer + RUNVESTOL_PLACE_AT),
-                            word(answer + RUNVESTOL_LENGTH_AT), word(answer + RUNVESTOL_YES_AT) != 0};
+                            word(answer + RUNVESTOL_LENGTH_AT), word(answer + RUNVESTOL_STEPS_AT),
+                            word(answer + RUNVESTOL_YES_AT) != 0};
+}
+
+static bool make_room(struct output *output, size_t length)
+{
+    uint8_t *bytes = realloc(output->bytes, length);
+    if (bytes == NULL)
+        return false;
+    *output = (struct output){bytes, length};
+    return true;
+}
+
+bool call_with_room(library_call *call, const struct text *texts, struct output *output, struct outcome *o)
+{
+    if (output->length < RUNVESTOL_TEXT_BYTES && !make_room(output, RUNVESTOL_TEXT_BYTES))
+        return false;
+    *o = make_call(call, texts, *output);
+    if (o->number != RUNVESTOL_OUTPUT_TOO_SHORT)
+        return true;
+    if (!make_room(output, o->length))
+        return false;
+    *o = make_call(call, texts, *output);
+    return true;
 }

@@ -150,7 +150,7 @@ static bool add_wanted(struct text *words, const struct text *reader, const stru
     for (size_t i = 0; i < sizeof wants / sizeof *wants; i++)
         if (span_is(reader, form->words[0], wants[i].form))
             return add(words, wants[i].form) && add(words, " wants ")
-                && add(words, number == RUNVESTOL_UNWANTED_KIND ? wants[i].kinds : "a name that is listed");
+                && add(words, number == RUNVESTOL_UNLISTED_NAME ? "a name that is listed" : wants[i].kinds);
     return false;
 }
 
@@ -180,4 +180,16 @@ bool reason_of_check(struct text *words, const struct text *texts, const struct 
         && make_probe(&probe, reader, forms, count, &line) && add_met(words, &probe, shape, line, o->number);
     text_free(&probe);
     return told;
+}
+
+bool reason_of_run(struct text *words, const struct text *texts, const struct outcome *o)
+{
+    struct form forms[MOST_LEVELS];
+    int count = 0;
+    if (o->number == RUNVESTOL_STEP_LIMIT)
+        return add(words, "the form would be step 65,537 on ") && add(words, texts[1].name);
+    if (o->number == RUNVESTOL_STUCK)
+        count = forms_around(&texts[0], o->place, forms);
+    return count > 0 && add_wanted(words, &texts[0], &forms[count - 1], o->number)
+        && add(words, ", and meets another kind in ") && add(words, texts[1].name);
 }

@@ -1,17 +1,13 @@
-/* Why check refuses a reader, in words for who wrote it. */
+/* Why a reader is refused, in words for who wrote it. */
 #ifndef HOST_REASON_H
 #define HOST_REASON_H
 
-#include <stdbool.h>
+#include "refusal.h"
 
-#include "call.h"
-#include "text.h"
+/* Of a reader that check refuses: what the form wants, and what it meets there where that can be told. */
+reason_of reason_of_check;
 
-/*
- * Puts into empty words what the form wants at which a reader, the first of the texts, was refused against a shape, the
- * second, and what it meets there where that can be told. False where the refusal is neither RUNVESTOL_UNWANTED_KIND nor
- * RUNVESTOL_UNLISTED_NAME, or there is no memory.
- */
-bool reason_of_check(struct text *words, const struct text *texts, const struct outcome *o);
+/* Of a reader that is stuck on a document or goes on for too long: what the form wants, and which document that is. */
+reason_of reason_of_run;
 
 #endif

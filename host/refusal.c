@@ -113,16 +113,19 @@ static void show_words(FILE *to, const struct text *words)
         show_character(to, words->bytes + at, character(words, at));
 }
 
-void refusal_show(FILE *to, const struct text *text, uint64_t number, size_t place, const struct text *words)
+void refusal_show(FILE *to, const struct text *texts, int count, const struct outcome *o, reason_of *reason)
 {
-    struct meaning meaning = meaning_of(text, number, place);
-    struct position p = position_of(text, place);
-    fprintf(to, "%s:%zu:%zu: refused %" PRIu64 " at %zu: ", text->name, p.line, p.characters + 1, number, place);
-    if (words == NULL)
-        fputs(meaning.words, to);
+    const struct text *text = &texts[o->text == 1 ? 0 : count - 1];
+    struct meaning meaning = meaning_of(text, o->number, o->place);
+    struct position p = position_of(text, o->place);
+    struct text words = {NULL, NULL, 0};
+    fprintf(to, "%s:%zu:%zu: refused %" PRIu64 " at %" PRIu64 ": ", text->name, p.line, p.characters + 1, o->number, o->place);
+    if (reason != NULL && reason(&words, texts, o))
+        show_words(to, &words);
     else
-        show_words(to, words);
+        fputs(meaning.words, to);
     putc('\n', to);
     if (meaning.has_place)
         show_excerpt(to, text, p);
+    text_free(&words);
 }

@@ -2,15 +2,22 @@
 #ifndef HOST_REFUSAL_H
 #define HOST_REFUSAL_H
 
+#include <stdbool.h>
+#include <stddef.h>
 #include <stdint.h>
 #include <stdio.h>
 
+#include "call.h"
 #include "text.h"
 
+/* Puts into empty words what is to be said of the refusal of a call on these texts; false where there is nothing to say
+   beyond what the number means, or no memory. */
+typedef bool reason_of(struct text *words, const struct text *texts, const struct outcome *o);
+
 /*
- * Writes `NAME:LINE:COLUMN: refused NUMBER at PLACE: what it means`, and the line with its caret where there is a place.
- * What it means is said in the words given, or where they are NULL in those that the number always has.
+ * Writes `NAME:LINE:COLUMN: refused NUMBER at PLACE: what it means`, and the line with its caret where there is a place, of
+ * the text that a call on so many texts refused, the last one where it is of none. Reason may be NULL.
  */
-void refusal_show(FILE *to, const struct text *text, uint64_t number, size_t place, const struct text *words);
+void refusal_show(FILE *to, const struct text *texts, int count, const struct outcome *o, reason_of *reason);
 
 #endif

@@ -6,6 +6,7 @@
 #include "call.h"
 #include "reason.h"
 #include "refusal.h"
+#include "results.h"
 #include "runvestol.h"
 #include "samples.h"
 #include "status.h"
@@ -14,39 +15,45 @@
 /* The files of a command line. */
 struct files {
     const char *from; /* of --from, or NULL */
+    bool steps;       /* whether --steps is there */
     char **names;
     int count;
 };
+
+enum option { NO_OPTION, FROM, STEPS };
 
 struct command {
     const char *name;
     const char *operands;
     const char *effect;
     int least, most; /* files, --from apart; most is 0 for any number */
-    bool has_from;
+    enum option option;
     enum status (*run)(const struct command *command, const struct files *files);
     /* of a command that is one call: that call, how its success is shown, and what says more of a refusal, or NULL */
     library_call *call;
     enum status (*show)(const struct output *output, const struct outcome *o);
-    bool (*reason)(struct text *words, const struct text *texts, const struct outcome *o);
+    reason_of *reason;
 };
 
 static enum status run_once(const struct command *command, const struct files *files);
 static enum status run_infer(const struct command *command, const struct files *files);
+static enum status run_run(const struct command *command, const struct files *files);
 static enum status show_written(const struct output *output, const struct outcome *o);
 static enum status show_verdict(const struct output *output, const struct outcome *o);
 
-#define ONE_CALL(texts, call, show) texts, texts, false, run_once, call, show, NULL
+#define ONE_CALL(texts, call, show) texts, texts, NO_OPTION, run_once, call, show, NULL
 
 static const struct command commands[] = {
     {"plain", "FILE", "write the JSON document of FILE as plain JSON", ONE_CALL(1, call_plain, show_written)},
     {"infer", "[--from SHAPE] DOCUMENT...", "write the shape that the documents reach, from (shape) or from SHAPE on",
-     1, 0, true, run_infer, NULL, NULL, NULL},
+     1, 0, FROM, run_infer, NULL, NULL, NULL},
     {"join", "A B", "write the join of the shapes of A and B", ONE_CALL(2, call_join, show_written)},
     {"below", "A B", "say whether the shape of A is below that of B", ONE_CALL(2, call_below, show_verdict)},
     {"admits", "SHAPE DOCUMENT", "say whether the shape admits the document", ONE_CALL(2, call_admits, show_verdict)},
     {"check", "READER SHAPE", "check the reader against the shape, and write its result shape",
-     2, 2, false, run_once, call_check, show_written, reason_of_check},
+     2, 2, NO_OPTION, run_once, call_check, show_written, reason_of_check},
+    {"run", "[--steps] READER DOCUMENT...", "write what the reader gives on each document",
+     2, 0, STEPS, run_run, NULL, NULL, NULL},
 };
 
 enum { COMMANDS = sizeof commands / sizeof *commands };
@@ -81,7 +88,9 @@ static void help(FILE *to)
           "1:1 at 0, without a line: of a text that is too long, and of the last file where the shape to be written is\n"
           "too large. check says what the form wants that is refused, and what it meets where that can be told.\n"
           "\n"
-          "infer leaves out the documents that are refused, and writes the shape that the others reach.\n"
+          "infer leaves out the documents that are refused, and writes the shape that the others reach. run leaves them\n"
+          "out too, and writes each result on a line of its own where there are several documents; with --steps it tells\n"
+          "on standard error how many steps each took.\n"
           "\n"
           "Status: 0 done, or yes; 1 refused, or no; 2 wrong usage, or a file that cannot be read or written.\n",
           to);
@@ -107,49 +116,17 @@ static enum status show_verdict(const struct output *output, const struct outcom
     return write_verdict(o->yes);
 }
 
-static bool make_room(struct output *output, size_t length)
-{
-    uint8_t *bytes = realloc(output->bytes, length);
-    if (bytes == NULL)
-        return false;
-    *output = (struct output){bytes, length};
-    return true;
-}
-
-/* Calls, and calls again where the output was too short, now as long as it has to be. */
-static bool call(const struct command *command, const struct text *texts, struct output *output, struct outcome *o)
-{
-    if (!make_room(output, RUNVESTOL_TEXT_BYTES))
-        return false;
-    *o = make_call(command->call, texts, *output);
-    if (o->number != RUNVESTOL_OUTPUT_TOO_SHORT)
-        return true;
-    if (!make_room(output, o->length))
-        return false;
-    *o = make_call(command->call, texts, *output);
-    return true;
-}
-
-/* A refusal that is of no text, as that of too large a join, is shown of the last one. */
-static void show_refusal(const struct command *command, const struct text *texts, int count, const struct outcome *o)
-{
-    struct text words = {NULL, NULL, 0};
-    bool told = command->reason != NULL && command->reason(&words, texts, o);
-    refusal_show(stderr, &texts[o->text == 1 ? 0 : count - 1], o->number, o->place, told ? &words : NULL);
-    text_free(&words);
-}
-
 static enum status operate(const struct command *command, const struct text *texts, int count)
 {
     struct output output = {NULL, 0};
     struct outcome o;
     enum status status = REFUSED;
-    if (!call(command, texts, &output, &o))
+    if (!call_with_room(command->call, texts, &output, &o))
         status = fail("the output");
     else if (o.number == RUNVESTOL_OK)
         status = command->show(&output, &o);
     else
-        show_refusal(command, texts, count, &o);
+        refusal_show(stderr, texts, count, &o, command->reason);
     free(output.bytes);
     return status;
 }
@@ -174,9 +151,15 @@ static enum status run_infer(const struct command *command, const struct files *
     return infer_samples(files->from, files->names, files->count);
 }
 
+static enum status run_run(const struct command *command, const struct files *files)
+{
+    (void)command;
+    return run_documents(files->names, files->count, files->steps);
+}
+
 /* ---- the words of the command line */
 
-static const char from_option[] = "--from";
+static const char *const options[] = {[FROM] = "--from", [STEPS] = "--steps"};
 
 static const struct command *command_named(const char *name)
 {
@@ -197,8 +180,10 @@ static const char *option_of(int count, char **words)
 
 static enum status run_option(const char *option)
 {
-    if (strcmp(option, from_option) == 0)
+    if (strcmp(option, options[FROM]) == 0)
         return misused("--from SHAPE stands right behind infer", NULL);
+    if (strcmp(option, options[STEPS]) == 0)
+        return misused("--steps stands right behind run", NULL);
     if (strcmp(option, "--help") == 0)
         help(stdout);
     else if (strcmp(option, "--version") == 0)
@@ -227,11 +212,19 @@ static enum status run_command(const struct command *command, const struct files
     return command->run(command, files);
 }
 
+/* The option of the command, where it stands right behind it; that of --from has a file behind it. */
+static enum option option_given(const struct command *command, int count, char **words)
+{
+    enum option option = command == NULL ? NO_OPTION : command->option;
+    int least = option == FROM ? 4 : 3;
+    return option != NO_OPTION && count >= least && strcmp(words[2], options[option]) == 0 ? option : NO_OPTION;
+}
+
 int main(int count, char **words)
 {
     const struct command *command = count < 2 ? NULL : command_named(words[1]);
-    bool has_from = command != NULL && command->has_from && count > 3 && strcmp(words[2], from_option) == 0;
-    int behind = has_from ? 3 : 1;
+    enum option given = option_given(command, count, words);
+    int behind = given == NO_OPTION ? 1 : 3;
     const char *option = option_of(count - behind, words + behind);
     if (option != NULL)
         return run_option(option);
@@ -239,7 +232,7 @@ int main(int count, char **words)
         return misused("a command is missing", NULL);
     if (command == NULL)
         return misused("unknown command", words[1]);
-    int first = has_from ? 4 : 2;
-    const struct files files = {has_from ? words[3] : NULL, words + first, count - first};
+    int first = given == FROM ? 4 : given == STEPS ? 3 : 2;
+    const struct files files = {given == FROM ? words[3] : NULL, given == STEPS, words + first, count - first};
     return run_command(command, &files);
 }

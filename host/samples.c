@@ -28,7 +28,7 @@ static enum fate join_sample(struct text *shape, const struct text *sample)
     const struct text texts[] = {*shape, *sample};
     struct outcome o = make_call(call_infer, texts, (struct output){written, sizeof written});
     if (o.number != RUNVESTOL_OK) {
-        refusal_show(stderr, o.text == 1 ? shape : sample, o.number, o.place, NULL);
+        refusal_show(stderr, texts, 2, &o, NULL);
         return o.text == 1 ? SHAPE_REFUSED : LEFT_OUT;
     }
     if (text_put(shape, written, o.length))

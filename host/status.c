@@ -18,11 +18,16 @@ enum status close_output(enum status status)
     return fclose(stdout) == 0 && written ? status : fail("standard output");
 }
 
+void put_result(const uint8_t *bytes, size_t length, bool is_line)
+{
+    bool ends = length > 0 && bytes[length - 1] == '\n';
+    if (fwrite(bytes, 1, length, stdout) == length && !ends && (is_line || isatty(STDOUT_FILENO)))
+        putchar('\n');
+}
+
 enum status write_output(const uint8_t *bytes, size_t length)
 {
-    bool is_line = length > 0 && bytes[length - 1] == '\n';
-    if (fwrite(bytes, 1, length, stdout) == length && !is_line && isatty(STDOUT_FILENO))
-        putchar('\n');
+    put_result(bytes, length, false);
     return close_output(DONE);
 }
 

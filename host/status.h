@@ -15,7 +15,10 @@ enum status fail(const char *what);
 /* Closes standard output: it is complete only then, as a full disk may show no earlier. */
 enum status close_output(enum status status);
 
-/* Writes what an operation wrote. A terminal gets a line feed behind it where it ends without one. */
+/* Puts out what an operation wrote. Where it ends without a line feed, a terminal gets one behind it, and so does a line. */
+void put_result(const uint8_t *bytes, size_t length, bool is_line);
+
+/* Writes what an operation wrote, all that there is to be written. */
 enum status write_output(const uint8_t *bytes, size_t length);
 
 /* Writes yes or no, on a line of its own. */

@@ -4,7 +4,7 @@
  * What the library does so far: it checks a JSON document and rewrites it as plain JSON (runvestol_plain); it infers
  * the shape of documents, sample by sample (runvestol_infer), joins two shapes (runvestol_join), and tells whether one
  * shape is below another (runvestol_below) and whether a shape admits a document (runvestol_admits); it checks a reader
- * against a shape (runvestol_check).
+ * against a shape (runvestol_check) and runs it over a document (runvestol_run).
  *
  * JSON is that of RFC 8259 in the UTF-8 of RFC 3629; docs/CONFORMANCE.md goes through both, section by section, and
  * docs/LIMITS.md has every limit. Stricter than the RFCs:
@@ -81,6 +81,7 @@ extern "C" {
  *   below     62,992
  *   admits    71,200
  *   check     76,800
+ *   run       76,800
  */
 #define RUNVESTOL_PLAIN_STACK_BYTES 49152
 #define RUNVESTOL_INFER_STACK_BYTES 73728
@@ -88,6 +89,7 @@ extern "C" {
 #define RUNVESTOL_BELOW_STACK_BYTES 65536
 #define RUNVESTOL_ADMITS_STACK_BYTES 73728
 #define RUNVESTOL_CHECK_STACK_BYTES 81920
+#define RUNVESTOL_RUN_STACK_BYTES 81920
 #define RUNVESTOL_STACK_BYTES 81920
 
 /*
@@ -288,6 +290,40 @@ uint64_t runvestol_check(const uint8_t *reader, size_t reader_length,
                          const uint8_t *shape, size_t shape_length,
                          uint8_t *output, size_t output_length,
                          uint8_t *answer, size_t answer_length);
+
+/*
+ * Runs a reader over a document, and writes what comes of it as plain JSON, as runvestol_plain writes. The reader needs no
+ * check before. One that passed the check against a shape is never RUNVESTOL_STUCK on a document that the shape admits, and
+ * what it writes is admitted by the result shape.
+ *
+ * A form counts one step each time that it is entered, places too. Parts run from left to right, and of when and if only the
+ * branch that is chosen. A form is stuck where it meets a value of another kind than it wants (see runvestol_check).
+ *
+ *   reader, reader_length       text 1, the reader.
+ *   document, document_length   text 2, the document.
+ *   output, output_length       where the result goes. It may be long, as a reader may keep a text hundreds of times: lend
+ *                               what you have, and where it is too short, call again with the length that the answer has.
+ *   answer, answer_length       where the answer goes, RUNVESTOL_ANSWER_BYTES or more. Bytes behind those are kept.
+ *
+ * Returns
+ *   RUNVESTOL_OK                 The first `length` bytes of the output are the result as plain JSON; the others are as
+ *                                before. steps is how many steps were taken.
+ *   RUNVESTOL_ANSWER_TOO_SHORT   The answer is not written either: this is judged before all else.
+ *   RUNVESTOL_TEXT_TOO_LONG      text is 1 or 2.
+ *   RUNVESTOL_FORM_SYNTAX, RUNVESTOL_FORM_LIMIT
+ *                                text is 1, place is where.
+ *   RUNVESTOL_JSON_SYNTAX, RUNVESTOL_NUMBER_LIMIT, RUNVESTOL_DUPLICATE_NAME, RUNVESTOL_VALUE_LIMIT
+ *                                text is 2, place is where.
+ *   RUNVESTOL_STUCK, RUNVESTOL_STEP_LIMIT
+ *                                text is 1, place is that of the form: the one that is stuck, or that would be entered by the
+ *                                65,537th step. The first that is met is given.
+ *   RUNVESTOL_RESULT_LIMIT       The result has over 512 values or 32 levels; all words are 0.
+ *   RUNVESTOL_OUTPUT_TOO_SHORT   length is what the output needs.
+ */
+uint64_t runvestol_run(const uint8_t *reader, size_t reader_length,
+                       const uint8_t *document, size_t document_length,
+                       uint8_t *output, size_t output_length,
+                       uint8_t *answer, size_t answer_length);
 
 #ifdef __cplusplus
 }

@@ -121,3 +121,38 @@ size_t longest_name(void)
 {
     return BYTES_MOST - put_written_name(0);
 }
+
+size_t put_pack(struct draft *to, size_t count, const char *part)
+{
+    size_t last = 0;
+    to->length = 0;
+    put(to, "(pack");
+    for (size_t i = 0; i < count; i++) {
+        put(to, " \"");
+        put_number(to, i, 3);
+        put(to, "\" ");
+        last = to->length;
+        put(to, part);
+    }
+    put(to, ")");
+    return last;
+}
+
+void put_packs(struct draft *to, size_t levels, const char *innermost)
+{
+    to->length = 0;
+    put_times(to, "(pack \"a\" ", levels);
+    put(to, innermost);
+    put_times(to, ")", levels);
+}
+
+size_t put_full_reader(struct draft *to)
+{
+    put_pack(to, FORMS - 2, "(yes)");
+    to->length--;
+    put(to, " \"510\" (str \"");
+    size_t text = BYTES_MOST - to->length - strlen("\"))");
+    put_times(to, "b", text);
+    put(to, "\"))");
+    return text;
+}

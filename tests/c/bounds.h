@@ -44,4 +44,13 @@ size_t put_written_name(size_t name);
 /* How long a name is in the longest shape of one name that is written. */
 size_t longest_name(void);
 
+/* A reader: a pack of so many members, whose names are the numbers from 0 on. Gives its last part's bracket. */
+size_t put_pack(struct draft *to, size_t count, const char *part);
+
+/* A reader: so many packs of one member in each other around a form. */
+void put_packs(struct draft *to, size_t levels, const char *innermost);
+
+/* A reader of as many forms and bytes as may be: a pack of (yes) and, as 510, of a text. Gives how long that text is. */
+size_t put_full_reader(struct draft *to);
+
 #endif

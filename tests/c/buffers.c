@@ -246,6 +246,7 @@ static void at_every_distance(const struct operation *operation)
         };
         EXPECT(operation->call(&loan) == RUNVESTOL_OK);
         EXPECT(answer[shift + RUNVESTOL_LENGTH_AT] == call.outcome.length);
+        EXPECT(answer[shift + RUNVESTOL_STEPS_AT] == call.outcome.steps);
         EXPECT(answer[shift + RUNVESTOL_YES_AT] == call.outcome.yes);
         EXPECT(!operation->writes || memcmp(output + shift, call.outcome.written.at, call.outcome.length) == 0);
     }

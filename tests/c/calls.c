@@ -40,6 +40,11 @@ static uint64_t call_check(const struct loan *loan)
     return runvestol_check(LEND(loan->texts[0]), LEND(loan->texts[1]), LEND(loan->output), LEND(loan->answer));
 }
 
+static uint64_t call_run(const struct loan *loan)
+{
+    return runvestol_run(LEND(loan->texts[0]), LEND(loan->texts[1]), LEND(loan->output), LEND(loan->answer));
+}
+
 const struct operation operations[] = {
     {"plain", {DOCUMENT, NO_TEXT}, true, RUNVESTOL_PLAIN_STACK_BYTES, call_plain},
     {"infer", {SHAPE, DOCUMENT}, true, RUNVESTOL_INFER_STACK_BYTES, call_infer},
@@ -47,6 +52,7 @@ const struct operation operations[] = {
     {"below", {SHAPE, SHAPE}, false, RUNVESTOL_BELOW_STACK_BYTES, call_below},
     {"admits", {SHAPE, DOCUMENT}, false, RUNVESTOL_ADMITS_STACK_BYTES, call_admits},
     {"check", {READER, SHAPE}, true, RUNVESTOL_CHECK_STACK_BYTES, call_check},
+    {"run", {READER, DOCUMENT}, true, RUNVESTOL_RUN_STACK_BYTES, call_run},
 };
 
 const size_t operation_count = sizeof operations / sizeof *operations;

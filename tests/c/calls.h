@@ -23,7 +23,7 @@ struct operation {
 extern const struct operation operations[];
 extern const size_t operation_count;
 
-/* The operation of that name, or NULL where the library has no call for it yet. */
+/* The operation of that name, or NULL where there is none. */
 const struct operation *operation_named(const char *name);
 
 /* How many texts an operation has. */

@@ -22,6 +22,7 @@ int main(int count, char **words)
     sizes_suite();
     limits_suite();
     reader_limits_suite();
+    run_limits_suite();
     stack_suite();
     for (int i = 2; i < count; i++)
         run_vectors(words[i]);

@@ -12,23 +12,6 @@ static const struct bytes nothing = BYTES("(shape)");
 
 /* ---- forms */
 
-/* A pack of so many members, whose names are the numbers from 0 on. Gives its last part's bracket. */
-static size_t put_pack(struct draft *to, size_t count, const char *part)
-{
-    size_t last = 0;
-    to->length = 0;
-    put(to, "(pack");
-    for (size_t i = 0; i < count; i++) {
-        put(to, " \"");
-        put_number(to, i, 3);
-        put(to, "\" ");
-        last = to->length;
-        put(to, part);
-    }
-    put(to, ")");
-    return last;
-}
-
 static void a_reader_of_512_forms_is_checked(void)
 {
     put_pack(&first, FORMS - 1, "(yes)");
@@ -172,14 +155,6 @@ static void a_condition_takes_no_room(void)
 
 /* ---- nesting */
 
-static void put_packs(struct draft *to, size_t levels, const char *innermost)
-{
-    to->length = 0;
-    put_times(to, "(pack \"a\" ", levels);
-    put(to, innermost);
-    put_times(to, ")", levels);
-}
-
 /* The result: records in each other around a shape, as they are written. */
 static void put_written_records(size_t levels, const char *innermost)
 {
@@ -266,11 +241,7 @@ static void a_result_of_16384_bytes_is_written_and_one_of_16385_is_too_large(voi
 /* Both texts as long as may be: many short names with a long text, one long name, and a text that is left open. */
 static void texts_of_full_length_are_checked(void)
 {
-    put_pack(&first, FORMS - 2, "(yes)");
-    first.length--;
-    put(&first, " \"510\" (str \"");
-    put_times(&first, "b", BYTES_MOST - first.length - strlen("\"))"));
-    put(&first, "\"))");
+    put_full_reader(&first);
     put_long_name(&second, "(shape rec(member\"", 16356, "\"(shape)))");
     EXPECT(first.length == BYTES_MOST && second.length == BYTES_MOST);
     put_written_members(FORMS - 1, "(shape bool)");

@@ -120,6 +120,70 @@ static const struct table_case cases[] = {
     {"check_refuses_a_reader_for_a_shape", "check", {"(yes)", "(yes)"}, REFUSES(FORM_SYNTAX, 2, 1)},
     {"check_refuses_a_broken_reader_before_a_broken_shape", "check", {"(int)", "(shape dec)"}, REFUSES(FORM_SYNTAX, 1, 4)},
     {"check_refuses_a_broken_shape_before_a_kind_that_is_not_wanted", "check", {"(int (it 0))", "(shape text"}, REFUSES(FORM_SYNTAX, 2, 11)},
+
+    /* run: the sample sheet */
+    {"run_gives_S2_in_16_steps", "run",
+     {"(each (it 0) (when null (field \"bay\" (it 0)) (num 0) (dec (it 0))))", "[{\"bay\":4,\"due\":null},{\"bay\":4.5},{\"due\":\"jan\"}]"},
+     GIVES("[4,4.5,0]", 16)},
+    {"run_gives_S7_in_3_steps", "run", {"(int (field \"bay\" (it 0)))", "{\"bay\":4}"}, GIVES("4", 3)},
+    {"run_is_stuck_on_S7_where_the_member_is_missing", "run", {"(int (field \"bay\" (it 0)))", "{}"}, REFUSES(STUCK, 1, 0)},
+    {"run_counts_null_as_in_S8", "run", {"(count (it 0))", "null"}, GIVES("0", 2)},
+
+    /* run: places */
+    {"run_reads_a_member", "run", {"(keep (field \"\\u0061\" (it 0)))", "{\"b\":1,\"a\":[2]}"}, GIVES("[2]", 3)},
+    {"run_reads_a_missing_member_as_null", "run", {"(keep (field \"c\" (it 0)))", "{\"b\":1,\"a\":[2]}"}, GIVES("null", 3)},
+    {"run_is_stuck_at_field_of_no_record", "run", {"(keep (field \"a\" (it 0)))", "[]"}, REFUSES(STUCK, 1, 6)},
+    {"run_is_stuck_at_field_of_a_missing_member", "run", {"(keep (field \"b\" (field \"a\" (it 0))))", "{}"}, REFUSES(STUCK, 1, 6)},
+    {"run_goes_outward_by_it", "run",
+     {"(each (it 0) (each (it 0) (pack \"0\" (keep (it 0)) \"1\" (keep (it 1)) \"2\" (count (it 2)))))", "[[1,\"x\"],[]]"},
+     GIVES("[[{\"0\":1,\"1\":[1,\"x\"],\"2\":2},{\"0\":\"x\",\"1\":[1,\"x\"],\"2\":2}],[]]", 20)},
+
+    /* run: conversions */
+    {"run_keeps_the_digits_of_a_decimal", "run", {"(dec (it 0))", "4.50"}, GIVES("4.50", 2)},
+    {"run_gives_an_int_by_dec", "run", {"(dec (it 0))", "-0"}, GIVES("0", 2)},
+    {"run_is_stuck_at_int_of_a_decimal", "run", {"(int (it 0))", "4.0"}, REFUSES(STUCK, 1, 0)},
+    {"run_gives_bools_and_texts", "run", {"(pack \"a\" (bool (field \"b\" (it 0))) \"t\" (text (field \"t\" (it 0))))", "{\"t\":\"\\u0041\",\"b\":false}"},
+     GIVES("{\"a\":false,\"t\":\"A\"}", 7)},
+    {"run_is_stuck_at_text_of_null", "run", {"(text (it 0))", "null"}, REFUSES(STUCK, 1, 0)},
+    {"run_keeps_whatever_it_is", "run", {"(keep (it 0))", "{\"b\":[1.0,{\"\":null}],\"a\":\"\\/\"}"}, GIVES("{\"b\":[1.0,{\"\":null}],\"a\":\"/\"}", 2)},
+
+    /* run: count and each */
+    {"run_counts_elements", "run", {"(count (it 0))", "[[1,2],3,[]]"}, GIVES("3", 2)},
+    {"run_is_stuck_at_count_of_a_record", "run", {" (count (it 0))", "{}"}, REFUSES(STUCK, 1, 1)},
+    {"run_gives_the_empty_list_by_each_of_null", "run", {"(each (it 0) (int (it 0)))", "null"}, GIVES("[]", 2)},
+    {"run_is_stuck_at_each_before_any_part", "run", {"(each (it 0) (yes))", "4"}, REFUSES(STUCK, 1, 0)},
+    {"run_is_stuck_at_the_element_that_is_not_wanted", "run", {"(each (it 0) (int (it 0)))", "[1,2,\"3\"]"}, REFUSES(STUCK, 1, 13)},
+
+    /* run: when and if */
+    {"run_takes_a_whole_number_for_int", "run", {"(when int (it 0) (yes) (no))", "4"}, GIVES("true", 3)},
+    {"run_takes_no_decimal_for_int", "run", {"(when int (it 0) (yes) (no))", "4.0"}, GIVES("false", 3)},
+    {"run_takes_both_for_num", "run", {"(each (it 0) (when num (it 0) (yes) (no)))", "[4,4.0,\"4\"]"}, GIVES("[true,true,false]", 11)},
+    {"run_tells_every_kind", "run",
+     {"(each (it 0) (when null (it 0) (num 0) (when bool (it 0) (num 1) (when text (it 0) (num 2) (when list (it 0) (num 3)"
+      " (when rec (it 0) (num 4) (num 5)))))))", "[null,true,\"\",[],{},7]"},
+     GIVES("[0,1,2,3,4,5]", 48)},
+    {"run_binds_the_value_in_the_branch_that_it_takes", "run", {"(when text (field \"a\" (it 0)) (keep (it 0)) (keep (it 1)))", "{\"a\":1}"},
+     GIVES("{\"a\":1}", 5)},
+    {"run_enters_no_branch_but_the_chosen_one", "run", {"(when null (it 0) (none) (int (field \"a\" (it 0))))", "null"}, GIVES("null", 3)},
+    {"run_takes_the_second_on_true", "run", {"(if (bool (it 0)) (num 1) (int (it 0)))", "true"}, GIVES("1", 4)},
+    {"run_takes_the_third_on_false", "run", {"(if (bool (it 0)) (int (it 0)) (num 2))", "false"}, GIVES("2", 4)},
+    {"run_is_stuck_at_if_right_behind_its_condition", "run", {"(if (keep (it 0)) (int (it 0)) (no))", "null"}, REFUSES(STUCK, 1, 0)},
+    {"run_is_stuck_in_a_condition", "run", {"(if (bool (it 0)) (yes) (no))", "null"}, REFUSES(STUCK, 1, 4)},
+
+    /* run: literals and pack */
+    {"run_gives_literals_as_plain_json", "run",
+     {"(pack \"\\n\" (num -0) \"b\" (num -4.50) \"a\" (str \"\\u00e9\\\"\") \"y\" (yes) \"n\" (no) \"x\" (none))", "0"},
+     GIVES("{\"\\n\":0,\"b\":-4.50,\"a\":\"\xC3\xA9\\\"\",\"y\":true,\"n\":false,\"x\":null}", 7)},
+    {"run_packs_in_the_order_of_the_reader", "run", {"(pack \"b\" (yes) \"a\" (pack) \"c\" (no))", "0"}, GIVES("{\"b\":true,\"a\":{},\"c\":false}", 4)},
+    {"run_names_what_it_keeps_anew", "run",
+     {"(pack \"x\" (keep (field \"a\" (it 0))))", "{\"a\":{\"a\":[{\"a\":1}]}}"}, GIVES("{\"x\":{\"a\":[{\"a\":1}]}}", 4)},
+
+    /* run: texts */
+    {"run_refuses_a_broken_reader_before_a_broken_document", "run", {"(int)", "[1,]"}, REFUSES(FORM_SYNTAX, 1, 4)},
+    {"run_refuses_a_broken_document_in_the_second_text", "run", {"(yes)", "[1,]"}, REFUSES(JSON_SYNTAX, 2, 3)},
+    {"run_refuses_an_exponent", "run", {"(yes)", "[1e5]"}, REFUSES(NUMBER_LIMIT, 2, 1)},
+    {"run_refuses_a_second_name", "run", {"(yes)", "{\"a\":1,\"\\u0061\":2}"}, REFUSES(DUPLICATE_NAME, 2, 7)},
+    {"run_refuses_a_broken_document_before_it_is_stuck", "run", {"(int (it 0))", "[] ]"}, REFUSES(JSON_SYNTAX, 2, 3)},
 };
 
 static void a_zero_byte_is_a_word_of_no_reader(void)
@@ -127,6 +191,7 @@ static void a_zero_byte_is_a_word_of_no_reader(void)
     const struct bytes texts[] = {BYTES("(yes\0)"), BYTES("(shape)")};
     const struct outcome expected = {.number = RUNVESTOL_FORM_SYNTAX, .text = 1, .place = 1};
     expect_of_texts(operation_named("check"), texts, 9, &expected);
+    expect_of_texts(operation_named("run"), texts, 9, &expected);
 }
 
 void readers_suite(void)

@@ -17,6 +17,8 @@ static const struct right_call calls[] = {
     {"admits", {BYTES("(shape list (shape int dec))"), BYTES("[4, 4.5]")}, SAYS_YES},
     {"check", {BYTES("(each (it 0) (dec (it 0)))"), BYTES("(shape null list (shape int))")},
      WRITES("(shape list\n (shape int dec))\n")},
+    {"run", {BYTES("(each (it 0) (when null (it 0) (num 0) (dec (it 0))))"), BYTES("[4, 4.50, null]")},
+     {.length = 10, .steps = 13, .written = BYTES("[4,4.50,0]")}},
 };
 
 const struct right_call *right_call_of(const struct operation *operation)

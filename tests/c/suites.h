@@ -10,6 +10,7 @@ void buffers_suite(void);
 void sizes_suite(void);
 void limits_suite(void);
 void reader_limits_suite(void);
+void run_limits_suite(void);
 void stack_suite(void);
 
 #endif

@@ -5,7 +5,7 @@
 static void run_table_case(const struct table_case *c)
 {
     const struct bytes texts[] = {bytes_of(c->texts[0]), bytes_of(c->texts[1])};
-    struct outcome expected = {.number = c->number, .text = c->text, .place = c->place, .yes = c->yes};
+    struct outcome expected = {.number = c->number, .text = c->text, .place = c->place, .steps = c->steps, .yes = c->yes};
     if (c->written != NULL) {
         expected.written = bytes_of(c->written);
         expected.length = expected.written.length;

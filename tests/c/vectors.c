@@ -15,7 +15,7 @@
 enum { OPERATION, TEXT_1, TEXT_2, OUTPUT, NUMBER, TEXT, PLACE, LENGTH, STEPS, YES, WRITTEN, COLUMNS };
 
 struct counts {
-    int run, without_call, with_limits;
+    int run, with_limits;
 };
 
 /* Cuts a line into its columns; gives how many there are. */
@@ -97,14 +97,13 @@ static void run_line(const char *place, char *line, struct counts *counts)
     char *columns[COLUMNS + 1];
     int count = cut(line, columns, COLUMNS + 1);
     const struct operation *operation = operation_named(columns[OPERATION]);
+    bool is_call = count == COLUMNS && operation != NULL;
     if (count > COLUMNS) {
         counts->with_limits++;
-    } else if (operation == NULL) {
-        counts->without_call++;
     } else {
         case_begin(place);
-        EXPECT(count == COLUMNS);
-        if (count == COLUMNS)
+        EXPECT(is_call);
+        if (is_call)
             run_row(operation, columns);
         case_end();
         counts->run++;
@@ -126,14 +125,13 @@ static void run_lines(const char *path, FILE *file, struct counts *counts)
 
 void run_vectors(const char *path)
 {
-    struct counts counts = {0, 0, 0};
+    struct counts counts = {0, 0};
     FILE *file = fopen(path, "r");
     if (file != NULL) {
         run_lines(path, file, &counts);
         fclose(file);
     }
-    printf("%s: %d rows run; left out: %d of operations without a call, %d with limits of their own\n", path,
-           counts.run, counts.without_call, counts.with_limits);
+    printf("%s: %d rows run; left out: %d with limits of their own\n", path, counts.run, counts.with_limits);
     if (counts.run == 0) {
         case_begin(path);
         EXPECT(!"no row was run");

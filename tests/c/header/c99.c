@@ -18,14 +18,16 @@ static int shapes_are_known(void)
         && answer[RUNVESTOL_YES_AT] == 0;
 }
 
-/* A reader that keeps what it is given has the shape that it is checked against. */
+/* A reader that keeps what it is given has the shape that it is checked against, and gives that back. */
 static int readers_are_known(void)
 {
     static const uint8_t reader[] = "(keep (it 0))", shape[] = "(shape null)";
     const size_t length = sizeof reader - 1, shape_length = sizeof shape - 1;
     uint8_t output[20], answer[RUNVESTOL_ANSWER_BYTES];
     return runvestol_check(reader, length, shape, shape_length, output, sizeof output, answer, sizeof answer) == RUNVESTOL_OK
-        && answer[RUNVESTOL_LENGTH_AT] == sizeof "(shape null)\n" - 1;
+        && answer[RUNVESTOL_LENGTH_AT] == sizeof "(shape null)\n" - 1
+        && runvestol_run(reader, length, (const uint8_t *)"null", 4, output, sizeof output, answer, sizeof answer) == RUNVESTOL_OK
+        && answer[RUNVESTOL_LENGTH_AT] == 4 && answer[RUNVESTOL_STEPS_AT] == 2;
 }
 
 int main(void)

@@ -12,6 +12,7 @@ int main()
         && runvestol_join(shape, length, shape, length, 0, 0, answer, sizeof answer) == short_output
         && runvestol_below(shape, length, shape, length, answer, sizeof answer) == RUNVESTOL_OK
         && runvestol_admits(shape, length, document, 1, answer, sizeof answer) == RUNVESTOL_OK
-        && runvestol_check(reader, sizeof reader, shape, length, 0, 0, answer, sizeof answer) == short_output;
+        && runvestol_check(reader, sizeof reader, shape, length, 0, 0, answer, sizeof answer) == short_output
+        && runvestol_run(reader, sizeof reader, document, 1, 0, 0, answer, sizeof answer) == short_output;
     return known && number == RUNVESTOL_OK && output[0] == '7' ? 0 : 1;
 }

@@ -35,7 +35,7 @@ pub struct Known {
     call: Call,
 }
 
-pub const OPERATIONS: [Known; 6] = [
+pub const OPERATIONS: [Known; 7] = [
     Known {
         operation: Operation::Plain,
         calls: 200_000,
@@ -71,6 +71,12 @@ pub const OPERATIONS: [Known; 6] = [
         calls: 120_000,
         numbers: &[0, 1, 2, 7, 8, 9, 10, 11, 15],
         call: Call::Writes(runvestol_check),
+    },
+    Known {
+        operation: Operation::Run,
+        calls: 120_000,
+        numbers: &[0, 1, 2, 3, 4, 5, 6, 7, 8, 12, 13, 14, 15],
+        call: Call::Writes(runvestol_run),
     },
 ];
 

@@ -4,6 +4,7 @@
 mod buffer;
 mod case;
 mod chain;
+mod demand;
 mod library;
 mod report;
 mod wrong;
@@ -26,6 +27,10 @@ const SELDOM: u64 = 100;
 const RARE: u64 = 10;
 /// How many rows of samples are chained.
 const CHAINS: u64 = 4_000;
+/// How many rows of samples demand 3 is tried with, and the fewest runs of
+/// readers that passed which that has to come to.
+const TRIALS: u64 = 2_000;
+const RUNS: usize = 20_000;
 
 /// Which calls to make.
 struct Plan {
@@ -72,6 +77,7 @@ fn main() -> ExitCode {
         compare(&plan, known, &mut verdict);
     }
     chains(&plan, &mut verdict);
+    demand_3(&plan, &mut verdict);
     println!("{} passed, {} failed", verdict.passed, verdict.failed);
     ExitCode::from(u8::from(verdict.failed > 0))
 }
@@ -212,4 +218,59 @@ fn chains(plan: &Plan, verdict: &mut Verdict) {
         tally.orders,
         start.elapsed().as_secs_f64()
     );
+}
+
+/// Tries demand 3 through the library's calls. Callees that are wrong have to
+/// be found first.
+fn demand_3(plan: &Plan, verdict: &mut Verdict) {
+    let start = Instant::now();
+    let mut ignored = demand::Tally::default();
+    for wrong in [
+        wrong::FORGETFUL,
+        wrong::PASSES_EVERY_READER,
+        wrong::RUNS_TO_NULL,
+    ] {
+        let mut indices = 0..200;
+        verdict.count(
+            indices.any(|index| demand::trial(wrong, plan.seed, index, &mut ignored).is_err()),
+        );
+    }
+    let count = plan.count.unwrap_or(TRIALS).min(TRIALS);
+    let mut tally = demand::Tally::default();
+    for index in plan.first..plan.first + count {
+        let tried = demand::trial(library::call, plan.seed, index, &mut tally);
+        verdict.count(tried.is_ok());
+        if let Err(why) = tried {
+            println!(
+                "demand 3: {why}; again: tests/compare/run {} 1 {index}",
+                plan.seed
+            );
+        }
+    }
+    let seconds = start.elapsed().as_secs_f64();
+    println!("demand 3: {count} rows of samples, {seconds:.1} s");
+    show_demand_3(&tally, count == TRIALS, verdict);
+}
+
+/// Prints what came of demand 3. All trials have to come to many runs, and to
+/// every number that a run may have.
+fn show_demand_3(tally: &demand::Tally, all: bool, verdict: &mut Verdict) {
+    println!(
+        "demand 3: {} samples accepted, {} refused; {} readers passed, {} not",
+        tally.accepted, tally.refused, tally.passed, tally.not_passed,
+    );
+    println!(
+        "demand 3: {} runs of readers that passed; {} documents not admitted",
+        tally.run(),
+        tally.not_admitted
+    );
+    for number in [0, 1, 13, 14, 15] {
+        println!("demand 3 {number:2}: {}", tally.runs[number]);
+        if all {
+            verdict.count(tally.runs[number] > 0);
+        }
+    }
+    if all {
+        verdict.count(tally.run() >= RUNS);
+    }
 }

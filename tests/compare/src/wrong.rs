@@ -6,6 +6,8 @@ use oracle::check::check;
 use oracle::json;
 use oracle::limits::Limits;
 use oracle::operations::{outcome, Answer, Operation, Texts};
+use oracle::plain;
+use oracle::run::{fits, run};
 use oracle::shape::{admits, below, Kinds, Shape};
 use oracle::text_forms::{read_reader, read_shape, write_shape, Body, Case, Form};
 use oracle::value::Value;
@@ -13,15 +15,28 @@ use std::rc::Rc;
 
 /// An infer that leaves each sample's own shape, so that a chain comes to the
 /// last one's.
-pub const FORGETFUL: Callee = |o, lent| {
-    instead(o, lent, |lent| {
+pub const FORGETFUL: Callee = |o, mut lent| match right(o, &mut lent) {
+    0 if o == Operation::Infer => {
         lent.first = b"(shape)";
-        right(Operation::Infer, lent)
-    })
+        right(o, &mut lent)
+    }
+    number => number,
+};
+
+/// A check that passes every reader, with the shape of nothing.
+pub const PASSES_EVERY_READER: Callee = |o, mut lent| match right(o, &mut lent) {
+    9 | 10 if o == Operation::Check => again(&mut lent, Operation::Join, b"(shape)", b"(shape)"),
+    number => number,
+};
+
+/// A run that writes null whatever the reader is.
+pub const RUNS_TO_NULL: Callee = |o, mut lent| match right(o, &mut lent) {
+    0 if o == Operation::Run => again(&mut lent, Operation::Plain, b"null", b""),
+    number => number,
 };
 
 /// What is wrong with a callee, of which operation, and the callee.
-pub const WRONG: [(&str, Operation, Callee); 38] = [
+pub const WRONG: [(&str, Operation, Callee); 48] = [
     (
         "a byte of the output is changed on a refusal",
         Operation::Plain,
@@ -285,10 +300,7 @@ pub const WRONG: [(&str, Operation, Callee); 38] = [
         },
     ),
     ("check passes no reader", Operation::Check, |o, lent| {
-        instead(o, lent, |lent| {
-            lent.answer[..ANSWER].copy_from_slice(&words(&refused(9, 0)));
-            9
-        })
+        instead(o, lent, |lent| answer(lent, &refused(9, 0)))
     }),
     (
         "check passes every reader",
@@ -367,6 +379,74 @@ pub const WRONG: [(&str, Operation, Callee); 38] = [
             number
         },
     ),
+    ("run writes null always", Operation::Run, RUNS_TO_NULL),
+    ("run invents a step", Operation::Run, |o, mut lent| {
+        let number = right(o, &mut lent);
+        if number == 0 {
+            flip(lent.answer.get_mut(24));
+        }
+        number
+    }),
+    (
+        "a refused run tells its steps",
+        Operation::Run,
+        |o, mut lent| {
+            let number = right(o, &mut lent);
+            if number > 1 {
+                flip(lent.answer.get_mut(24));
+            }
+            number
+        },
+    ),
+    ("13 comes one step early", Operation::Run, |o, lent| {
+        instead(o, lent, |lent| match word(lent, 24) == 65_536 {
+            true => 13,
+            false => 0,
+        })
+    }),
+    ("14 comes one value early", Operation::Run, |_, lent| {
+        run_otherwise(lent, |body| body, 511)
+    }),
+    ("14 comes one value late", Operation::Run, |_, lent| {
+        run_otherwise(lent, |body| body, 513)
+    }),
+    ("14 is 15", Operation::Run, |o, mut lent| {
+        match right(o, &mut lent) {
+            14 => 15,
+            number => number,
+        }
+    }),
+    ("when int takes a decimal", Operation::Run, |_, lent| {
+        run_otherwise(
+            lent,
+            |body| match body {
+                Body::When(Case::Int, at, a, b) => Body::When(Case::Num, at, a, b),
+                other => other,
+            },
+            Limits::PAPER.values,
+        )
+    }),
+    ("if takes its second on false", Operation::Run, |_, lent| {
+        run_otherwise(
+            lent,
+            |body| match body {
+                Body::If(condition, a, b) => Body::If(condition, b, a),
+                other => other,
+            },
+            Limits::PAPER.values,
+        )
+    }),
+    (
+        "a stuck run has another place",
+        Operation::Run,
+        |o, mut lent| {
+            let number = right(o, &mut lent);
+            if number == 12 {
+                flip(lent.answer.get_mut(8));
+            }
+            number
+        },
+    ),
 ];
 
 /// The right call, and where that is done, another in its place.
@@ -388,35 +468,85 @@ fn one_form_early(lent: &mut Lent) -> u64 {
 
 /// A check in which every form of the reader is changed.
 fn check_otherwise(mut lent: Lent, change: fn(Body) -> Body) -> u64 {
-    let reader = read_reader(lent.first, &Limits::PAPER);
     let shape = read_shape(lent.second, &Limits::PAPER);
-    let (Ok(reader), Ok(shape)) = (reader, shape) else {
+    let (Some(reader), Ok(shape)) = (changed_reader(&lent, change), shape) else {
         return right(Operation::Check, &mut lent);
     };
-    let longest = lent.first.len().max(lent.second.len());
-    if lent.answer.len() < ANSWER || longest > Limits::PAPER.text_bytes {
-        return right(Operation::Check, &mut lent);
+    let checked = check(&reader, shape).map_err(|refusal| refused(refusal.number, refusal.place));
+    let written = checked.and_then(|shape| {
+        write_shape(&shape, &Limits::PAPER).ok_or(Answer {
+            number: 11,
+            ..Answer::default()
+        })
+    });
+    match written {
+        Ok(text) => again(&mut lent, Operation::Join, &text, b"(shape)"),
+        Err(refusal) => answer(&mut lent, &refusal),
     }
-    let refusal = match check(&in_every_form(reader, change), shape) {
-        Ok(shape) => match write_shape(&shape, &Limits::PAPER) {
-            Some(text) => return again(&mut lent, Operation::Join, &text, b"(shape)"),
-            None => Answer {
-                number: 11,
+}
+
+/// A run in which every form of the reader is changed, and results have
+/// another number of values.
+fn run_otherwise(mut lent: Lent, change: fn(Body) -> Body, values: usize) -> u64 {
+    let document = json::read(lent.second, &Limits::PAPER);
+    let (Some(reader), Ok(document)) = (changed_reader(&lent, change), document) else {
+        return right(Operation::Run, &mut lent);
+    };
+    let limits = Limits {
+        values,
+        ..Limits::PAPER
+    };
+    match run(&reader, document, &limits) {
+        Ok((value, _)) if !fits(&value, &limits) => answer(
+            &mut lent,
+            &Answer {
+                number: 14,
                 ..Answer::default()
             },
-        },
-        Err(refusal) => refused(refusal.number, refusal.place as u64),
+        ),
+        Ok((value, steps)) => give(&mut lent, &plain::document(&value), steps),
+        Err(refusal) => answer(&mut lent, &refused(refusal.number, refusal.place)),
+    }
+}
+
+/// Writes what a run gives, where there is room for it.
+fn give(lent: &mut Lent, text: &[u8], steps: u64) -> u64 {
+    let fits = text.len() <= lent.output.len();
+    if fits {
+        lent.output[..text.len()].copy_from_slice(text);
+    }
+    let given = Answer {
+        number: if fits { 0 } else { 15 },
+        length: text.len() as u64,
+        steps: if fits { steps } else { 0 },
+        ..Answer::default()
     };
-    lent.answer[..ANSWER].copy_from_slice(&words(&refusal));
-    u64::from(refusal.number)
+    answer(lent, &given)
+}
+
+/// The reader with every form of it changed, where it and the buffers are such
+/// that it is looked at.
+fn changed_reader(lent: &Lent, change: fn(Body) -> Body) -> Option<Form> {
+    let longest = lent.first.len().max(lent.second.len());
+    if lent.answer.len() < ANSWER || longest > Limits::PAPER.text_bytes {
+        return None;
+    }
+    let reader = read_reader(lent.first, &Limits::PAPER).ok()?;
+    Some(in_every_form(reader, change))
+}
+
+/// Puts an answer into its buffer, and gives its number.
+fn answer(lent: &mut Lent, answer: &Answer) -> u64 {
+    lent.answer[..ANSWER].copy_from_slice(&words(answer));
+    u64::from(answer.number)
 }
 
 /// The answer of a refusal in the reader.
-fn refused(number: u8, place: u64) -> Answer {
+fn refused(number: u8, place: usize) -> Answer {
     Answer {
         number,
         text: 1,
-        place,
+        place: place as u64,
         ..Answer::default()
     }
 }
@@ -599,10 +729,13 @@ fn flip(byte: Option<&mut u8>) {
 
 /// The length that the answer has; 0 where there is none.
 fn length(lent: &Lent) -> usize {
-    let word = lent
-        .answer
-        .get(16..24)
-        .and_then(|word| word.try_into().ok());
+    word(lent, 16)
+}
+
+/// The answer's word at a place; 0 where there is none.
+fn word(lent: &Lent, at: usize) -> usize {
+    let word = lent.answer.get(at..at + 8);
+    let word = word.and_then(|word| word.try_into().ok());
     word.map_or(0, |word| u64::from_le_bytes(word) as usize)
 }
 

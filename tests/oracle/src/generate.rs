@@ -62,6 +62,28 @@ pub fn samples(seed: u64, index: u64, limits: &Limits) -> Vec<Vec<u8>> {
     Source::at(seed, index, limits).row_of_samples()
 }
 
+/// Readers that mostly pass against a shape, and documents that it mostly
+/// admits.
+pub struct Trial {
+    pub readers: Vec<Vec<u8>>,
+    pub documents: Vec<Vec<u8>>,
+}
+
+/// The trial of a shape at an index of a seed.
+pub fn trial(seed: u64, index: u64, shape: &Shape, limits: &Limits) -> Trial {
+    let mut source = Source::at(seed, index, limits);
+    let mut readers = vec![source.reader_on(shape), source.large_reader_on(shape)];
+    let mut documents = vec![source.any_document()];
+    for _ in 0..3 {
+        readers.push(source.passing_reader_on(shape));
+        let witness = source.witness(shape).unwrap_or(Value::Null);
+        let relative = source.relative(&witness);
+        documents.push(source.spell_document(&witness));
+        documents.push(source.spell_document(&relative));
+    }
+    Trial { readers, documents }
+}
+
 /// Each first text with each second one.
 fn pairs(firsts: Vec<Vec<u8>>, seconds: Vec<Vec<u8>>) -> Vec<(Vec<u8>, Vec<u8>)> {
     let with_seconds = |first: &Vec<u8>| {
@@ -238,7 +260,10 @@ impl Source {
             0..=14 => (self.any_reader(), self.right_document()),
             15..=33 => self.reader_and_any_document(),
             34..=41 => self.past_result(),
-            42..=44 => self.past_steps(),
+            42..=46 => self.past_steps(),
+            47..=48 => self.large_reader_and_document(),
+            49 => self.long_result(),
+            50..=54 => self.reader_and_document_at_a_limit(),
             _ => {
                 let sample = self.value();
                 let shape = self.shape_like(&sample);
@@ -246,6 +271,33 @@ impl Source {
                 (reader, self.spell_document(&sample))
             }
         }
+    }
+
+    /// Hundreds of forms, on a few values or on hundreds.
+    fn large_reader_and_document(&mut self) -> (Vec<u8>, Vec<u8>) {
+        let shape = match self.random.once_in(2) {
+            true => self.merging_shape(),
+            false => self.shape(),
+        };
+        let document = self.witness(&shape).unwrap_or(Value::Null);
+        (self.large_reader_on(&shape), self.spell_document(&document))
+    }
+
+    /// A right reader, and a document at a limit of its own.
+    fn reader_and_document_at_a_limit(&mut self) -> (Vec<u8>, Vec<u8>) {
+        let reader = self.right_reader();
+        let document = match self.random.below(5) {
+            0 => self.deep_document(),
+            1 => self.many_values(),
+            2 => {
+                let mut document = self.right_document();
+                let length = self.border_length();
+                self.pad(&mut document, length);
+                document
+            }
+            _ => self.number_document(),
+        };
+        (reader, document)
     }
 
     /// A reader that fits the document wherever the document can be read.

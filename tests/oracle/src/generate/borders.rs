@@ -218,6 +218,21 @@ impl Source {
         }
     }
 
+    /// A long text many times over: mostly some thousands of bytes, at times
+    /// millions.
+    pub fn long_result(&mut self) -> (Vec<u8>, Vec<u8>) {
+        let copies = self.random.below(self.limits.values - 1);
+        let most = match self.random.once_in(10) {
+            true => self.limits.text_bytes.saturating_sub(2 * copies + 16),
+            false => 200,
+        };
+        let text = "t".repeat(self.random.below(most + 1));
+        let ones = vec!["1"; copies].join(",");
+        let document = format!("{{\"t\":\"{text}\",\"l\":[{ones}]}}");
+        let reader = b"(each (field \"l\" (it 0)) (text (field \"t\" (it 1))))".to_vec();
+        (reader, document.into_bytes())
+    }
+
     /// A reader and a document that take about as many steps as may be.
     pub fn past_steps(&mut self) -> (Vec<u8>, Vec<u8>) {
         let target = self.random.near(self.limits.steps as usize, 2);

@@ -128,7 +128,7 @@ impl Source {
             2 => self.many_forms_reader(),
             3 => self.token_text(&READER_TOKENS, &["("]),
             4..=7 => {
-                let mut tokens = self.reader_tokens(&shape);
+                let mut tokens = self.reader_tokens(&shape, false);
                 self.damage_tokens(&mut tokens, &READER_TOKENS);
                 self.spell_tokens(&tokens)
             }
@@ -226,7 +226,12 @@ impl Source {
     }
 
     pub fn reader_on(&mut self, shape: &Shape) -> Vec<u8> {
-        let tokens = self.reader_tokens(shape);
+        let tokens = self.reader_tokens(shape, false);
+        self.spell_tokens(&tokens)
+    }
+
+    pub fn passing_reader_on(&mut self, shape: &Shape) -> Vec<u8> {
+        let tokens = self.reader_tokens(shape, true);
         self.spell_tokens(&tokens)
     }
 }

@@ -20,8 +20,9 @@ struct Around {
 }
 
 impl Source {
-    pub fn reader_tokens(&mut self, shape: &Shape) -> Tokens {
-        let mut around = self.around(shape, false);
+    /// A reader that fits a shape; a careful one passes against it.
+    pub fn reader_tokens(&mut self, shape: &Shape, careful: bool) -> Tokens {
+        let mut around = self.around(shape, careful);
         let mut tokens = Tokens::new();
         self.push_form(&mut around, &mut tokens);
         tokens
