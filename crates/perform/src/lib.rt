@@ -205,8 +205,14 @@ pub fn check(
             top: _,
         } => match checking::check(forms, shapes, pool, bindings) {
             Checked::Kinds { kinds: _ } => {
-                let grown =
-                    result_shape::result(forms, shapes, pool, bindings, results, limits.nesting);
+                let grown = result_shape::result(
+                    forms,
+                    shapes,
+                    pool,
+                    bindings,
+                    results,
+                    limits.nesting,
+                );
                 deliver_grown(grown, output, results, pool, limits)
             }
             Checked::Refused { number, place } => answers::refusal(number, 1, place),
