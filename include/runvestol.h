@@ -75,22 +75,22 @@ extern "C" {
 /*
  * The bytes of stack that each call needs below its caller's frame, most of them its work slices
  * (docs/WORK-SLICES.md), and the most of these. tests/c measures each anew, on texts of 32 levels:
- *   plain     46,456 at the deepest
- *   infer     71,296
- *   join      63,168
- *   below     62,992
- *   admits    71,200
- *   check     76,800
- *   run       76,800
+ *   plain     46,632 at the deepest
+ *   infer     71,576
+ *   join      64,672
+ *   below     63,040
+ *   admits    71,208
+ *   check     82,128
+ *   run      100,544
  */
 #define RUNVESTOL_PLAIN_STACK_BYTES 49152
 #define RUNVESTOL_INFER_STACK_BYTES 73728
 #define RUNVESTOL_JOIN_STACK_BYTES 65536
 #define RUNVESTOL_BELOW_STACK_BYTES 65536
 #define RUNVESTOL_ADMITS_STACK_BYTES 73728
-#define RUNVESTOL_CHECK_STACK_BYTES 81920
-#define RUNVESTOL_RUN_STACK_BYTES 81920
-#define RUNVESTOL_STACK_BYTES 81920
+#define RUNVESTOL_CHECK_STACK_BYTES 90112
+#define RUNVESTOL_RUN_STACK_BYTES 106496
+#define RUNVESTOL_STACK_BYTES 106496
 
 /*
  * What a call returns: 0, or why it refused. These numbers never change; new ones are added behind the last. Each call's
