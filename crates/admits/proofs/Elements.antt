@@ -8,18 +8,13 @@ use lib.ListN.{length}
 use Rattle.definitions.specs.Value.{Value, Items, item}
 use Rattle.definitions.specs.Shape.{Shape}
 use Rattle.definitions.specs.Admits.{admits, admitted, admitted-items}
-use Rattle.laws.specs.Bools.{not-true}
+use Rattle.laws.specs.Bools.{not-true, not-fails}
 use Rattle.nodes.specs.Nodes.{row-size}
 use Rattle.nodes.specs.Standing.{Value-stands}
 use Rattle.nodes.specs.StandingLaws.{size-some, value-size, value-within, first-item, no-item-left}
 use Rattle.plain.specs.Table.{Bounded-numbers, Bounded-items, Used, Holds}
 use Rattle.shapes.specs.Held.{Holds-shape}
 use Rattle.admits.specs.Admission.{Holds-items, Value-asked, Value-told, Items-asked, Items-told}
-
--- a test that does not fail passes
-pub not-fails : (b : Bool) → not b ≡ false → b ≡ true
-not-fails true e = refl
-not-fails false e = sym e
 
 -- a value that stands in the table, as its reader has it
 pub held-value

@@ -8,14 +8,13 @@ use Rattle.definitions.specs.Bytes.{Bytes}
 use Rattle.definitions.specs.Value.{Members, has-name}
 use Rattle.definitions.specs.Shape.{Kind, Fields, has}
 use Rattle.definitions.specs.Admits.{missing-have-null}
-use Rattle.laws.specs.Bools.{or-right, not-true, or-second}
+use Rattle.laws.specs.Bools.{or-right, not-true, or-second, not-fails}
 use Rattle.pool.specs.Pool.{text-in}
 use Rattle.nodes.specs.Standing.{Members-stand, Members-held}
 use Rattle.shapes.specs.Shapes.{kind-bit, has-bit, size-at}
 use Rattle.shapes.specs.Held.{Holds-fields}
 use Rattle.shapes.specs.HeldLaws.{held-has, held-within, first-field, no-field-left}
 use Rattle.admits.specs.Admission.{Holds-members, Members-asked, Lacks}
-use Rattle.admits.proofs.Elements.{not-fails}
 
 -- what looking for a member asks
 pub members-held : {nodes pool : List ℕ} {at end : ℕ} {ms : Members} → Holds-members nodes pool at end ms → Members-held nodes pool at end

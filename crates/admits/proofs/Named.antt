@@ -10,7 +10,7 @@ use Rattle.definitions.specs.Bytes.{Bytes}
 use Rattle.definitions.specs.Value.{Value, Members, member}
 use Rattle.definitions.specs.Shape.{Shape, Fields, find}
 use Rattle.definitions.specs.Admits.{admits, admitted, admitted-members}
-use Rattle.laws.specs.Bools.{not-true}
+use Rattle.laws.specs.Bools.{not-true, not-fails}
 use Rattle.laws.specs.AdmitsParts.{admitted-by-listed, admitted-member}
 use Rattle.pool.specs.Pool.{text-in}
 use Rattle.nodes.specs.Nodes.{row-size}
@@ -22,7 +22,7 @@ use Rattle.shapes.specs.Members.{Tells, Found-at, Names}
 use Rattle.shapes.specs.Held.{Holds-fields}
 use Rattle.shapes.specs.HeldLaws.{names-of, found-held}
 use Rattle.admits.specs.Admission.{Holds-members, Value-asked, Value-told, Members-asked, Members-told}
-use Rattle.admits.proofs.Elements.{not-fails, held-value}
+use Rattle.admits.proofs.Elements.{held-value}
 
 -- ---- the first member
 

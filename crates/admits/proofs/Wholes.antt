@@ -9,7 +9,7 @@ use Rattle.definitions.specs.Number.{Number, is-int}
 use Rattle.definitions.specs.Value.{Value, Items, Members, size}
 use Rattle.definitions.specs.Shape.{Shape, shape, no-list, list-of, no-rec, rec-of, Fields, has, has-list, has-rec, element-of, record-of}
 use Rattle.definitions.specs.Admits.{kind-of, admits, admitted, admitted-items, admitted-members, missing-have-null}
-use Rattle.laws.specs.Bools.{not-true, clash}
+use Rattle.laws.specs.Bools.{not-true, clash, not-fails}
 use Rattle.nodes.specs.Nodes.{head-word, row-size}
 use Rattle.nodes.specs.Standing.{Value-stands}
 use Rattle.nodes.specs.StandingLaws.{value-head, value-size, value-within, list-stands, rec-stands, size-some}
@@ -20,7 +20,6 @@ use Rattle.shapes.specs.Held.{Holds-shape, Holds-fields}
 use Rattle.shapes.specs.HeldLaws.{held-kinds, held-element, held-members, members-within as held-members-within}
 use Rattle.admits.specs.Admission.{Holds-items, Holds-members, Value-asked, Value-told, Items-asked, Items-told, Members-asked, Members-told, Nulls-told}
 use Rattle.admits.proofs.KindBits.{lacks-kind, kind-enough, int-bit}
-use Rattle.admits.proofs.Elements.{not-fails}
 
 -- ---- where they stand
 

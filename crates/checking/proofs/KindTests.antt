@@ -11,6 +11,7 @@ use Rattle.definitions.specs.Checking.{test-kinds, taken-out}
 use Rattle.shapes.specs.Shapes.{bit, kind-bit, kind-bits, has-bit}
 use Rattle.shapes.specs.ShapesLaws.{has-kind}
 use Rattle.forms.specs.Forms.{test-code}
+use Rattle.forms.specs.FormsLaws.{test-int}
 use Rattle.checking.specs.KindSets.{flags, test-flags, other-flags, cut-bits, out-bits, int-of-decimals, Tells-test, Tells-cut, Tells-out}
 
 -- that of `num`
@@ -66,16 +67,6 @@ pub cut-told : (kinds test x : ℕ) → Tells-test test x → Tells-cut kinds te
 cut-told kinds test x h k s e f =
     ap (λ (y : ℕ). bitAnd y x) f ∙ ap (λ (y : ℕ). bitAnd (kind-bits s) y) (h k e) ∙ sym (cut-bits k s)
 
-int-code : (k : Test) → test-code k ≡ 2 → k ≡ Test.int
-unfolding test-code
-int-code Test.null e = absurd (let z : ⊥ = omega arith in z)
-int-code Test.bool e = absurd (let z : ⊥ = omega arith in z)
-int-code Test.int e = refl
-int-code Test.num e = absurd (let z : ⊥ = omega arith in z)
-int-code Test.text e = absurd (let z : ⊥ = omega arith in z)
-int-code Test.list e = absurd (let z : ⊥ = omega arith in z)
-int-code Test.rec e = absurd (let z : ⊥ = omega arith in z)
-
 code-int : (k : Test) → k ≡ Test.int → test-code k ≡ 2
 unfolding test-code
 code-int k e = ap test-code e
@@ -94,7 +85,7 @@ int-stays kinds test i d k s e f =
     ∙ ap
     kind-bits
     (sym
-    (ap (λ (y : Test). taken-out y s) (int-code k (sym e ∙ i))
+    (ap (λ (y : Test). taken-out y s) (test-int k (sym e ∙ i))
     ∙ int-of-decimals s (sym (has-kind Kind.dec s) ∙ ap (λ (y : ℕ). has-bit y 8) (sym f) ∙ d)))
 
 pub int-out : (kinds test : ℕ) → test ≡ 2 → has-bit kinds 8 ≡ false → Tells-out kinds test (bitAnd kinds 123)
@@ -102,5 +93,5 @@ unfolding kind-bit flags among rank test-kinds bit
 int-out kinds test i d k s e f =
     ap (λ (y : ℕ). bitAnd y 123) f
     ∙ sym
-    (ap (λ (y : Test). kind-bits (taken-out y s)) (int-code k (sym e ∙ i))
+    (ap (λ (y : Test). kind-bits (taken-out y s)) (test-int k (sym e ∙ i))
     ∙ out-bits Test.int s (λ z. sym (has-kind Kind.dec s) ∙ ap (λ (y : ℕ). has-bit y 8) (sym f) ∙ d))

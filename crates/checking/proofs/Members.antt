@@ -1,7 +1,7 @@
 -- The member that `field` gives, as it is looked for in the table. Assumes nothing.
 use Prim.Native.Nat.{ℕ, _+_, _/_, _%_, _≤_}
-use mathlib.Core.Path.{_≡_, refl, sym, ap, subst, _∙_}
-use mathlib.Core.Bool.{Bool, true, false, not}
+use mathlib.Core.Path.{_≡_, sym, ap, subst, _∙_}
+use mathlib.Core.Bool.{Bool, true, false}
 use mathlib.Core.List.{List}
 use native.Mathlib.Omega.{arith}
 use lib.Bits.{bitAnd}
@@ -10,7 +10,6 @@ use lib.ListN.{length, getD}
 use Rattle.definitions.specs.Bytes.{Bytes}
 use Rattle.definitions.specs.Shape.{Kind, Shape, rec-of, Fields, within, record-of, has}
 use Rattle.definitions.specs.Checking.{field-kinds}
-use Rattle.laws.specs.Bools.{clash}
 use Rattle.pool.specs.Pool.{text-in}
 use Rattle.nodes.specs.StandingLaws.{text-referred}
 use Rattle.shapes.specs.Shapes.{kind-bit, has-bit, members-at, size-at}
@@ -23,10 +22,6 @@ use Rattle.checking.specs.Bindings.{Bound}
 use Rattle.checking.specs.BindingsLaws.{bound-members, found-bound}
 use Rattle.checking.specs.WantsLaws.{within-told, rec-wanted, field-unmet, field-nothing, field-missing, field-found, rec-there, rec-lacks}
 use Rattle.checking.specs.CheckContracts.{Meets-field, Field-asked, Gives-field}
-
-pub not-not : (b : Bool) → not b ≡ false → b ≡ true
-not-not true h = refl
-not-not false h = clash {b = true} refl h
 
 -- whether rec is left
 rec-left

@@ -13,7 +13,8 @@ use Rattle.definitions.specs.Shape.{Record, Fields, no-rec, rec-of, has, has-in
 use Rattle.definitions.specs.Shape.{has-rec, within, every, all-kinds, rank, element-of, record-of}
 use Rattle.definitions.specs.Reader.{Test}
 use Rattle.definitions.specs.Checking.{test-kinds, stay, stay-numeric, stay-element, stay-record, cut-to, taken-out}
-use Rattle.shapes.specs.Shapes.{bit, numeric-bits, kind-bits}
+use Rattle.shapes.specs.Shapes.{bit, kind-bits}
+use Rattle.shapes.specs.ShapesLaws.{numeric-sum}
 use Rattle.forms.specs.Forms.{test-code}
 
 -- ---- the bits of a set
@@ -26,16 +27,10 @@ flags f =
     + 2 * (bit (f Kind.int)
     + 2 * (bit (f Kind.dec) + 2 * (bit (f Kind.text) + 2 * (bit (f Kind.list) + 2 * bit (f Kind.rec))))))
 
-numeric-flags : (m : Numeric) → numeric-bits m ≡ bit (has-int m) + 2 * bit (has-dec m)
-unfolding numeric-bits bit has-int has-dec
-numeric-flags no-number = refl
-numeric-flags int-only = refl
-numeric-flags int-and-dec = refl
-
 -- those of a shape
 pub kinds-flags : (s : Shape) → kind-bits s ≡ flags (λ k. has k s)
 unfolding kind-bits flags has
-kinds-flags (shape n b m t e r) = omega (arith, numeric-flags m)
+kinds-flags (shape n b m t e r) = omega (arith, numeric-sum m)
 
 -- ---- two sets
 

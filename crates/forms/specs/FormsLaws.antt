@@ -8,10 +8,11 @@ use native.Mathlib.Omega.{arith}
 use lib.ListN.{length, drop, getD, length-append, length-drop}
 use lib.Seq.{drop-at, drop-drop, getD-drop}
 use Rattle.definitions.specs.Value.{Value}
-use Rattle.definitions.specs.Reader.{Place, Conversion, to-int, to-dec, to-bool, to-text, Result, Pairs, no-pairs, pair}
+use Rattle.definitions.specs.Reader.{Place, Conversion, Test, to-int, to-dec, to-bool, to-text, Result, Pairs, no-pairs, pair}
 use Rattle.laws.specs.FormGrammar.{place-forms, result-forms, pairs-forms}
 use Rattle.nodes.specs.NodesLaws.{refers-grow}
-use Rattle.forms.specs.Forms.{place-code, place-at, conversion-code, literal-code, form-code, form-operand, form-at, Head, Form-head, Place-head}
+use Rattle.forms.specs.Forms.{place-code, place-at, test-code, conversion-code, literal-code}
+use Rattle.forms.specs.Forms.{form-code, form-operand, form-at, Head, Form-head, Place-head}
 use Rattle.forms.specs.Forms.{Literal-payload, null-payload, yes-payload, no-payload, number-payload, text-payload, slot, Place-rows, it-row}
 use Rattle.forms.specs.Forms.{field-rows, Form-rows, convert-rows, keep-rows, count-rows, each-rows, when-rows, choose-rows, literal-row}
 use Rattle.forms.specs.Forms.{pack-rows, Pair-rows, no-pair-rows, pair-rows, Place-stands, Form-stands, size-at}
@@ -50,6 +51,17 @@ form-code-lt (Result.when at k q r₁ r₂) = omega arith
 form-code-lt (Result.choose at r₁ r₂ r₃) = omega arith
 form-code-lt (Result.literal at v) = literal-code-lt v
 form-code-lt (Result.pack at ps) = omega arith
+
+-- the test `int` by its code
+pub test-int : (k : Test) → test-code k ≡ 2 → k ≡ Test.int
+unfolding test-code
+test-int Test.null e = absurd (let z : ⊥ = omega (arith, e) in z)
+test-int Test.bool e = absurd (let z : ⊥ = omega (arith, e) in z)
+test-int Test.int e = refl
+test-int Test.num e = absurd (let z : ⊥ = omega (arith, e) in z)
+test-int Test.text e = absurd (let z : ⊥ = omega (arith, e) in z)
+test-int Test.list e = absurd (let z : ⊥ = omega (arith, e) in z)
+test-int Test.rec e = absurd (let z : ⊥ = omega (arith, e) in z)
 
 module _ {code operand at size h : ℕ} (x : Head code operand at size h) (small : code < 32) where
   pub head-code : h % 32 ≡ code

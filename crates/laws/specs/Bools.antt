@@ -57,6 +57,11 @@ not-false {a = true} h = absurd (true≢false h)
 not-false {a = false} h = refl
 
 -- a test that passes does not fail
+-- a test that does not fail passes
+pub not-fails : (b : Bool) → not b ≡ false → b ≡ true
+not-fails true h = refl
+not-fails false h = sym h
+
 pub clash {ℓ} : {X : Type ℓ} {b : Bool} → b ≡ true → b ≡ false → X
 clash p q = absurd (true≢false (sym p ∙ q))
 

@@ -123,7 +123,12 @@ fn read_fraction(
         let d = numeral::without_exponent(negative, coefficient, end - (at + 1));
         return read_rest(doc, end, NumberPhase::InFrac, d);
     }
-    read_rest(doc, at, phase, numeral::without_exponent(negative, whole, 0))
+    read_rest(
+        doc,
+        at,
+        phase,
+        numeral::without_exponent(negative, whole, 0),
+    )
 }
 
 // The place behind a minus, if there is one.

@@ -4,14 +4,14 @@ use mathlib.Core.Path.{_≡_, refl, sym, ap, _∙_}
 use mathlib.Core.Logic.{_⊎_, inl, inr}
 use mathlib.Core.Bool.{Bool, true, false, not, _||_, false≢true}
 use lib.Bits.{bitOr}
-use Rattle.definitions.specs.Shape.{Kind, all-kinds, Numeric, no-number, int-only, int-and-dec, Shape, shape, has, has-int, has-dec, has-list, has-rec}
+use Rattle.definitions.specs.Shape.{Kind, all-kinds, Shape, shape, has, has-list, has-rec}
 use Rattle.definitions.specs.Order.{kinds-in}
 use Rattle.definitions.specs.Join.{join}
 use Rattle.laws.specs.Bools.{tell}
 use Rattle.laws.specs.JoinParts.{has-join}
 use Rattle.laws.specs.OrderParts.{every-intro, every-kind}
-use Rattle.shapes.specs.Shapes.{bit, numeric-bits, kind-bit, kind-bits, has-bit}
-use Rattle.shapes.specs.ShapesLaws.{has-kind, union-bits}
+use Rattle.shapes.specs.Shapes.{bit, kind-bit, kind-bits, has-bit}
+use Rattle.shapes.specs.ShapesLaws.{numeric-sum, has-kind, union-bits}
 
 -- ---- bits from kinds
 
@@ -24,12 +24,6 @@ sum-of f =
     + 16 * bit (f Kind.text)
     + 32 * bit (f Kind.list)
     + 64 * bit (f Kind.rec)
-
-numeric-sum : (m : Numeric) → numeric-bits m ≡ bit (has-int m) + 2 * bit (has-dec m)
-unfolding numeric-bits has-int has-dec bit
-numeric-sum no-number = refl
-numeric-sum int-only = refl
-numeric-sum int-and-dec = refl
 
 bits-sum : (s : Shape) → kind-bits s ≡ sum-of (λ k. has k s)
 unfolding kind-bits has

@@ -8,7 +8,7 @@ use lib.ListN.{getD}
 use Rattle.definitions.specs.Bytes.{Bytes, found}
 use Rattle.definitions.specs.Shape.{Kind, Shape, Fields, find}
 use Rattle.definitions.specs.Order.{lacked-have-null}
-use Rattle.laws.specs.Bools.{or-right, not-true}
+use Rattle.laws.specs.Bools.{or-right, not-true, not-fails}
 use Rattle.pool.specs.Pool.{text-in}
 use Rattle.shapes.specs.Shapes.{kind-bit, has-bit, size-at}
 use Rattle.shapes.specs.declared.Member.{Member}
@@ -17,11 +17,6 @@ use Rattle.shapes.specs.Members.{Tells, Found-at, Names}
 use Rattle.shapes.specs.Held.{Holds-fields}
 use Rattle.shapes.specs.HeldLaws.{names-of, held-has, held-within, first-field, no-field-left}
 use Rattle.order.specs.Comparing.{Listed-asked, Lacks, Nulls-told}
-
--- a test that does not fail passes
-pub not-fails : (b : Bool) → not b ≡ false → b ≡ true
-not-fails true e = refl
-not-fails false e = sym e
 
 -- ---- one member
 

@@ -9,7 +9,7 @@ use lib.ListN.{getD}
 use Rattle.definitions.specs.Bytes.{Bytes}
 use Rattle.definitions.specs.Shape.{Shape, Fields, field, find, levels, levels-fields}
 use Rattle.definitions.specs.Order.{below, below-fields}
-use Rattle.laws.specs.Bools.{not-true}
+use Rattle.laws.specs.Bools.{not-true, not-fails}
 use Rattle.shapes.specs.Shapes.{size-at}
 use Rattle.shapes.specs.declared.Member.{Member}
 use Rattle.shapes.specs.declared.Member.the-variants.{Found, Missing}
@@ -17,7 +17,6 @@ use Rattle.shapes.specs.Members.{Tells, Found-at, Names}
 use Rattle.shapes.specs.Held.{Holds-fields}
 use Rattle.shapes.specs.HeldLaws.{names-of, held-within, found-held, First-field, first-field, no-field-left}
 use Rattle.order.specs.Comparing.{Shapes-asked, Shapes-told, Fields-asked, Fields-told}
-use Rattle.order.proofs.Lacking.{not-fails}
 
 -- ---- the first member apart
 

@@ -11,13 +11,12 @@ use lib.ListN.{getD}
 use Rattle.definitions.specs.Shape.{Kind, Shape, shape, no-list, list-of, no-rec, rec-of, Fields, has}
 use Rattle.definitions.specs.Shape.{has-list, has-rec, element-of, record-of, levels, levels-fields}
 use Rattle.definitions.specs.Order.{kinds-in, lacked-have-null, below, below-element, below-record, below-fields}
-use Rattle.laws.specs.Bools.{not-true, clash}
+use Rattle.laws.specs.Bools.{not-true, clash, not-fails}
 use Rattle.shapes.specs.Shapes.{kind-bit, has-bit, size-at, members-at}
 use Rattle.shapes.specs.Held.{Holds-shape, Holds-fields}
 use Rattle.shapes.specs.HeldLaws.{held-kinds, held-has, held-element, held-members}
 use Rattle.order.specs.Comparing.{Shapes-asked, Shapes-told, Parts-asked, Element-told, Record-told, Listed-asked, Fields-asked, Fields-told, Nulls-told}
 use Rattle.order.proofs.KindsIn.{kind-in, kinds-all, kinds-beyond}
-use Rattle.order.proofs.Lacking.{not-fails}
 
 pub some-level : (s : Shape) → 1 ≤ levels s
 unfolding levels

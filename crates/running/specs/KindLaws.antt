@@ -12,18 +12,8 @@ use Rattle.definitions.specs.Reader.{to-int, to-dec, to-bool, to-text, Test, Re
 use Rattle.definitions.specs.Checking.{test-kinds, convert-kinds, list-kinds}
 use Rattle.nodes.specs.Nodes.{kind-code}
 use Rattle.forms.specs.Forms.{conversion-code, literal-code, form-code, test-code}
+use Rattle.forms.specs.FormsLaws.{test-int}
 use Rattle.running.specs.Kinds.{wanted}
-
--- the test of this code
-pub test-int : (k : Test) → test-code k ≡ 2 → k ≡ Test.int
-unfolding test-code
-test-int Test.null e = absurd (let z : ⊥ = omega (arith, e) in z)
-test-int Test.bool e = absurd (let z : ⊥ = omega (arith, e) in z)
-test-int Test.int e = refl
-test-int Test.num e = absurd (let z : ⊥ = omega (arith, e) in z)
-test-int Test.text e = absurd (let z : ⊥ = omega (arith, e) in z)
-test-int Test.list e = absurd (let z : ⊥ = omega (arith, e) in z)
-test-int Test.rec e = absurd (let z : ⊥ = omega (arith, e) in z)
 
 pub test-num : (k : Test) → test-code k ≡ 3 → k ≡ Test.num
 unfolding test-code

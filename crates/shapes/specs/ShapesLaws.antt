@@ -69,6 +69,12 @@ numeric-dec no-number = refl
 numeric-dec int-only = refl
 numeric-dec int-and-dec = refl
 
+pub numeric-sum : (m : Numeric) → numeric-bits m ≡ bit (has-int m) + 2 * bit (has-dec m)
+unfolding numeric-bits bit has-int has-dec
+numeric-sum no-number = refl
+numeric-sum int-only = refl
+numeric-sum int-and-dec = refl
+
 -- the bit of a kind tells whether the shape has it
 module _ (n b : Bool) (m : Numeric) (t : Bool) (e : Element) (r : Record) where
   pub has-null-bit : has-bit (kind-bits (shape n b m t e r)) 1 ≡ n

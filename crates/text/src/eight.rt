@@ -13,7 +13,10 @@ fn four_stand(doc: &[u8], i: usize) -> bool
     requires { ⌜ i + 4 ≤ length (now doc) ⌝ }
     ensures told { λ r. ⌜ (r ≡ true → Stand (now (doc .entry)) i 4) ⌝ }
 {
-    is_plain_ascii(doc[i]) & is_plain_ascii(doc[i + 1]) & is_plain_ascii(doc[i + 2]) & is_plain_ascii(doc[i + 3])
+    is_plain_ascii(doc[i])
+        & is_plain_ascii(doc[i + 1])
+        & is_plain_ascii(doc[i + 2])
+        & is_plain_ascii(doc[i + 3])
 }
 
 // Whether eight do.

@@ -1,8 +1,8 @@
 -- `checking::places::member` meets its contract. Assumes nothing.
 use borrow.Author.Needs.{needs}
 use native.Mathlib.Omega.{arith}
-use Rattle.laws.specs.Bools.{not-true}
-use Rattle.checking.proofs.Members.{not-not, row-ends, unmet, without, members-before, listed-asked, member-missing, member-found}
+use Rattle.laws.specs.Bools.{not-true, not-fails}
+use Rattle.checking.proofs.Members.{row-ends, unmet, without, members-before, listed-asked, member-missing, member-found}
 use Rattle.checking.proofs.places.member.Statement.{statement}
 use Rattle.checking.proofs.places.member.Tie as tie
 
@@ -17,7 +17,7 @@ returns-2 c =
     let at-within = c .before .before .before in
     let at-start = at-within .before .before .before in
     without (at-start .args .shapes .now) (at-start .args .pool .now) (at-start .args .row) (at-start .args .kinds) (at-start .args .name)
-    (at-start .args .place) (at-within .within .ensures) (not-not (at-within .within .result) (c .before .before .if1 .left)) (c .before .has .ensures)
+    (at-start .args .place) (at-within .within .ensures) (not-fails (at-within .within .result) (c .before .before .if1 .left)) (c .before .has .ensures)
     (not-true (c .before .has .result) (c .if2 .taken))
 
 members-requires : tie.Need-members-requires
@@ -25,8 +25,8 @@ members-requires c κs =
     let at-within = c .before .before .before in
     let at-start = at-within .before .before .before in
     let within = members-before (at-start .args .shapes .now) (at-start .args .pool .now) (at-start .args .row) (at-start .args .kinds) (at-start .args .name)
-    (at-start .args .place) (at-within .within .ensures) (not-not (at-within .within .result) (c .before .before .if1 .left)) (c .before .has .ensures)
-    (not-not (c .before .has .result) (c .if2 .left)) (at-start .pre) in
+    (at-start .args .place) (at-within .within .ensures) (not-fails (at-within .within .result) (c .before .before .if1 .left)) (c .before .has .ensures)
+    (not-fails (c .before .has .result) (c .if2 .left)) (at-start .pre) in
     (within .0, omega (arith, within .1, within .2, at-start .good))
 
 add-end : tie.Need-add-end
@@ -42,8 +42,8 @@ find-named-requires c κs =
     let at-within = at-has .before .before in
     let at-start = at-within .before .before .before in
     listed-asked (at-start .args .shapes .now) (at-start .args .pool .now) (at-start .args .row) (at-start .args .kinds) (at-start .args .name)
-    (at-start .args .place) (at-within .within .ensures) (not-not (at-within .within .result) (at-has .before .if1 .left)) (at-has .has .ensures)
-    (not-not (at-has .has .result) (at-members .before .if2 .left))
+    (at-start .args .place) (at-within .within .ensures) (not-fails (at-within .within .result) (at-has .before .if1 .left)) (at-has .has .ensures)
+    (not-fails (at-has .has .result) (at-members .before .if2 .left))
     (at-members .members .ensures) (at-size .size .ensures) (at-start .pre)
 
 returns-3 : tie.Need-returns-3
@@ -55,8 +55,8 @@ returns-3 c =
     let at-within = at-has .before .before in
     let at-start = at-within .before .before .before in
     member-missing (at-start .args .shapes .now) (at-start .args .pool .now) (at-start .args .row) (at-start .args .kinds) (at-start .args .name)
-    (at-start .args .place) (at-within .within .ensures) (not-not (at-within .within .result) (at-has .before .if1 .left)) (at-has .has .ensures)
-    (not-not (at-has .has .result) (at-members .before .if2 .left))
+    (at-start .args .place) (at-within .within .ensures) (not-fails (at-within .within .result) (at-has .before .if1 .left)) (at-has .has .ensures)
+    (not-fails (at-has .has .result) (at-members .before .if2 .left))
     (at-members .members .ensures) (at-size .size .ensures) (at-find .find-named .ensures)
     (c .enum-told .given .1)
 
@@ -69,8 +69,8 @@ returns-4 c =
     let at-within = at-has .before .before in
     let at-start = at-within .before .before .before in
     member-found (at-start .args .shapes .now) (at-start .args .pool .now) (at-start .args .row) (at-start .args .kinds) (at-start .args .name)
-    (at-start .args .place) (at-within .within .ensures) (not-not (at-within .within .result) (at-has .before .if1 .left)) (at-has .has .ensures)
-    (not-not (at-has .has .result) (at-members .before .if2 .left))
+    (at-start .args .place) (at-within .within .ensures) (not-fails (at-within .within .result) (at-has .before .if1 .left)) (at-has .has .ensures)
+    (not-fails (at-has .has .result) (at-members .before .if2 .left))
     (at-members .members .ensures) (at-size .size .ensures) (at-find .find-named .ensures)
     (c .before .before .r .given .1) (c .kinds .ensures)
 
