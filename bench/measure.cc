@@ -4,7 +4,6 @@
 #include "rounds.h"
 
 #include <cstdio>
-#include <cstdlib>
 #include <fstream>
 
 namespace {
@@ -57,19 +56,34 @@ std::vector<std::vector<Rewriting>> all_rewritings(const std::vector<Peer> &peer
     return calls;
 }
 
+bool begins(const std::string &text, const std::string &with) { return text.compare(0, with.size(), with) == 0; }
+
+// What was to be reached, of the peers that it speaks of.
+void print_goals(const std::vector<Peer> &peers, const std::vector<Document> &documents,
+                 const std::vector<std::vector<double>> &least) {
+    std::printf("\nTo be reached, with our time relative to the other's:\n\n");
+    for (std::size_t p = 0; p < peers.size(); p++) {
+        const std::string &name = peers[p].name;
+        if (name == "RapidJSON SAX")
+            print_reached("under 0.65 of " + name, documents, column(least, 0), column(least, p), {0.65, 0.65});
+        if (begins(name, "simdjson"))
+            print_reached("ahead of " + name, documents, column(least, 0), column(least, p), {1, 1});
+    }
+}
+
 }  // namespace
 
 int main(int count, char **words) {
-    if (count < 4) fail("usage: measure ROUNDS FOLDER DOCUMENT...");
-    int rounds = std::atoi(words[1]);
+    if (count < 5) fail("usage: measure ROUNDS TURN FOLDER DOCUMENT...");
+    Rounds rounds = rounds_of(words[1], words[2]);
     std::vector<Peer> peers = all_peers();
     std::vector<Document> documents;
-    for (int i = 3; i < count; i++) documents.push_back(load(words[i]));
+    for (int i = 4; i < count; i++) documents.push_back(load(words[i]));
     for (const Document &d : documents) {
         for (std::size_t p = 0; p < peers.size(); p++) {
             std::string_view made = peers[p].rewrite(d.bytes.data(), d.length);
             if (made.empty()) fail(peers[p].name + " refused " + d.name);
-            keep_output(words[2], d, p, made);
+            keep_output(words[3], d, p, made);
         }
     }
     std::vector<std::vector<double>> least = measure(all_rewritings(peers, documents), rounds);
@@ -78,5 +92,6 @@ int main(int count, char **words) {
         const std::string version = peers[p].version.empty() ? "" : ", " + peers[p].version;
         print_row(peers[p].name + version, documents, column(least, p), column(least, 0));
     }
+    print_goals(peers, documents, least);
     for (const Peer &peer : peers) std::fprintf(stderr, "%s\n", peer.name.c_str());
 }

@@ -1,13 +1,12 @@
 // Measures check on readers and shapes: NAME.reader against NAME.shape of a folder, beside admits of NAME.json on that shape.
 // What reading both texts takes is measured by the same reader with a part in front that is refused at once, so that both
 // are read to their ends and nothing more is done.
-//   readers ROUNDS FOLDER NAME...   prints the table, and what was to be reached
+//   readers ROUNDS TURN FOLDER NAME...   prints the table, and what was to be reached
 #include "peer.h"
 #include "rounds.h"
 #include "runvestol.h"
 
 #include <cstdio>
-#include <cstdlib>
 
 namespace {
 
@@ -81,12 +80,12 @@ void print_reached(const std::vector<Row> &rows, const std::vector<std::vector<d
 }  // namespace
 
 int main(int count, char **words) {
-    if (count < 4) fail("usage: readers ROUNDS FOLDER NAME...");
+    if (count < 5) fail("usage: readers ROUNDS TURN FOLDER NAME...");
     std::vector<Row> rows;
-    for (int i = 3; i < count; i++) rows.emplace_back(words[2], words[i]);
+    for (int i = 4; i < count; i++) rows.emplace_back(words[3], words[i]);
     std::vector<std::vector<Calling>> calls;
     for (const Row &row : rows) calls.push_back(row.calls());
-    std::vector<std::vector<double>> least = measure(calls, std::atoi(words[1]));
+    std::vector<std::vector<double>> least = measure(calls, rounds_of(words[1], words[2]));
     print_table(rows, least);
     print_reached(rows, least);
 }

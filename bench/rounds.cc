@@ -17,6 +17,8 @@ void fail(const std::string &what) {
     std::exit(1);
 }
 
+Rounds rounds_of(const char *count, const char *turn) { return {std::atoi(count), std::atof(turn)}; }
+
 std::string load_text(const std::string &path) {
     std::ifstream in(path, std::ios::binary);
     if (!in) fail("cannot read " + path);
@@ -54,4 +56,21 @@ void print_row(const std::string &who, const std::vector<Document> &documents, c
         std::printf(" %.0f ns, %.0f MB/s, %.2f |", times[i], speed, times[i] / others[i]);
     }
     std::printf("\n");
+}
+
+void print_reached(const std::string &what, const std::vector<Document> &documents, const std::vector<double> &times,
+                   const std::vector<double> &others, Goal goal) {
+    std::string within, beyond;
+    for (std::size_t i = 0; i < documents.size(); i++) {
+        char ratio[40];
+        std::snprintf(ratio, sizeof ratio, " (%.2f)", times[i] / others[i]);
+        double most = documents[i].length <= 300 ? goal.small : goal.large;
+        std::string &list = times[i] <= most * others[i] ? within : beyond;
+        list += (list.empty() ? "" : ", ") + documents[i].name + ratio;
+    }
+    std::printf("- %s: ", what.c_str());
+    if (!within.empty())
+        std::printf("so on %s%s", within.c_str(), beyond.empty() ? "\n" : "; ");
+    if (!beyond.empty())
+        std::printf("NOT on %s\n", beyond.c_str());
 }

@@ -1,4 +1,5 @@
 // Measuring in rounds: in each, every call has its turn, in which it is made a few times. What counts is its fastest round.
+// In short turns a call finds the caches and the branch predictors as the others left them; in long ones they are its own.
 #ifndef BENCH_ROUNDS_H
 #define BENCH_ROUNDS_H
 
@@ -29,23 +30,32 @@ double timed(const Call &call, int times) {
     return (nanoseconds() - start) / times;
 }
 
-// How often a call is made in its turn, for the turn to take long enough to be timed.
+// How many rounds there are, and how long a turn takes, in nanoseconds.
+struct Rounds {
+    int count;
+    double turn;
+};
+
+// Of two words of a command line.
+Rounds rounds_of(const char *count, const char *turn);
+
+// How often a call is made in a turn.
 template <class Call>
-int times_for(const Call &call) {
-    return std::max(1, static_cast<int>(40000 / timed(call, 20)));
+int times_for(const Call &call, double turn) {
+    return std::max(1, static_cast<int>(turn / timed(call, 20)));
 }
 
 // The fastest round of each call, in nanoseconds. Calls stand in rows, one for each document.
 template <class Call>
-std::vector<std::vector<double>> measure(const std::vector<std::vector<Call>> &calls, int rounds) {
+std::vector<std::vector<double>> measure(const std::vector<std::vector<Call>> &calls, Rounds rounds) {
     std::vector<std::vector<int>> times;
     std::vector<std::vector<double>> least;
     for (const std::vector<Call> &row : calls) {
         times.emplace_back();
-        for (const Call &call : row) times.back().push_back(times_for(call));
+        for (const Call &call : row) times.back().push_back(times_for(call, rounds.turn));
         least.emplace_back(row.size(), INFINITY);
     }
-    for (int round = 0; round < rounds; round++)
+    for (int round = 0; round < rounds.count; round++)
         for (std::size_t i = 0; i < calls.size(); i++)
             for (std::size_t p = 0; p < calls[i].size(); p++)
                 least[i][p] = std::min(least[i][p], timed(calls[i][p], times[i][p]));
@@ -61,5 +71,14 @@ void print_head(const std::string &cells, const std::vector<Document> &documents
 // A row of it: who, and for each document the time, the speed, and the time relative to another's.
 void print_row(const std::string &who, const std::vector<Document> &documents, const std::vector<double> &times,
                const std::vector<double> &others);
+
+// At most so much of another's time: on documents of up to 300 bytes, and on longer ones.
+struct Goal {
+    double small, large;
+};
+
+// Which documents reach a goal and which do not, with our time relative to the other's.
+void print_reached(const std::string &what, const std::vector<Document> &documents, const std::vector<double> &times,
+                   const std::vector<double> &others, Goal goal);
 
 #endif

@@ -1,11 +1,11 @@
 // Measures run on documents that are lists of records, with each of the three readers, beside other ways to do the same.
-//   runs ROUNDS FOLDER DOCUMENT...   prints the table's rows; leaves in the folder what each made, as made/DOCUMENT-READER.PEER,
-//                                    the peers' names and the first one's times
+//   runs ROUNDS TURN FOLDER DOCUMENT...   prints the table's rows; leaves in the folder what each made, as
+//                                         made/DOCUMENT-READER.PEER, the peers' names, the first one's times, and what was to be
+//                                         reached
 #include "rounds.h"
 #include "transform.h"
 
 #include <cstdio>
-#include <cstdlib>
 #include <fstream>
 
 namespace {
@@ -65,15 +65,28 @@ void print_columns(const std::vector<Document> &documents) {
     std::printf("\n");
 }
 
+// How the first one's time stands to the second's, which it was to be ahead of.
+std::string reached(const std::string &second, const std::vector<Document> &documents, const std::vector<std::vector<double>> &least) {
+    std::string text = "- ahead of " + second + ":";
+    for (std::size_t i = 0; i < least.size(); i++) {
+        char cell[60];
+        double ratio = least[i][0] / least[i][1];
+        std::snprintf(cell, sizeof cell, "%s%s (%.2f)", ratio <= 1 ? " " : " NOT on ",
+                      column_name(documents[i / READERS], static_cast<int>(i % READERS)).c_str(), ratio);
+        text += cell;
+    }
+    return text + "\n";
+}
+
 }  // namespace
 
 int main(int count, char **words) {
-    if (count < 4) fail("usage: runs ROUNDS FOLDER DOCUMENT...");
-    const std::string folder = words[2];
+    if (count < 5) fail("usage: runs ROUNDS TURN FOLDER DOCUMENT...");
+    const std::string folder = words[3];
     std::vector<Transformer> peers = all_transformers();
     std::vector<Document> documents;
-    for (int i = 3; i < count; i++) documents.push_back(load(words[i]));
-    std::vector<std::vector<double>> least = measure(all_calls(peers, documents, folder), std::atoi(words[1]));
+    for (int i = 4; i < count; i++) documents.push_back(load(words[i]));
+    std::vector<std::vector<double>> least = measure(all_calls(peers, documents, folder), rounds_of(words[1], words[2]));
     print_columns(documents);
     std::string names, times;
     for (std::size_t p = 0; p < peers.size(); p++) {
@@ -85,4 +98,5 @@ int main(int count, char **words) {
     for (const std::vector<double> &row : least) times += std::to_string(row[0]) + "\n";
     keep(folder + "/names", names);
     keep(folder + "/times", times);
+    keep(folder + "/reached", peers.size() < 2 ? "" : reached(peers[1].name, documents, least));
 }

@@ -1,5 +1,5 @@
 #!/usr/bin/env python3
-"""runs.py ROUNDS FOLDER DOCUMENT...: measures Python functions over orjson on the documents as runs.cc measures the others.
+"""runs.py ROUNDS TURN FOLDER DOCUMENT...: measures Python functions over orjson on the documents as runs.cc measures the others.
 Prints their row of the table, relative to the times in FOLDER/times; leaves what they make in FOLDER/made, and their name
 behind the others in FOLDER/names. Where orjson is not there it says so and prints nothing."""
 
@@ -32,12 +32,12 @@ def copy(data):
 READERS = {"A": project, "B": branch, "C": copy}
 
 
-def fastest(function, data, rounds):
-    """The fastest round in nanoseconds a call, each of some 40 microseconds or of one call."""
+def fastest(function, data, rounds, turn):
+    """The fastest round in nanoseconds a call, each of some `turn` nanoseconds or of one call."""
     start = time.perf_counter_ns()
     for _ in range(20):
         function(data)
-    times = max(1, 40000 * 20 // (time.perf_counter_ns() - start))
+    times = max(1, turn * 20 // (time.perf_counter_ns() - start))
     least = float("inf")
     for _ in range(rounds):
         start = time.perf_counter_ns()
@@ -47,7 +47,7 @@ def fastest(function, data, rounds):
     return least
 
 
-def main(rounds, folder, documents):
+def main(rounds, turn, folder, documents):
     folder = pathlib.Path(folder)
     ours = [float(line) for line in (folder / "times").read_text().split()]
     names = (folder / "names").read_text()
@@ -57,10 +57,10 @@ def main(rounds, folder, documents):
         data = path.read_bytes()
         for reader, function in READERS.items():
             (folder / f"made/{path.stem}-{reader}.{names.count(chr(10))}").write_bytes(function(data))
-            took = fastest(function, data, rounds)
+            took = fastest(function, data, rounds, turn)
             cells.append(f" {took:.0f} ns, {took / ours[len(cells)]:.2f} |")
     print(f"| {name} |" + "".join(cells))
     (folder / "names").write_text(names + name + "\n")
 
 
-main(int(sys.argv[1]), sys.argv[2], sys.argv[3:])
+main(int(sys.argv[1]), int(sys.argv[2]), sys.argv[3], sys.argv[4:])

@@ -8,7 +8,7 @@ namespace {
 const uint8_t *bytes_of(const char *text) { return reinterpret_cast<const uint8_t *>(text); }
 const uint8_t *bytes_of(const std::string &text) { return bytes_of(text.data()); }
 
-uint8_t output[ROOM];
+uint8_t output[2 * ROOM];  // a shape may be longer than a document
 uint8_t answer[RUNVESTOL_ANSWER_BYTES];
 
 uint64_t call_infer(const std::string &shape, const char *document, std::size_t length) {

@@ -1,13 +1,13 @@
 // Measures the calls on shapes: infer beside plain, and admits beside validators of the equivalent JSON Schema. Each is ready
 // for the shape that the document itself gave, as the last of many samples finds it.
-//   shapes --infer FOLDER DOCUMENT...   leaves the shape of each document in the folder, as NAME.shape
-//   shapes ROUNDS FOLDER DOCUMENT...    measures, with the folder's NAME.shape and NAME.schema; prints the tables, what was to
-//                                       be reached, and whether all say the same of the documents and of the folder's others
+//   shapes --infer FOLDER DOCUMENT...       leaves the shape of each document in the folder, as NAME.shape
+//   shapes --verdicts FOLDER DOCUMENT...    prints whether all say the same of the documents and of the folder's others, with
+//                                           the folder's NAME.shape and NAME.schema
+//   shapes ROUNDS TURN FOLDER DOCUMENT...   measures with these; prints the tables, and what was to be reached
 #include "rounds.h"
 #include "task.h"
 
 #include <cstdio>
-#include <cstdlib>
 #include <cstring>
 #include <filesystem>
 #include <fstream>
@@ -57,7 +57,7 @@ public:
         }
     }
 
-    void measure_all(int rounds) { least = measure(calls, rounds); }
+    void measure_all(Rounds rounds) { least = measure(calls, rounds); }
 
     // The times of one caller, a document each.
     Times times(std::size_t caller) const { return column(least, caller); }
@@ -70,23 +70,6 @@ private:
 
 void print_caller(const Caller &caller, const std::vector<Document> &documents, const Times &times, const Times &others) {
     print_row(caller.name + (caller.version.empty() ? "" : ", " + caller.version), documents, times, others);
-}
-
-// Which documents were to be within so many times as long, and are or are not.
-void print_reached(const std::string &what, const std::vector<Document> &documents, const Times &times, const Times &others,
-                   double most) {
-    std::string within, beyond;
-    for (std::size_t i = 0; i < documents.size(); i++) {
-        char ratio[40];
-        std::snprintf(ratio, sizeof ratio, " (%.2f)", times[i] / others[i]);
-        std::string &list = times[i] <= most * others[i] ? within : beyond;
-        list += (list.empty() ? "" : ", ") + documents[i].name + ratio;
-    }
-    std::printf("- %s: ", what.c_str());
-    if (!within.empty())
-        std::printf("so on %s%s", within.c_str(), beyond.empty() ? "\n" : "; ");
-    if (!beyond.empty())
-        std::printf("not on %s\n", beyond.c_str());
 }
 
 // Holds the validators to what the first says of every document with every shape.
@@ -138,43 +121,59 @@ void leave_shapes(const std::string &folder, const std::vector<Document> &docume
     }
 }
 
-void report(int rounds, const std::string &folder, const std::vector<Document> &documents) {
+std::vector<Shape> shapes_in(const std::string &folder, const std::vector<Document> &documents) {
     std::vector<Shape> shapes;
     for (const Document &d : documents) {
         std::string path = folder + "/" + d.name;
         shapes.push_back({d.name, load_text(path + ".shape"), load_text(path + ".schema")});
     }
+    return shapes;
+}
+
+void print_goals(const std::vector<Caller> &callers, const std::vector<Document> &documents, const Field &field) {
+    std::printf("\nTo be reached, with our time relative to the other's:\n\n");
+    for (std::size_t c = 3; c < callers.size(); c++) {
+        print_reached("`admits` under 0.95 of " + callers[c].name + " on a record of 200 bytes, under 0.6 else", documents,
+                      field.times(2), field.times(c), {0.95, 0.6});
+        print_reached("`infer` not slower than " + callers[c].name + " on a record of 200 bytes, under 0.65 else", documents,
+                      field.times(1), field.times(c), {1, 0.65});
+    }
+}
+
+// The callers in order: plain, infer, admits, and the validators that admits is held to.
+void report(Rounds rounds, const std::vector<Document> &documents, const std::vector<Shape> &shapes) {
     std::vector<Caller> callers = all_validators();
     callers.insert(callers.begin(), {plain_caller(), infer_caller()});
     Field field(callers, documents, shapes);
     field.measure_all(rounds);
-    const std::size_t plain = 0, infer = 1, admits = 2;
+    print_head("ns a document, MB/s, time relative to that of admits", documents);
+    for (std::size_t c = 0; c < callers.size(); c++) print_caller(callers[c], documents, field.times(c), field.times(2));
+    print_goals(callers, documents, field);
+}
 
-    print_head("ns a document, MB/s, time relative to plain's", documents);
-    for (std::size_t c = plain; c <= infer; c++) print_caller(callers[c], documents, field.times(c), field.times(plain));
-    std::printf("\n");
-    print_head("ns a document, MB/s, time relative to ours", documents);
-    for (std::size_t c = admits; c < callers.size(); c++)
-        print_caller(callers[c], documents, field.times(c), field.times(admits));
-    std::printf("\nTo be reached, with the time of ours relative to the other's:\n\n");
-    print_reached("`infer` within three times `plain`", documents, field.times(infer), field.times(plain), 3);
-    for (std::size_t c = admits + 1; c < callers.size(); c++)
-        print_reached("`admits` not slower than " + callers[c].name, documents, field.times(admits), field.times(c), 1);
-
+void verdicts(const std::string &folder, const std::vector<Document> &documents, const std::vector<Shape> &shapes) {
     std::vector<Document> judged = others_in(folder);
     judged.insert(judged.begin(), documents.begin(), documents.end());
-    std::printf("\nWhat each says of the documents and of changed copies of them, with the shape of each document:\n\n");
     print_verdicts(all_validators(), shapes, judged);
+}
+
+std::vector<Document> loaded(char **first, char **last) {
+    std::vector<Document> documents;
+    for (char **word = first; word < last; word++) documents.push_back(load(*word));
+    return documents;
 }
 
 }  // namespace
 
 int main(int count, char **words) {
-    if (count < 4) fail("usage: shapes ROUNDS|--infer FOLDER DOCUMENT...");
-    std::vector<Document> documents;
-    for (int i = 3; i < count; i++) documents.push_back(load(words[i]));
+    if (count < 5) fail("usage: shapes --infer|--verdicts|ROUNDS TURN FOLDER DOCUMENT...");
+    bool marked = words[1][0] == '-';
+    std::string folder = words[marked ? 2 : 3];
+    std::vector<Document> documents = loaded(words + (marked ? 3 : 4), words + count);
     if (std::strcmp(words[1], "--infer") == 0)
-        leave_shapes(words[2], documents);
+        leave_shapes(folder, documents);
+    else if (marked)
+        verdicts(folder, documents, shapes_in(folder, documents));
     else
-        report(std::atoi(words[1]), words[2], documents);
+        report(rounds_of(words[1], words[2]), documents, shapes_in(folder, documents));
 }

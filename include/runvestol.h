@@ -75,13 +75,13 @@ extern "C" {
 /*
  * The bytes of stack that each call needs below its caller's frame, most of them its work slices
  * (docs/WORK-SLICES.md), and the most of these. tests/c measures each anew, on texts of 32 levels:
- *   plain     46,632 at the deepest
- *   infer     71,576
- *   join      64,672
- *   below     63,040
- *   admits    71,208
- *   check     82,128
- *   run      100,544
+ *   plain     47,080 at the deepest
+ *   infer     72,056
+ *   join      64,592
+ *   below     60,648
+ *   admits    71,688
+ *   check     80,808
+ *   run      101,064
  */
 #define RUNVESTOL_PLAIN_STACK_BYTES 49152
 #define RUNVESTOL_INFER_STACK_BYTES 73728

@@ -12,6 +12,12 @@ void expect_call(const char *operation, struct bytes text_1, struct bytes text_2
     expect_of_texts(operation_named(operation), texts, expected->length, expected);
 }
 
+void expect_verdict(const char *operation, struct bytes text_1, struct bytes text_2, bool yes)
+{
+    const struct outcome expected = {.yes = yes};
+    expect_call(operation, text_1, text_2, &expected);
+}
+
 void expect_result(const char *operation, struct bytes text_1, struct bytes text_2)
 {
     const struct bytes texts[] = {text_1, text_2};

@@ -13,6 +13,9 @@ extern struct draft first, second, result;
 
 void expect_call(const char *operation, struct bytes text_1, struct bytes text_2, const struct outcome *expected);
 
+/* Expects yes or no. */
+void expect_verdict(const char *operation, struct bytes text_1, struct bytes text_2, bool yes);
+
 /* Expects the result to be written, and refused where the output is one byte short. */
 void expect_result(const char *operation, struct bytes text_1, struct bytes text_2);
 

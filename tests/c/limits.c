@@ -1,5 +1,4 @@
-/* Shapes at their limits, read and written: 512 and 513 forms, 32 and 33 levels, 16,384 and 16,385 bytes; and texts of about the
-   lengths from which on a call holds longer work slices. */
+/* Shapes at their limits, read and written: 512 and 513 forms, 32 and 33 levels, 16,384 and 16,385 bytes. */
 #include <string.h>
 
 #include "bounds.h"
@@ -10,12 +9,6 @@
 #include "suites.h"
 
 static const struct bytes nothing = BYTES("(shape)");
-
-static void expect_verdict(const char *operation, struct bytes text_1, struct bytes text_2, bool yes)
-{
-    const struct outcome expected = {.yes = yes};
-    expect_call(operation, text_1, text_2, &expected);
-}
 
 /* ---- forms */
 
@@ -348,41 +341,6 @@ static void texts_that_fill_the_most_words_have_their_answers(void)
     expect_call("admits", drafted(&first), drafted(&second), &left_open);
 }
 
-/* ---- where the work slices of short texts end */
-
-/* A record of such a member, so many bytes in all. */
-static void put_record_of(struct draft *to, size_t name, size_t length)
-{
-    put_long_name(to, "{\"", name, "\":4");
-    put_times(to, " ", length - to->length - 1);
-    put(to, "}");
-}
-
-static void a_shape_about_1024_bytes_and_a_document_about_4096_are_joined(void)
-{
-    for (size_t shape = 1020; shape <= 1028; shape++)
-        for (size_t document = 4092; document <= 4100; document++) {
-            size_t name = put_shape_of(&first, shape);
-            put_record_of(&second, name, document);
-            put_written_name(name);
-            expect_result("infer", drafted(&first), drafted(&second));
-            expect_verdict("admits", drafted(&first), drafted(&second), true);
-        }
-}
-
-static void two_shapes_about_1024_bytes_are_joined(void)
-{
-    for (size_t length = 1020; length <= 1028; length++)
-        for (size_t other = 1020; other <= 1028; other++) {
-            size_t name = put_shape_of(&first, length);
-            put_shape_of(&second, other);
-            expect_verdict("below", drafted(&first), drafted(&second), length == other);
-            put_written_name(name);
-            if (length == other)
-                expect_result("join", drafted(&first), drafted(&second));
-        }
-}
-
 void limits_suite(void)
 {
     RUN(a_shape_of_512_forms_is_read_and_written);
@@ -404,6 +362,4 @@ void limits_suite(void)
     RUN(a_word_more_is_too_many_bytes);
     RUN(texts_and_names_in_two_texts_of_full_length_are_read);
     RUN(texts_that_fill_the_most_words_have_their_answers);
-    RUN(a_shape_about_1024_bytes_and_a_document_about_4096_are_joined);
-    RUN(two_shapes_about_1024_bytes_are_joined);
 }

@@ -23,6 +23,7 @@ int main(int count, char **words)
     limits_suite();
     reader_limits_suite();
     run_limits_suite();
+    tiers_suite();
     stack_suite();
     for (int i = 2; i < count; i++)
         run_vectors(words[i]);

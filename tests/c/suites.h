@@ -11,6 +11,7 @@ void sizes_suite(void);
 void limits_suite(void);
 void reader_limits_suite(void);
 void run_limits_suite(void);
+void tiers_suite(void);
 void stack_suite(void);
 
 #endif

@@ -164,8 +164,9 @@ def counted(root, found):
 def worthless(root, there):
     """Each worthless version and each trap of the scope document has its edit, or waits for the code that it is of."""
     rows = {}
-    for number, (what, where, *_) in table(root, "Worthless version or trap", 2):
+    for number, (what, where, *code) in table(root, "Worthless version or trap", 2):
         rows.setdefault(what, (number, where))
+        yield from ((f"{GATE}:{number}", f"there is no edit {edit}") for edit in code if edit and edit.strip("`") not in there)
     written = {function.name for source in sources(root, "crates/operations/src/**/*.rt") for function in functions(source)}
     for what in WORTHLESS:
         number, where = rows.get(what, (0, ""))

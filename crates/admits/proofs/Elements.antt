@@ -8,7 +8,8 @@ use lib.ListN.{length}
 use Rattle.definitions.specs.Value.{Value, Items, item}
 use Rattle.definitions.specs.Shape.{Shape}
 use Rattle.definitions.specs.Admits.{admits, admitted, admitted-items}
-use Rattle.laws.specs.Bools.{not-true, not-fails}
+use Rattle.laws.specs.Bools.{and-two, not-true, not-fails}
+use Rattle.laws.specs.Distinct.{distinct, distinct-items}
 use Rattle.nodes.specs.Nodes.{row-size}
 use Rattle.nodes.specs.Standing.{Value-stands}
 use Rattle.nodes.specs.StandingLaws.{size-some, value-size, value-within, first-item, no-item-left}
@@ -55,6 +56,13 @@ first h more =
       more = record { used = h .used; stand = f .more; pooled = h .pooled; bounded = b .1 };
     }
 
+-- no name comes twice in it, nor in the others
+pub first-once
+    : {nodes pool : List ℕ} {i end : ℕ} {vs : Items} (f : First nodes pool i end vs) → distinct-items vs ≡ true
+    → (distinct (f .value) ≡ true) × (distinct-items (f .others) ≡ true)
+unfolding distinct
+first-once f d = and-two (distinct (f .value)) (distinct-items (f .others)) (sym (ap distinct-items (f .same)) ∙ d)
+
 -- ---- the walk
 
 module _ (shapes : List ℕ) (row : ℕ) (nodes : List ℕ) (at end : ℕ) (pool : List ℕ) where
@@ -62,20 +70,28 @@ module _ (shapes : List ℕ) (row : ℕ) (nodes : List ℕ) (at end : ℕ) (pool
     pub others : Items
     pub holds : Holds-items nodes pool i end others
     pub alike : admitted-items vs s ≡ admitted-items others s
+    pub once : distinct-items vs ≡ true → distinct-items others ≡ true
 
   pub record Walking (i : ℕ) : Type 0 where
     pub ahead : at ≤ i
     pub left : (s : Shape) → Holds-shape shapes pool row s → (vs : Items) → Holds-items nodes pool at end vs → Left i s vs
 
   pub walk-begins : Walking at
-  walk-begins = record { ahead = omega arith; left = λ s h vs k. record { others = vs; holds = k; alike = refl } }
+  walk-begins = record { ahead = omega arith; left = λ s h vs k. record { others = vs; holds = k; alike = refl; once = λ d. d } }
 
   module _ {i : ℕ} (w : Walking i) (more : i < end) where
     next : (a : Items-asked shapes row nodes at end pool) → First nodes pool i end (w .left (a .shape) (a .held) (a .items) (a .holds) .others)
     next a = first (w .left (a .shape) (a .held) (a .items) (a .holds) .holds) more
 
     pub walk-asks : Items-asked shapes row nodes at end pool → Value-asked shapes row nodes i pool
-    walk-asks a = record { shape = a .shape; held = a .held; value = next a .value; holds = next a .holds }
+    walk-asks a =
+        record {
+          shape = a .shape;
+          held = a .held;
+          value = next a .value;
+          holds = next a .holds;
+          once = first-once (next a) (w .left (a .shape) (a .held) (a .items) (a .holds) .once (a .once)) .0;
+        }
 
     pub walk-step
         : Items-asked shapes row nodes at end pool
@@ -111,6 +127,7 @@ module _ (shapes : List ℕ) (row : ℕ) (nodes : List ℕ) (at end : ℕ) (pool
                   alike =
                       step-told t h m
                       ∙ ap (λ (b : Bool). b && admitted-items (first (m .holds) more .others) t) (not-fails r e);
+                  once = λ d. first-once (first (m .holds) more) (m .once d) .1;
                 };
           })
 

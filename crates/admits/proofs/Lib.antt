@@ -3,3 +3,4 @@ pub mod Elements
 pub mod Named
 pub mod Lacking
 pub mod Wholes
+pub mod Counting

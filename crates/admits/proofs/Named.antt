@@ -7,10 +7,11 @@ use mathlib.Core.Option.{Option, none}
 use native.Mathlib.Omega.{arith}
 use lib.ListN.{length, getD}
 use Rattle.definitions.specs.Bytes.{Bytes}
-use Rattle.definitions.specs.Value.{Value, Members, member}
+use Rattle.definitions.specs.Value.{Value, Members, member, has-name}
 use Rattle.definitions.specs.Shape.{Shape, Fields, find}
 use Rattle.definitions.specs.Admits.{admits, admitted, admitted-members}
-use Rattle.laws.specs.Bools.{not-true, not-fails}
+use Rattle.laws.specs.Bools.{and-three, not-true, not-fails}
+use Rattle.laws.specs.Distinct.{distinct, distinct-members}
 use Rattle.laws.specs.AdmitsParts.{admitted-by-listed, admitted-member}
 use Rattle.pool.specs.Pool.{text-in}
 use Rattle.nodes.specs.Nodes.{row-size}
@@ -59,6 +60,18 @@ first {pool} h more =
       more = record { used = h .used; stand = f .more; pooled = h .pooled; bounded = b .1 };
     }
 
+-- no name comes twice in it, nor in the others
+pub first-once
+    : {nodes pool : List ℕ} {i end : ℕ} {ms : Members} (f : First nodes pool i end ms) → distinct-members ms ≡ true
+    → (distinct (f .value) ≡ true) × (distinct-members (f .others) ≡ true)
+unfolding distinct
+first-once f d =
+    let t =
+    and-three (not (has-name (f .name) (f .others))) (distinct (f .value)) (distinct-members (f .others))
+    (sym (ap distinct-members (f .same)) ∙ d)
+    in
+    (t .1, t .2)
+
 -- ---- the walk
 
 module _ (shapes : List ℕ) (from to : ℕ) (nodes : List ℕ) (at end : ℕ) (pool : List ℕ) where
@@ -66,6 +79,7 @@ module _ (shapes : List ℕ) (from to : ℕ) (nodes : List ℕ) (at end : ℕ) (
     pub others : Members
     pub holds : Holds-members nodes pool i end others
     pub alike : admitted-members ms fs ≡ admitted-members others fs
+    pub once : distinct-members ms ≡ true → distinct-members others ≡ true
 
   pub record Walking (i : ℕ) : Type 0 where
     pub ahead : at ≤ i
@@ -73,7 +87,7 @@ module _ (shapes : List ℕ) (from to : ℕ) (nodes : List ℕ) (at end : ℕ) (
         : (fs : Fields) → Holds-fields shapes pool from to fs → (ms : Members) → Holds-members nodes pool at end ms → Left i fs ms
 
   pub walk-begins : Walking at
-  walk-begins = record { ahead = omega arith; left = λ fs h ms k. record { others = ms; holds = k; alike = refl } }
+  walk-begins = record { ahead = omega arith; left = λ fs h ms k. record { others = ms; holds = k; alike = refl; once = λ d. d } }
 
   module _ {i : ℕ} (w : Walking i) (more : i < end) where
     next
@@ -129,6 +143,7 @@ module _ (shapes : List ℕ) (from to : ℕ) (nodes : List ℕ) (at end : ℕ) (
               held = found-held (a .held) (found (a .held) (l .holds));
               value = next a .value;
               holds = next a .holds;
+              once = first-once (next a) (l .once (a .once)) .0;
             }
 
         module _ {r : Bool} (told : Value-told shapes row nodes i pool r) where
@@ -161,6 +176,7 @@ module _ (shapes : List ℕ) (from to : ℕ) (nodes : List ℕ) (at end : ℕ) (
                       alike =
                           step-told h l
                           ∙ ap (λ (b : Bool). b && admitted-members (first (l .holds) more .others) fs) (not-fails r x);
+                      once = λ d. first-once (first (l .holds) more) (l .once d) .1;
                     };
               })
 

@@ -10,6 +10,7 @@ use Rattle.definitions.specs.Value.{Value, Items, Members, size}
 use Rattle.definitions.specs.Shape.{Shape, shape, no-list, list-of, no-rec, rec-of, Fields, has, has-list, has-rec, element-of, record-of}
 use Rattle.definitions.specs.Admits.{kind-of, admits, admitted, admitted-items, admitted-members, missing-have-null}
 use Rattle.laws.specs.Bools.{not-true, clash, not-fails}
+use Rattle.laws.specs.Distinct.{distinct, distinct-items, distinct-members}
 use Rattle.nodes.specs.Nodes.{head-word, row-size}
 use Rattle.nodes.specs.Standing.{Value-stands}
 use Rattle.nodes.specs.StandingLaws.{value-head, value-size, value-within, list-stands, rec-stands, size-some}
@@ -76,11 +77,12 @@ module _ (shapes : List ℕ) (row : ℕ) (nodes : List ℕ) (at : ℕ) (pool : L
     pub held : Holds-shape shapes pool (row + 2) element
     pub holds : Holds-items nodes pool (at + 3) (at + row-size nodes at) items
     pub told : admits s v ≡ admitted-items items element
+    pub once : distinct v ≡ true → distinct-items items ≡ true
 
   pub list-parts
       : (s : Shape) → Holds-shape shapes pool row s → (v : Value) → Holds nodes pool at v → kind-bit (kind-of v) ≡ 32
       → has (kind-of v) s ≡ true → List-parts s v
-  unfolding kind-bit kind-of has has-list Bounded-numbers admits admitted element-of
+  unfolding kind-bit kind-of has has-list Bounded-numbers admits admitted element-of distinct
   list-parts s h Value.null g e f = absurd (let z : ⊥ = omega arith in z)
   list-parts s h (Value.bool b) g e f = absurd (let z : ⊥ = omega arith in z)
   list-parts s h (Value.number x) g e f = absurd (let z : ⊥ = omega (arith, number-small x) in z)
@@ -93,6 +95,7 @@ module _ (shapes : List ℕ) (row : ℕ) (nodes : List ℕ) (at : ℕ) (pool : L
         held = held-element h;
         holds = record { used = g .used; stand = list-stands (standing g); pooled = g .pooled; bounded = g .bounded };
         told = refl;
+        once = λ d. d;
       }
   list-parts s h (Value.rec ms) g e f = absurd (let z : ⊥ = omega arith in z)
 
@@ -102,11 +105,12 @@ module _ (shapes : List ℕ) (row : ℕ) (nodes : List ℕ) (at : ℕ) (pool : L
     pub held : Holds-fields shapes pool (members-at shapes row) (row + size-at shapes row) fields
     pub holds : Holds-members nodes pool (at + 3) (at + row-size nodes at) members
     pub told : admits s v ≡ (admitted-members members fields && missing-have-null members fields)
+    pub once : distinct v ≡ true → distinct-members members ≡ true
 
   pub rec-parts
       : (s : Shape) → Holds-shape shapes pool row s → (v : Value) → Holds nodes pool at v → 32 < kind-bit (kind-of v)
       → has (kind-of v) s ≡ true → Rec-parts s v
-  unfolding kind-bit kind-of has has-rec Bounded-numbers admits admitted record-of
+  unfolding kind-bit kind-of has has-rec Bounded-numbers admits admitted record-of distinct
   rec-parts s h Value.null g e f = absurd (let z : ⊥ = omega arith in z)
   rec-parts s h (Value.bool b) g e f = absurd (let z : ⊥ = omega arith in z)
   rec-parts s h (Value.number x) g e f = absurd (let z : ⊥ = omega (arith, number-small x) in z)
@@ -120,6 +124,7 @@ module _ (shapes : List ℕ) (row : ℕ) (nodes : List ℕ) (at : ℕ) (pool : L
         held = held-members h;
         holds = record { used = g .used; stand = rec-stands (standing g); pooled = g .pooled; bounded = g .bounded };
         told = refl;
+        once = λ d. d;
       }
 
 module _
@@ -140,6 +145,7 @@ module _
             held = p .held;
             items = p .items;
             holds = subst (λ (x : ℕ). Holds-items nodes pool (at + 3) (at + x) (p .items)) (sym sized) (p .holds);
+            once = p .once (a .once);
           }
 
       pub list-told : {q : Bool} → Items-told shapes (row + 2) nodes (at + 3) (at + n) pool q → Value-told shapes row nodes at pool q
@@ -167,7 +173,7 @@ module _
       pub rec-asks : Value-asked shapes row nodes at pool → Members-asked shapes from (row + size) nodes (at + 3) (at + n) pool
       rec-asks a =
           let p = rec-of-both (a .shape) (a .held) (a .value) (a .holds) in
-          record { fields = p .fields; held = placed-fields p; members = p .members; holds = placed-members p }
+          record { fields = p .fields; held = placed-fields p; members = p .members; holds = placed-members p; once = p .once (a .once) }
 
       pub rec-fails
           : {q : Bool} → Members-told shapes from (row + size) nodes (at + 3) (at + n) pool q → not q ≡ true

@@ -2,12 +2,13 @@
 -- texts of both in one pool. Assumes nothing.
 use Prim.Native.Nat.{ℕ, _+_, _/_, _%_}
 use mathlib.Core.Path.{_≡_}
-use mathlib.Core.Bool.{Bool, _||_}
+use mathlib.Core.Bool.{Bool, true, _||_}
 use mathlib.Core.List.{List}
 use lib.ListN.{getD}
 use Rattle.definitions.specs.Value.{Value, Items, Members, has-name}
 use Rattle.definitions.specs.Shape.{Shape, Fields}
 use Rattle.definitions.specs.Admits.{admits, admitted-items, admitted-members, missing-have-null}
+use Rattle.laws.specs.Distinct.{distinct, distinct-items, distinct-members}
 use Rattle.pool.specs.Pool.{text-in}
 use Rattle.nodes.specs.Standing.{Items-stand, Members-stand}
 use Rattle.plain.specs.Table.{Bounded-items, Bounded-members, Used, Holds}
@@ -30,25 +31,28 @@ pub record Holds-members (nodes pool : List ℕ) (at end : ℕ) (ms : Members) :
   pub pooled : Used pool used
   pub bounded : Bounded-members ms
 
--- ---- what is asked
+-- ---- what is asked, of a value in which no name comes twice
 
 pub record Value-asked (shapes : List ℕ) (row : ℕ) (nodes : List ℕ) (at : ℕ) (pool : List ℕ) : Type 0 where
   pub shape : Shape
   pub held : Holds-shape shapes pool row shape
   pub value : Value
   pub holds : Holds nodes pool at value
+  pub once : distinct value ≡ true
 
 pub record Items-asked (shapes : List ℕ) (row : ℕ) (nodes : List ℕ) (at end : ℕ) (pool : List ℕ) : Type 0 where
   pub shape : Shape
   pub held : Holds-shape shapes pool row shape
   pub items : Items
   pub holds : Holds-items nodes pool at end items
+  pub once : distinct-items items ≡ true
 
 pub record Members-asked (shapes : List ℕ) (from to : ℕ) (nodes : List ℕ) (at end : ℕ) (pool : List ℕ) : Type 0 where
   pub fields : Fields
   pub held : Holds-fields shapes pool from to fields
   pub members : Members
   pub holds : Holds-members nodes pool at end members
+  pub once : distinct-members members ≡ true
 
 -- ---- what is answered
 

@@ -1,5 +1,6 @@
 // Whether a shape of a shape table admits a value of a node table.
 ghost use mathlib.Core.Path.{_≡_};
+ghost use mathlib.Core.Bool.{true};
 ghost use lib.ListN.{getD};
 ghost use Rattle.definitions.specs.Value.{Value};
 ghost use Rattle.definitions.specs.Admits.{kind-of};
@@ -71,6 +72,27 @@ fn missing_have_null(
         i += shapes::size(shapes, i);
     }
     true
+}
+
+// The same, where each member of the value is listed.
+fn lacked_have_null(
+    shapes: &[u64],
+    from: usize,
+    to: usize,
+    nodes: &[u64],
+    at: usize,
+    end: usize,
+    pool: &[u64],
+) -> bool
+    requires { ⌜ Members-asked (now shapes) from to (now nodes) at end (now pool) ⌝ }
+    requires listed { ⌜ Members-told (now shapes) from to (now nodes) at end (now pool) true ⌝ }
+    ensures told { λ r. ⌜ Nulls-told (now (shapes .entry)) from to (now (nodes .entry)) at end (now (pool .entry)) r ⌝ }
+{
+    // as many as are listed: none is lacked
+    if shapes::member_count(shapes, from, to) == nodes::member_count(nodes, at, end) {
+        return true;
+    }
+    missing_have_null(shapes, from, to, nodes, at, end, pool)
 }
 
 // ---- values
@@ -145,5 +167,5 @@ pub fn admits(shapes: &[u64], row: usize, nodes: &[u64], at: usize, pool: &[u64]
     if !admits_members(shapes, from, to, nodes, at + 3, end, pool) {
         return false;
     }
-    missing_have_null(shapes, from, to, nodes, at + 3, end, pool)
+    lacked_have_null(shapes, from, to, nodes, at + 3, end, pool)
 }

@@ -11,7 +11,7 @@ use Rattle.definitions.specs.Checking.{wants, list-kinds, element-shape, check-
 use Rattle.laws.specs.FormGrammar.{result-levels}
 use Rattle.shapes.specs.Shapes.{bit, numeric-bits, kind-bits}
 use Rattle.forms.specs.Forms.{form-code, form-at, Form-stands}
-use Rattle.forms.specs.FormsLaws.{forms-some, stands-at, stands-within}
+use Rattle.forms.specs.FormsLaws.{forms-some, levels-some, stands-at, stands-within}
 use Rattle.forms.specs.PartsLaws.{after, each-place, each-result, literal-stands}
 use Rattle.checking.specs.declared.places.Located.{Located}
 use Rattle.checking.specs.declared.places.Located.the-variants as located
@@ -21,17 +21,6 @@ use Rattle.checking.specs.Bindings.{Kept, Some-bound, Binds-element}
 use Rattle.checking.specs.CheckContracts.{Locates, Checks, Place-asked, Gives-place, Meets-form, Form-asked, Gives-form, Tells-want, Passes-up}
 use Rattle.checking.proofs.SimpleForms.{conversion-code-le, literal-code-ge, list-wanted}
 use Rattle.checking.proofs.FormWalk.{kept-same, kept-then, kept-less, coded-as, place-told, part-told, part-bound}
-
-pub levels-some : (r : Result) → 1 ≤ result-levels r
-unfolding result-levels
-levels-some (Result.convert at c q) = omega arith
-levels-some (Result.keep at q) = omega arith
-levels-some (Result.count at q) = omega arith
-levels-some (Result.each at q r) = omega arith
-levels-some (Result.when at k q r₁ r₂) = omega arith
-levels-some (Result.choose at r₁ r₂ r₃) = omega arith
-levels-some (Result.literal at v) = omega arith
-levels-some (Result.pack at ps) = omega arith
 
 -- the form that has the code of `each`
 data Is-each : Result → Type 0 where

@@ -7,11 +7,11 @@ use lib.ListN.{length, getD, set}
 use Rattle.definitions.specs.Shape.{Shape}
 use Rattle.definitions.specs.Reader.{Result}
 use Rattle.definitions.specs.Checking.{check-reader}
+use Rattle.forms.specs.FormsLaws.{levels-some}
 use Rattle.checking.specs.declared.Checked.{Checked}
 use Rattle.checking.specs.Bindings.{binding, Bindings, Binds}
 use Rattle.checking.specs.BindingsLaws.{bound-row, bind-kept, binds, bindings-more}
 use Rattle.checking.specs.CheckContracts.{Meets-form, Form-asked, Gives-form, Meets-reader, Reader-asked, Checks-reader}
-use Rattle.checking.proofs.EachWalk.{levels-some}
 
 no-bindings : (shapes p b : List ℕ) (deep : ℕ) → Bindings shapes p b deep 0 []
 no-bindings shapes p b deep =

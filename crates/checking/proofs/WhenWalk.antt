@@ -14,7 +14,7 @@ use Rattle.laws.specs.FormGrammar.{result-levels}
 use Rattle.shapes.specs.Shapes.{kind-bits}
 use Rattle.shapes.specs.ShapesLaws.{kind-bits-lt, union-bits, stands-row}
 use Rattle.forms.specs.Forms.{test-code, form-code, form-operand, Form-stands}
-use Rattle.forms.specs.FormsLaws.{forms-some, stands-operand, stands-within}
+use Rattle.forms.specs.FormsLaws.{forms-some, levels-some, stands-operand, stands-within}
 use Rattle.forms.specs.PartsLaws.{after, when-place, when-first, when-second, literal-stands}
 use Rattle.checking.specs.declared.places.Located.{Located}
 use Rattle.checking.specs.declared.places.Located.the-variants as located
@@ -26,7 +26,6 @@ use Rattle.checking.specs.BindingsLaws.{bound-cut, bound-out, bind-kept,
 use Rattle.checking.specs.CheckContracts.{Locates, Checks, Place-asked, Gives-place, Meets-form, Form-asked, Gives-form, Passes-up}
 use Rattle.checking.proofs.SimpleForms.{conversion-code-le, literal-code-ge}
 use Rattle.checking.proofs.FormWalk.{kept-same, kept-then, kept-less, coded-as, place-told, part-told, part-bound}
-use Rattle.checking.proofs.EachWalk.{levels-some}
 
 -- the form that has the code of `when`
 data Is-when : Result → Type 0 where

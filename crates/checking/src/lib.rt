@@ -9,7 +9,7 @@ use shapes::Shape;
 pub mod bindings;
 pub mod kinds;
 pub mod places;
-mod simple; // forms without results inside
+pub mod simple;
 
 // What checking a result comes to.
 pub enum Checked {

@@ -30,7 +30,7 @@ pub fn want(kinds: u64, wanted: u64, given: u64, place: usize) -> Checked
 }
 
 // The kinds that a conversion wants, and gives.
-fn conversion_kinds(code: u64) -> u64
+pub fn conversion_kinds(code: u64) -> u64
     ensures told { λ r. ⌜ Tells-conversion code r ⌝ }
 {
     if code == forms::INT {

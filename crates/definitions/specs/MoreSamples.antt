@@ -14,6 +14,7 @@ use Rattle.definitions.specs.Reader.{Place, read-place}
 use Rattle.definitions.specs.Operations.{Done, refusal, written, said, plain-operation, admits-operation, check-operation}
 use Rattle.definitions.specs.Calls.{plain-call, admits-call}
 use Rattle.definitions.specs.WorkSlices.{plain-slices, infer-slices, admits-slices, join-slices, below-slices, check-slices, run-slices}
+use Rattle.definitions.specs.WorkSlices.{for-document, for-shape-document, for-grown-document, for-two-shapes, for-reader-shape, for-reader-document}
 use Rattle.definitions.specs.Evaluate.{evaluate}
 
 -- an output or answer buffer of n bytes
@@ -52,9 +53,38 @@ published-for-check : check-slices standard ≡ 1536 ∷ 1024 ∷ 1024 ∷ 32 �
 unfolding evaluate
 published-for-check = refl
 
-published-for-run : run-slices standard ≡ 1536 ∷ 1536 ∷ 1536 ∷ 33 ∷ 4927 ∷ []
+published-for-run : run-slices standard ≡ 1536 ∷ 1536 ∷ 1536 ∷ 32 ∷ 4927 ∷ []
 unfolding evaluate
 published-for-run = refl
+
+-- what short texts ask for; of an empty document 16 values, since 32 brackets that are open are 32 in as many bytes
+asked-by-nothing : for-document standard 0 ≡ 48 ∷ 15 ∷ []
+unfolding evaluate
+asked-by-nothing = refl
+
+asked-by-255-bytes : for-document standard 255 ≡ 429 ∷ 174 ∷ []
+unfolding evaluate
+asked-by-255-bytes = refl
+
+asked-by-a-short-shape : for-shape-document standard 511 255 ≡ 146 ∷ 429 ∷ 238 ∷ []
+unfolding evaluate
+asked-by-a-short-shape = refl
+
+asked-by-a-shape-that-grows : for-grown-document standard 511 255 ≡ 1024 ∷ 429 ∷ 238 ∷ []
+unfolding evaluate
+asked-by-a-shape-that-grows = refl
+
+asked-by-two-short-shapes : for-two-shapes standard 1023 1023 ≡ 294 ∷ 294 ∷ 256 ∷ []
+unfolding evaluate
+asked-by-two-short-shapes = refl
+
+asked-by-a-short-reader : for-reader-shape standard 255 511 ≡ 255 ∷ 146 ∷ 1024 ∷ 32 ∷ 149 ∷ []
+unfolding evaluate
+asked-by-a-short-reader = refl
+
+asked-by-a-short-run : for-reader-document standard 255 255 ≡ 255 ∷ 429 ∷ 1536 ∷ 32 ∷ 259 ∷ []
+unfolding evaluate
+asked-by-a-short-run = refl
 
 -- ---- refusal 1
 

@@ -9,7 +9,8 @@ use definitions::Format;
 use definitions::Limits;
 use json::DocumentRead;
 
-// Reads a JSON document that is short enough. It begins no more values than it has bytes, and asks for room for no more.
+// Reads a JSON document that is short enough. It begins no more values than its bytes and what may be open pay for, and asks for
+// room for no more.
 fn read_json(
     document: &[u8],
     nodes: &mut [u64],
@@ -22,12 +23,7 @@ fn read_json(
     ensures read { λ r. ⌜
         Reads-as read-json limits (now (document .entry)) (now (pool .entry)) (now (nodes .exit)) (now (pool .exit)) top r ⌝ }
 {
-    let few = Limits {
-        bytes: limits.bytes,
-        values: slices::least(limits.values, document.len() + 1),
-        nesting: limits.nesting,
-        steps: limits.steps,
-    };
+    let few = slices::fewer(limits, (document.len() + limits.nesting) / 2);
     json::read_document(document, nodes, pool, top, few)
 }
 

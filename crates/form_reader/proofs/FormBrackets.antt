@@ -2,14 +2,11 @@
 use Prim.Native.Nat.{ℕ, suc, _+_}
 use mathlib.Core.Path.{_≡_, refl, sym, _∙_, subst}
 use mathlib.Core.Bool.{Bool, true, false}
-use mathlib.Core.List.{List}
 use native.Mathlib.Omega.{arith}
 use Rattle.definitions.specs.Bytes.{Bytes}
 use Rattle.definitions.specs.Tokens.{opening, closing}
-use Rattle.tokens.specs.ReadingLaws.{placed-further}
 use Rattle.tokens.specs.TokenRead.{Found}
 use Rattle.tokens.specs.Expecting.{an-opening, a-closing, Bracket-answer, Expects-opening, Expects-closing, Word-answer, Expects-word, Judges-full}
-use Rattle.tokens.specs.ReadingLaws.{kept-then}
 use Rattle.tokens.specs.declared.expect.Bracket.{Bracket}
 use Rattle.tokens.specs.declared.expect.Bracket.the-variants as Bracket-is
 use Rattle.tokens.specs.declared.expect.Spelled.{Spelled}
@@ -19,34 +16,31 @@ use Rattle.form_reader.specs.declared.reading.Part.the-variants.{Done, R
 use Rattle.form_reader.specs.declared.opening.Opened.{Opened}
 use Rattle.form_reader.specs.declared.opening.Opened.the-variants as Opened-is
 use Rattle.form_reader.specs.declared.opening.Begun.the-variants as Begun-is
-use Rattle.tokens.specs.Expecting.{Text-placed}
 use Rattle.form_reader.specs.FormParts.{Bracket-read, Opened-answer, Opens-form, Begins-form, Closes-form}
 use Rattle.form_reader.proofs.Steps.{opens-on, opens-full, no-bracket, closes-on, no-end, no-word}
 
 -- ---- the opening bracket
 
-module _ (values left : ℕ) (c : Cursor) {text : Bytes} {p₀ p : List ℕ} {b : Bracket} (y : Expects-opening text (c .at) p₀ p (c .top) b) where
-  pub bracket-missing : {place : ℕ} → b ≡ Bracket-is.Missing place → Opens-form text p₀ p values left c (Opened-is.Refused 7 place)
+module _ (values left : ℕ) (c : Cursor) {text : Bytes} {b : Bracket} (y : Expects-opening text (c .at) b) where
+  pub bracket-missing : {place : ℕ} → b ≡ Bracket-is.Missing place → Opens-form text values left c (Opened-is.Refused 7 place)
   bracket-missing e =
       record {
         answer = λ x w d f o l.
             no-bracket x (c .begun) w o (subst (Bracket-answer an-opening opening text (c .at)) e (y .answer));
-        kept = y .kept;
       }
 
   module _ {place : ℕ} (e : b ≡ Bracket-is.At place) {full : Bool} (j : Judges-full values left (c .begun) full) where
     found : Found text (c .at) opening place (place + 1)
     found = subst (Bracket-answer an-opening opening text (c .at)) e (y .answer)
 
-    pub bracket-full : full ≡ true → Opens-form text p₀ p values left c (Opened-is.Refused 8 place)
+    pub bracket-full : full ≡ true → Opens-form text values left c (Opened-is.Refused 8 place)
     bracket-full h =
         record {
           answer = λ x w d f o l.
               opens-full x (c .begun) w o found (sym (j .judged (x .limits) d (l .most) (l .nests)) ∙ h);
-          kept = y .kept;
         }
 
-    pub bracket-read : full ≡ false → Opens-form text p₀ p values left c (Opened-is.At place)
+    pub bracket-read : full ≡ false → Opens-form text values left c (Opened-is.At place)
     bracket-read h =
         record {
           answer =
@@ -58,62 +52,54 @@ module _ (values left : ℕ) (c : Cursor) {text : Bytes} {p₀ p : List ℕ} {b 
                 begun = j .within h .0;
                 nested = j .within h .1;
               };
-          kept = y .kept;
         }
 
 -- ---- the word behind it
 
-module _ (values left : ℕ) (c : Cursor) {text : Bytes} {p₀ p : List ℕ} {b : Opened} (y : Opens-form text p₀ p values left c b) where
+module _ (values left : ℕ) (c : Cursor) {text : Bytes} {b : Opened} (y : Opens-form text values left c b) where
   pub form-refused
       : {number place : ℕ} → b ≡ Opened-is.Refused number place
-      → Begins-form text p₀ p values left c (Begun-is.Refused number place)
+      → Begins-form text values left c (Begun-is.Refused number place)
   form-refused e =
       record {
         answer = λ x w d f g o u l. subst (Opened-answer text values left c) e (y .answer) x w d f o l;
-        kept = y .kept;
       }
 
   module _ {place : ℕ} (e : b ≡ Opened-is.At place) where
-    opened : Bracket-read text values left c place
+    pub opened : Bracket-read text values left c place
     opened = subst (Opened-answer text values left c) e (y .answer)
 
-    pub word-room : Text-placed text p₀ (c .at) (c .top) → Text-placed text p (place + 1) (c .top)
-    word-room r = placed-further r (y .kept) (omega (arith, opened .ahead)) (omega (arith, opened .within))
-
-    module _ {p′ : List ℕ} {s : Spelled} (z : Expects-word text (place + 1) p p′ (c .top) s) where
+    module _ {s : Spelled} (z : Expects-word text (place + 1) s) where
       pub word-read
-          : {at end : ℕ} → s ≡ Spelled-is.At at end → Begins-form text p₀ p′ values left c (Begun-is.Word place at end)
+          : {at end : ℕ} → s ≡ Spelled-is.At at end → Begins-form text values left c (Begun-is.Word place at end)
       word-read i =
           record {
             answer = record { bracket = opened; found = subst (Word-answer text (place + 1)) i (z .answer) };
-            kept = kept-then (y .kept) (z .kept);
           }
 
       pub word-missing
-          : {at : ℕ} → s ≡ Spelled-is.Missing at → Begins-form text p₀ p′ values left c (Begun-is.Refused 7 at)
+          : {at : ℕ} → s ≡ Spelled-is.Missing at → Begins-form text values left c (Begun-is.Refused 7 at)
       word-missing i =
           record {
             answer = λ x w d f g o u l.
                 opened .run x w d f o l
                 ∙ no-word x (suc (c .begun)) (f place) (u place) (subst (Word-answer text (place + 1)) i (z .answer));
-            kept = kept-then (y .kept) (z .kept);
           }
 
 -- ---- the closing bracket
 
-module _ (c : Cursor) {text : Bytes} {p₀ p : List ℕ} {b : Bracket} (y : Expects-closing text (c .at) p₀ p (c .top) b) where
-  pub end-missing : {place : ℕ} → b ≡ Bracket-is.Missing place → Closes-form text p₀ p c (Refused 7 place)
+module _ (c : Cursor) {text : Bytes} {b : Bracket} (y : Expects-closing text (c .at) b) where
+  pub end-missing : {place : ℕ} → b ≡ Bracket-is.Missing place → Closes-form text c (Refused 7 place)
   end-missing e =
       record {
         answer = λ x n w q o. no-end x n w o (subst (Bracket-answer a-closing closing text (c .at)) e (y .answer));
-        kept = y .kept;
       }
 
   module _ {place : ℕ} (e : b ≡ Bracket-is.At place) where
     pub end-found : Found text (c .at) closing place (place + 1)
     end-found = subst (Bracket-answer a-closing closing text (c .at)) e (y .answer)
 
-    pub end-read : Closes-form text p₀ p c (Done (record { at = place + 1; begun = c .begun; top = c .top }))
+    pub end-read : Closes-form text c (Done (record { at = place + 1; begun = c .begun; top = c .top }))
     end-read =
         record {
           answer =
@@ -124,5 +110,4 @@ module _ (c : Cursor) {text : Bytes} {p₀ p : List ℕ} {b : Bracket} (y : Expe
                 further = omega (arith, end-found .from);
                 within = end-found .within;
               };
-          kept = y .kept;
         }

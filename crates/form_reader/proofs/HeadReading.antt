@@ -50,16 +50,15 @@ length-word : (text : Bytes) (at end : ℕ) → at ≤ end → end ≤ length te
 unfolding word-in
 length-word text at end h l = length-take-le (end - at) (drop at text) (omega (arith, length-drop at text))
 
-module _ (values left : ℕ) (c : Cursor) {text : Bytes} {p₀ p : List ℕ} {b : Begun} (y : Begins-form text p₀ p values left c b) where
+module _ (values left : ℕ) (c : Cursor) {text : Bytes} {b : Begun} (y : Begins-form text values left c b) where
   pub result-refused
       : {number place : ℕ} → b ≡ Begun-is.Refused number place
-      → Begins-result text p₀ p values left c (Worded-is.Refused number place)
+      → Begins-result text values left c (Worded-is.Refused number place)
   result-refused e =
       record {
         answer = λ x o w.
             subst (Begun-answer text values left c) e (y .answer) x (result-open o) (depth o) (λ q. result-word q o)
             (λ q v. where-some (look-word result-words v) (λ f. go (want (f q o)))) (opens-result o) (λ q. wants-result q o) w;
-        kept = y .kept;
       }
 
   module _ {place at end : ℕ} (e : b ≡ Begun-is.Word place at end) where
@@ -67,19 +66,18 @@ module _ (values left : ℕ) (c : Cursor) {text : Bytes} {p₀ p : List ℕ} {b 
     worded = subst (Begun-answer text values left c) e (y .answer)
 
     module _ {k : ℕ} (s : Result-says (word-in text at end) k) where
-      pub result-unknown : k ≡ 0 → Begins-result text p₀ p values left c (Worded-is.Refused 7 at)
+      pub result-unknown : k ≡ 0 → Begins-result text values left c (Worded-is.Refused 7 at)
       unfolding where-some
       result-unknown i =
           record {
             answer = λ x o w.
                 worded .bracket .run x (result-open o) (depth o) (λ q. result-word q o) (opens-result o) w
                 ∙ word-misplaced x (suc (c .begun)) (result-word place o) (wants-result place o) (worded .found) (rw (result-none s i));
-            kept = y .kept;
           }
 
       pub result-known
           : (k ≡ 0 → ⊥)
-          → Begins-result text p₀ p values left c (Worded-is.Form k place (record { at = end; begun = c .begun + 1; top = c .top }))
+          → Begins-result text values left c (Worded-is.Form k place (record { at = end; begun = c .begun + 1; top = c .top }))
       unfolding where-some
       result-known i =
           let known : Known (word-in text at end) k = result-some s i in
@@ -103,35 +101,34 @@ module _ (values left : ℕ) (c : Cursor) {text : Bytes} {p₀ p : List ℕ} {b 
                   limit = worded .bracket .begun;
                   nested = worded .bracket .nested;
                 };
-            kept = y .kept;
           }
 
 -- ---- the operand
 
-module _ (values left : ℕ) (c : Cursor) {text : Bytes} {p₀ p : List ℕ} {b : Worded} (y : Begins-result text p₀ p values left c b) where
+module _ (values left : ℕ) (c : Cursor) {text : Bytes} (p : List ℕ) {b : Worded} (y : Begins-result text values left c b) where
   pub head-refused
-      : {number place : ℕ} → b ≡ Worded-is.Refused number place → Reads-head text p₀ p values left c (Headed-is.Refused number place)
-  head-refused e = record { answer = subst (Worded-answer text values left c) e (y .answer); kept = y .kept }
+      : {number place : ℕ} → b ≡ Worded-is.Refused number place → Reads-head text p p values left c (Headed-is.Refused number place)
+  head-refused e = record { answer = subst (Worded-answer text values left c) e (y .answer); kept = record { size = refl; front = refl } }
 
   module _ {code place : ℕ} {from : Cursor} (e : b ≡ Worded-is.Form code place from) where
     begun : Result-begun text values left c code place from
     begun = subst (Worded-answer text values left c) e (y .answer)
 
-    pub operand-room : Text-placed text p₀ (c .at) (c .top) → Text-placed text p (from .at) (from .top)
+    pub operand-room : Text-placed text p (c .at) (c .top) → Text-placed text p (from .at) (from .top)
     operand-room r =
         record {
           short = r .short;
           within = begun .within;
-          texts = omega (arith, r .texts, y .kept .size, begun .top, begun .ahead);
+          texts = omega (arith, r .texts, begun .top, begun .ahead);
           small = omega (arith, r .small, begun .top, begun .ahead);
         }
 
     module _ {p′ : List ℕ} {n : Operand} (z : Reads-operand text p p′ code from n) where
-      all-kept : Kept p₀ p′ (c .top)
-      all-kept = kept-before (y .kept) (z .kept) (omega (arith, begun .top))
+      all-kept : Kept p p′ (c .top)
+      all-kept = subst (Kept p p′) (begun .top) (z .kept)
 
       pub operand-refused
-          : {at : ℕ} → n ≡ Operand-is.Refused at → Reads-head text p₀ p′ values left c (Headed-is.Refused 7 at)
+          : {at : ℕ} → n ≡ Operand-is.Refused at → Reads-head text p p′ values left c (Headed-is.Refused 7 at)
       operand-refused i =
           record {
             answer = λ x o w.
@@ -142,7 +139,7 @@ module _ (values left : ℕ) (c : Cursor) {text : Bytes} {p₀ p : List ℕ} {b 
 
       pub head-read
           : {operand payload : ℕ} {to : Cursor} → n ≡ Operand-is.Read operand payload to
-          → Reads-head text p₀ p′ values left c
+          → Reads-head text p p′ values left c
           (Headed-is.Form (record { code = code; operand = operand; payload = payload; place = place }) to)
       head-read {operand} {payload} {to} i =
           let d : Operand-read (begun .behind) code text p′ from operand payload to =

@@ -80,17 +80,16 @@ wants-str : (at : ℕ) (o : Around) → Wants-text (str-text at o) (λ s. litera
 unfolding want-step
 wants-str at o = record { does = λ t. refl }
 
-module _ (c : Cursor) {text : Bytes} {p₀ p : List ℕ} {s : Spelled} (y : Expects-word text (c .at) p₀ p (c .top) s) where
+module _ (c : Cursor) {text : Bytes} {s : Spelled} (y : Expects-word text (c .at) s) where
   pub word-found : {place end : ℕ} → s ≡ Spelled-is.At place end → Found text (c .at) (word (word-in text place end)) place end
   word-found e = subst (Spelled-answer text (c .at)) e (y .answer)
 
   -- ---- N of `it`
 
-  pub index-missing : (bound : ℕ) {place : ℕ} → s ≡ Spelled-is.Missing place → Reads-index text p₀ p bound c (Index-is.Refused place)
+  pub index-missing : (bound : ℕ) {place : ℕ} → s ≡ Spelled-is.Missing place → Reads-index text bound c (Index-is.Refused place)
   index-missing bound e =
       record {
         answer = λ x n at o b. no-word x n (it-index at o) (wants-index at o) (subst (Spelled-answer text (c .at)) e (y .answer));
-        kept = y .kept;
       }
 
   module _ (bound : ℕ) {place end : ℕ} (e : s ≡ Spelled-is.At place end) where
@@ -116,7 +115,7 @@ module _ (c : Cursor) {text : Bytes} {p₀ p : List ℕ} {s : Spelled} (y : Expe
 
     pub index-wrong
         : {i : Slot} → Slot-answer bound (word-in text place end) i → i ≡ Slot-is.Nothing
-        → Reads-index text p₀ p bound c (Index-is.Refused place)
+        → Reads-index text bound c (Index-is.Refused place)
     unfolding stepped
     index-wrong z f =
         let none-there : index-of bound (word-in text place end) ≡ none = subst (Slot-answer bound (word-in text place end)) f z in
@@ -124,12 +123,11 @@ module _ (c : Cursor) {text : Bytes} {p₀ p : List ℕ} {s : Spelled} (y : Expe
           answer = λ x n at o b.
               word-misplaced x n (it-index at o) (wants-index at o) (word-found e)
               (step-is at o b ∙ ap (λ (m : Option ℕ). stepped m at o) none-there);
-          kept = y .kept;
         }
 
     pub index-right
         : {i : Slot} {k : ℕ} → Slot-answer bound (word-in text place end) i → i ≡ Slot-is.Of k
-        → Reads-index text p₀ p bound c (Index-is.Read k (ahead-to c end))
+        → Reads-index text bound c (Index-is.Read k (ahead-to c end))
     unfolding stepped
     index-right {k} z f =
         let found = subst (Slot-answer bound (word-in text place end)) f z in
@@ -147,16 +145,14 @@ module _ (c : Cursor) {text : Bytes} {p₀ p : List ℕ} {s : Spelled} (y : Expe
                 ahead = omega (arith, word-found e .from, word-found e .ahead);
                 within = word-found e .within;
               };
-          kept = y .kept;
         }
 
   -- ---- K of `when`
 
-  pub test-missing : {place : ℕ} → s ≡ Spelled-is.Missing place → Reads-test text p₀ p c (Operand-is.Refused place)
+  pub test-missing : {place : ℕ} → s ≡ Spelled-is.Missing place → Reads-test text c (Operand-is.Refused place)
   test-missing e =
       record {
-        answer = λ x n at o. no-word x n (when-test at o) (wants-test at o) (subst (Spelled-answer text (c .at)) e (y .answer));
-        kept = y .kept;
+        answer = λ p x n at o. no-word x n (when-test at o) (wants-test at o) (subst (Spelled-answer text (c .at)) e (y .answer));
       }
 
   module _ {place end k : ℕ} (e : s ≡ Spelled-is.At place end) (z : k ≡ test-or-none (look-word test-words (word-in text place end))) where
@@ -170,14 +166,13 @@ module _ (c : Cursor) {text : Bytes} {p₀ p : List ℕ} {s : Spelled} (y : Expe
     test-code-lt Test.list = omega arith
     test-code-lt Test.rec = omega arith
 
-    pub test-wrong : 7 ≤ k → Reads-test text p₀ p c (Operand-is.Refused place)
+    pub test-wrong : 7 ≤ k → Reads-test text c (Operand-is.Refused place)
     unfolding where-some test-or-none
     test-wrong h =
         record {
-          answer = λ x n at o.
+          answer = λ p x n at o.
               word-misplaced x n (when-test at o) (wants-test at o) (word-found e)
               (pick (look-word test-words (word-in text place end)) z at o);
-          kept = y .kept;
         }
       where
         pick : (m : Option Test) → k ≡ test-or-none m → (at : ℕ) (o : Around)
@@ -185,15 +180,15 @@ module _ (c : Cursor) {text : Bytes} {p₀ p : List ℕ} {s : Spelled} (y : Expe
         pick none i at o = refl
         pick (some t) i at o = absurd (let q : ⊥ = omega (arith, test-code-lt t) in q)
 
-    pub test-right : k < 7 → Reads-test text p₀ p c (Operand-is.Read k 0 (ahead-to c end))
+    pub test-right : k < 7 → Reads-test text c (Operand-is.Read k 0 (ahead-to c end))
     unfolding where-some test-or-none after use-code use-operand
-    test-right h = record { answer = pick (look-word test-words (word-in text place end)) refl z; kept = y .kept }
+    test-right h = record { answer = λ p. pick p (look-word test-words (word-in text place end)) refl z }
       where
         pick
-            : (m : Option Test) → look-word test-words (word-in text place end) ≡ m → k ≡ test-or-none m
+            : (p : List ℕ) (m : Option Test) → look-word test-words (word-in text place end) ≡ m → k ≡ test-or-none m
             → Operand-read (λ at o. when-test at o) 10 text p c k 0 (ahead-to c end)
-        pick none f i = absurd (let q : ⊥ = omega arith in q)
-        pick (some t) f i =
+        pick p none f i = absurd (let q : ⊥ = omega arith in q)
+        pick p (some t) f i =
             record {
               half = placing (tests t);
               run = λ x n at o. word-goes x n (when-test at o) (wants-test at o) (word-found e) (rw f);
@@ -208,35 +203,33 @@ module _ (c : Cursor) {text : Bytes} {p₀ p : List ℕ} {s : Spelled} (y : Expe
 
   -- ---- N of `num`
 
-  pub number-missing : {place : ℕ} → s ≡ Spelled-is.Missing place → Reads-number text p₀ p c (Operand-is.Refused place)
+  pub number-missing : {place : ℕ} → s ≡ Spelled-is.Missing place → Reads-number text c (Operand-is.Refused place)
   number-missing e =
       record {
-        answer = λ x n at o. no-word x n (num-number at o) (wants-number at o) (subst (Spelled-answer text (c .at)) e (y .answer));
-        kept = y .kept;
+        answer = λ p x n at o. no-word x n (num-number at o) (wants-number at o) (subst (Spelled-answer text (c .at)) e (y .answer));
       }
 
   module _ {place end : ℕ} (e : s ≡ Spelled-is.At place end) where
     pub number-wrong
-        : {r : WordRead} → Word-answer (word-in text place end) r → r ≡ Word-is.Nothing → Reads-number text p₀ p c (Operand-is.Refused place)
+        : {r : WordRead} → Word-answer (word-in text place end) r → r ≡ Word-is.Nothing → Reads-number text c (Operand-is.Refused place)
     unfolding where-some
     number-wrong z f =
         let none-there : word-number (word-in text place end) ≡ none = subst (Word-answer (word-in text place end)) f z in
         record {
-          answer = λ x n at o. word-misplaced x n (num-number at o) (wants-number at o) (word-found e) (rw none-there);
-          kept = y .kept;
+          answer = λ p x n at o. word-misplaced x n (num-number at o) (wants-number at o) (word-found e) (rw none-there);
         }
 
     pub number-right
         : {r : WordRead} {negative : Bool} {coefficient scale bits : ℕ} → Word-answer (word-in text place end) r
         → r ≡ Word-is.Number negative coefficient scale → bits ≡ sign-bit negative + 2 * scale
-        → Reads-number text p₀ p c (Operand-is.Read bits coefficient (ahead-to c end))
+        → Reads-number text c (Operand-is.Read bits coefficient (ahead-to c end))
     unfolding where-some literal-step after next literal-code number-bits most-scale
     number-right {negative} {coefficient} {scale} z f g =
         let means : Word-means (word-in text place end) (as-number negative coefficient scale) =
         subst (Word-answer (word-in text place end)) f z
         in
         record {
-          answer =
+          answer = λ p.
               record {
                 half = bare (Lead.saying (Value.number (as-number negative coefficient scale)));
                 run = λ x n at o.
@@ -253,7 +246,6 @@ module _ (c : Cursor) {text : Bytes} {p₀ p : List ℕ} {s : Spelled} (y : Expe
                 room = omega (arith, word-found e .from, word-found e .ahead);
                 bare = inl refl;
               };
-          kept = y .kept;
         }
 
 pub scale-small
@@ -348,13 +340,14 @@ answer-for {k} {f} text p c r e i a =
     subst (λ (n : ℕ). Operand-answer f n text p c r) (sym e)
     (subst (λ (h : ℕ → Around → Want). Operand-answer h k text p c r) (sym i) a)
 
+module _ (c : Cursor) {text : Bytes} (p : List ℕ) {code : ℕ} where
+  pub test-operand : {r : Operand} → Reads-test text c r → code ≡ 10 → Reads-operand text p p code c r
+  test-operand {r} y e = record { answer = λ f s. answer-for text p c r e (when-started s e) (y .answer p); kept = record { size = refl; front = refl } }
+
+  pub number-operand : {r : Operand} → Reads-number text c r → code ≡ 12 → Reads-operand text p p code c r
+  number-operand {r} y e = record { answer = λ f s. answer-for text p c r e (num-started s e) (y .answer p); kept = record { size = refl; front = refl } }
+
 module _ (c : Cursor) {text : Bytes} {p₀ p : List ℕ} {code : ℕ} where
-  pub test-operand : {r : Operand} → Reads-test text p₀ p c r → code ≡ 10 → Reads-operand text p₀ p code c r
-  test-operand {r} y e = record { answer = λ f s. answer-for text p c r e (when-started s e) (y .answer); kept = y .kept }
-
-  pub number-operand : {r : Operand} → Reads-number text p₀ p c r → code ≡ 12 → Reads-operand text p₀ p code c r
-  number-operand {r} y e = record { answer = λ f s. answer-for text p c r e (num-started s e) (y .answer); kept = y .kept }
-
   pub str-refused
       : {n : Name} {place : ℕ} → Reads-text text p₀ p c n → n ≡ Name-is.Refused place → code ≡ 13
       → Reads-operand text p₀ p code c (Operand-is.Refused place)

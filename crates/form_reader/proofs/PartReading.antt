@@ -15,7 +15,6 @@ use Rattle.nodes.specs.Nodes.{reference}
 use Rattle.forms.specs.Forms.{Pair-rows, Pairs-stand, Pairs-held}
 use Rattle.tokens.specs.TokenRead.{Found}
 use Rattle.tokens.specs.Expecting.{a-closing, a-text, sort, Lacks, Bracket-answer, Expects-closing, Quoted-answer, Expects-text}
-use Rattle.tokens.specs.ReadingLaws.{kept-then}
 use Rattle.tokens.specs.declared.expect.Bracket.{Bracket}
 use Rattle.tokens.specs.declared.expect.Bracket.the-variants as Bracket-is
 use Rattle.tokens.specs.declared.expect.Quotation.{Quotation}
@@ -26,11 +25,9 @@ use Rattle.form_reader.specs.declared.reading.Part.the-variants.{Done, R
 use Rattle.form_reader.specs.declared.parts.Turn.{Turn}
 use Rattle.form_reader.specs.declared.parts.Turn.the-variants.{More, Stop}
 use Rattle.form_reader.specs.FormLeads.{Lead, lead-code, named, inner-bound, next, Filled, packed, whole}
-use Rattle.tokens.specs.Expecting.{Text-placed}
 use Rattle.form_reader.specs.FormParts.{Job, reading, Closes-at, Close-answer, Closes-form, So-far, debt, Turn-is, Pairs-known}
 use Rattle.form_reader.specs.FormParts.{Pair-turns, Parts-known, Turns}
 use Rattle.form_reader.proofs.Steps.{goes-on, misplaced-found, no-pair}
-use Rattle.tokens.specs.ReadingLaws.{placed-further}
 use Rattle.form_reader.proofs.OperandReading.{quoted-refers, text-found}
 use Rattle.form_reader.proofs.LeadLaws.{next-frame, next-close, parts-in-order, among-in-order, pack-lead}
 
@@ -141,16 +138,13 @@ module _ (first : ℕ) (c : Cursor) {text : Bytes} {forms p₀ : List ℕ} (k₀
       lacks-text : Lacks a-text text (c .at) place
       lacks-text = subst (Quoted-answer text (c .at) p (c .top)) e (y .answer)
 
-      pub end-room : Text-placed text p (c .at) (c .top)
-      end-room = placed-further (k₀ .placed) (y .kept) (omega arith) (k₀ .placed .within)
-
-      module _ {p′ : List ℕ} {b : Bracket} (z : Expects-closing text (c .at) p p′ (c .top) b) where
+      module _ {b : Bracket} (z : Expects-closing text (c .at) b) where
         pub pack-end : {at : ℕ} → b ≡ Bracket-is.At at → Found text (c .at) closing at (at + 1)
         pack-end i = subst (Bracket-answer a-closing closing text (c .at)) i (z .answer)
 
         pub pack-closed
             : {at : ℕ} → b ≡ Bracket-is.At at
-            → Pair-turns text forms p₀ p′ first c (Stop (Done (record { at = at + 1; begun = c .begun; top = c .top })))
+            → Pair-turns text forms p₀ p first c (Stop (Done (record { at = at + 1; begun = c .begun; top = c .top })))
         unfolding next want-step pack-step whole at-place
         pack-closed i =
             let f = pack-end i in
@@ -164,19 +158,19 @@ module _ (first : ℕ) (c : Cursor) {text : Bytes} {forms p₀ : List ℕ} (k₀
                     further = omega (arith, f .from);
                     within = f .within;
                   };
-              kept = kept-then (y .kept) (z .kept);
+              kept = y .kept;
             }
 
         pub pack-open
-            : {at : ℕ} {t : Turn} → b ≡ Bracket-is.Missing at → t ≡ Stop (Refused 7 at) → Pair-turns text forms p₀ p′ first c t
+            : {at : ℕ} {t : Turn} → b ≡ Bracket-is.Missing at → t ≡ Stop (Refused 7 at) → Pair-turns text forms p₀ p first c t
         unfolding next want-step at-place
         pack-open i j =
-            subst (Pair-turns text forms p₀ p′ first c) (sym j)
+            subst (Pair-turns text forms p₀ p first c) (sym j)
             (record {
               answer = λ ps s x m at o.
                   no-pair x m text (c .at) (pack-name at ps o) lacks-text (subst (Bracket-answer a-closing closing text (c .at)) i (z .answer))
                   (λ t v h g. no-step at ps o t h g);
-              kept = kept-then (y .kept) (z .kept);
+              kept = y .kept;
             })
 
 -- ---- any result
@@ -230,8 +224,8 @@ module _ (code more first : ℕ) (c : Cursor) {text : Bytes} {forms p₀ : List 
       }
 
   pub part-end
-      : {p : List ℕ} (r : Part) → (code ≡ 17 → ⊥) → more ≤ 0 → Closes-form text p₀ p c r → Turns text forms p₀ p code more first c (Stop r)
-  part-end {p} r e i y = record { answer = λ lead ps d f s. pick lead ps d f r (y .answer); kept = y .kept }
+      : (r : Part) → (code ≡ 17 → ⊥) → more ≤ 0 → Closes-form text c r → Turns text forms p₀ p₀ code more first c (Stop r)
+  part-end r e i y = record { answer = λ lead ps d f s. pick lead ps d f r (y .answer); kept = record { size = refl; front = refl } }
     where
       none-left : more ≡ 0
       none-left = omega arith
@@ -244,7 +238,7 @@ module _ (code more first : ℕ) (c : Cursor) {text : Bytes} {forms p₀ : List 
 
       pick
           : (lead : Lead) (ps : Pairs) → lead-code lead ≡ code → Filled lead ps more → (r′ : Part) → Close-answer text c r′
-          → Turn-is lead ps text p c (Stop r′)
+          → Turn-is lead ps text p₀ c (Stop r′)
       pick lead ps d f (Done to) z =
           record {
             run = λ x m at o.

@@ -14,7 +14,6 @@ use Rattle.forms.specs.Forms.{place-code, place-at, head-of, Place-rows, it-row
 use Rattle.forms.specs.FormsLaws.{length-place-rows}
 use Rattle.tokens.specs.TokenRead.{word-in}
 use Rattle.tokens.specs.Expecting.{Kept}
-use Rattle.tokens.specs.ReadingLaws.{kept-then}
 use Rattle.form_reader.specs.declared.reading.Cursor.{Cursor}
 use Rattle.form_reader.specs.declared.reading.Part.{Part}
 use Rattle.form_reader.specs.declared.reading.Part.the-variants.{Done, Refused}
@@ -32,7 +31,7 @@ use Rattle.form_reader.specs.FormParts.{Reads-index, Text-read, Text-ans
 use Rattle.form_reader.specs.FormParts.{Reads-field, Reads-place}
 use Rattle.form_reader.proofs.Steps.{word-goes, word-misplaced, text-goes, no-text}
 use Rattle.nodes.specs.RowLaws.{with-row, length-with-row, row-put}
-use Rattle.form_reader.proofs.PoolGrowth.{refers-later, place-rows-later, kept-before}
+use Rattle.form_reader.proofs.PoolGrowth.{refers-later, kept-before}
 
 -- ---- what may stand there
 
@@ -67,16 +66,16 @@ ready-placed r =
 -- ---- `it`
 
 module _
-    (values bound place : ℕ) (c : Cursor) {text : Bytes} {forms p₀ p : List ℕ} {i : Index} (b : Behind-bracket text forms p₀ values bound place c)
-    (y : Reads-index text p₀ p bound c i) where
-  same-forms : (q : List ℕ) → length q ≡ length p₀ → Sized forms p₀ forms q
-  same-forms q e = record { forms-kept = refl; pool-kept = e }
+    (values bound place : ℕ) (c : Cursor) {text : Bytes} {forms p : List ℕ} {i : Index} (b : Behind-bracket text forms p values bound place c)
+    (y : Reads-index text bound c i) where
+  same-forms : Sized forms p forms p
+  same-forms = record { forms-kept = refl; pool-kept = refl }
 
-  pub index-refused : {at : ℕ} → i ≡ Index-is.Refused at → Reads-it values bound text forms p₀ forms p place c (Refused 7 at)
+  pub index-refused : {at : ℕ} → i ≡ Index-is.Refused at → Reads-it values bound text forms p forms p place c (Refused 7 at)
   index-refused {at} e =
       record {
         answer = λ left x o w. subst (Index-answer text bound c) e (y .answer) x (c .begun) place o (w .bindings);
-        sized = same-forms p (y .kept .size);
+        sized = same-forms;
       }
 
   module _ {s : ℕ} {mid : Cursor} (e : i ≡ Index-is.Read s mid) where
@@ -89,23 +88,20 @@ module _
         record {
           short = r .short;
           within = index .within;
-          texts = omega (arith, r .texts, index .ahead, index .top, y .kept .size);
+          texts = omega (arith, r .texts, index .ahead, index .top);
           small = omega (arith, r .small, index .ahead, index .top);
         }
 
-    module _ {p′ : List ℕ} {r : Part} (z : Closes-form text p p′ mid r) where
-      both-kept : Kept p₀ p′ (c .top)
-      both-kept = kept-before (y .kept) (z .kept) (omega (arith, index .top))
-
-      pub it-open : {number at : ℕ} → r ≡ Refused number at → Reads-it values bound text forms p₀ forms p′ place c r
+    module _ {r : Part} (z : Closes-form text mid r) where
+      pub it-open : {number at : ℕ} → r ≡ Refused number at → Reads-it values bound text forms p forms p place c r
       it-open {number} {at} f =
-          subst (Reads-it values bound text forms p₀ forms p′ place c) (sym f)
+          subst (Reads-it values bound text forms p forms p place c) (sym f)
           (record {
             answer = λ left x o w.
                 index .run x (c .begun) place o (w .bindings)
                 ∙ subst (Close-answer text mid) f (z .answer) x (c .begun) (Want.place-close (Place.it place (index .index)) o)
                 (put-place (Place.it place (index .index)) o) (closes-place (Place.it place (index .index)) o);
-            sized = same-forms p′ (z .kept .size ∙ y .kept .size);
+            sized = same-forms;
           })
 
       pub it-row-room : 3 * (c .begun - 1) + 3 ≤ length forms
@@ -113,13 +109,13 @@ module _
 
       pub it-read
           : {to : Cursor} {forms′ : List ℕ} → r ≡ Done to → forms′ ≡ with-row forms (c .begun - 1) (head-of 1 0 place 3) s 0
-          → Reads-it values bound text forms p₀ forms′ p′ place c r
+          → Reads-it values bound text forms p forms′ p place c r
       unfolding place-code place-at place-forms
       it-read {to} {forms′} f g =
           let closed : Closed text mid to = subst (Close-answer text mid) f (z .answer) in
           let q = Place.it place (index .index) in
           let here : to .begun ≡ suc (c .begun - 1) = omega (arith, b .begun, closed .begun, index .begun) in
-          subst (Reads-it values bound text forms p₀ forms′ p′ place c) (sym f)
+          subst (Reads-it values bound text forms p forms′ p place c) (sym f)
           (record {
             answer = λ left.
                 record {
@@ -130,7 +126,7 @@ module _
                       ∙ ap (λ (n : ℕ). reading x n text (put-place q o) (to .at)) (sym (closed .begun ∙ index .begun));
                   rows = head-of 1 0 place 3 ∷ s ∷ 0 ∷ [];
                   held =
-                      subst (λ (k : ℕ). Place-rows (take (to .top) p′) bound q (head-of 1 0 place 3 ∷ k ∷ 0 ∷ [])) (sym (index .slotted))
+                      subst (λ (k : ℕ). Place-rows (take (to .top) p) bound q (head-of 1 0 place 3 ∷ k ∷ 0 ∷ [])) (sym (index .slotted))
                       (it-row (record { word = refl; short = omega arith; near = b .near }) (index .bounded));
                   goes =
                       record {
@@ -140,7 +136,7 @@ module _
                             (ap (λ (n : ℕ). take (3 * n) forms) here ∙ sym (append-nil (take (3 * suc (c .begun - 1)) forms)));
                         counted = omega (arith, here);
                         limit = omega (arith, closed .begun, index .begun, b .ready .limit);
-                        kept = both-kept;
+                        kept = record { size = refl; front = refl };
                       };
                   ahead = omega (arith, index .ahead, closed .further);
                   within = closed .within;
@@ -150,7 +146,7 @@ module _
             sized =
                 record {
                   forms-kept = ap length g ∙ length-with-row forms (c .begun - 1) (head-of 1 0 place 3) s 0 it-row-room;
-                  pool-kept = z .kept .size ∙ y .kept .size;
+                  pool-kept = refl;
                 };
           })
 
@@ -239,7 +235,7 @@ module _
             ready-at bound behind field-ready (z .sized) (inner .within) (inner .goes .limit)
             (omega (arith, field-ready .shallow, inner .goes .counted)) (omega (arith, inner .room))
 
-        module _ {p″ : List ℕ} {r : Part} (v : Closes-form text p′ p″ behind r) where
+        module _ {r : Part} (v : Closes-form text behind r) where
           -- the bracket behind it must come
           to-end
               : (x : Job) (o : Place-around) → Place-within x o values (suc left) bound
@@ -252,13 +248,13 @@ module _
           whole-place : Place
           whole-place = Place.field place (name .bytes) (inner .place)
 
-          pool-size : length p″ ≡ length p₀
-          pool-size = v .kept .size ∙ z .sized .pool-kept ∙ y .kept .size
+          pool-size : length p′ ≡ length p₀
+          pool-size = z .sized .pool-kept ∙ y .kept .size
 
-          pub field-open : {number at : ℕ} → r ≡ Refused number at → Reads-field left values bound text forms p₀ forms′ p″ place c r
+          pub field-open : {number at : ℕ} → r ≡ Refused number at → Reads-field left values bound text forms p₀ forms′ p′ place c r
           unfolding whole-place
           field-open g =
-              subst (Reads-field left values bound text forms p₀ forms′ p″ place c) (sym g)
+              subst (Reads-field left values bound text forms p₀ forms′ p′ place c) (sym g)
               (record {
                 answer = λ x o w.
                     to-end x o w
@@ -288,10 +284,10 @@ module _
             head : ℕ
             head = head-of 2 0 place size
 
-            held : Place-rows (take (to .top) p″) bound whole-place (head ∷ k ∷ 0 ∷ inner .rows)
+            held : Place-rows (take (to .top) p′) bound whole-place (head ∷ k ∷ 0 ∷ inner .rows)
             unfolding place-code place-at place-forms whole-place head size
             held =
-                let later : Kept p p″ (from .top) = kept-before (inner .goes .kept) (v .kept) (inner .grows) in
+                let later : Kept p p′ (from .top) = inner .goes .kept in
                 let sized : size ≡ 3 * place-forms whole-place =
                 omega (arith, length-place-rows (inner .held), inner .goes .counted, closed .begun, name .begun, b .begun)
                 in
@@ -302,11 +298,11 @@ module _
                   near = b .near;
                 })
                 (refers-later later (to .top) (omega (arith, inner .grows, closed .top)) (name .refers))
-                (place-rows-later (v .kept) (to .top) (omega (arith, closed .top)) (inner .held))
+                (subst (λ (n : ℕ). Place-rows (take n p′) bound (inner .place) (inner .rows)) (sym (closed .top)) (inner .held))
 
             pub field-read
                 : {forms″ : List ℕ} → forms″ ≡ with-row forms′ (c .begun - 1) (head-of 2 0 place (3 * to .begun - 3 * (c .begun - 1))) k 0
-                → Reads-field left values bound text forms p₀ forms″ p″ place c (Done to)
+                → Reads-field left values bound text forms p₀ forms″ p′ place c (Done to)
             unfolding whole-place head size
             field-read {forms″} h =
                 let here : c .begun ≡ suc (c .begun - 1) = omega (arith, b .begun) in
@@ -334,8 +330,7 @@ module _
                               counted = omega (arith, here, closed .begun, name .begun, inner .goes .counted);
                               limit = omega (arith, closed .begun, inner .goes .limit);
                               kept =
-                                  kept-before (kept-before (y .kept) (inner .goes .kept) (name .grows)) (v .kept)
-                                  (omega (arith, name .grows, inner .grows));
+                                  kept-before (y .kept) (inner .goes .kept) (name .grows);
                             };
                         ahead = omega (arith, name .found .from, name .found .ahead, inner .ahead, closed .further);
                         within = closed .within;
@@ -368,17 +363,17 @@ none-said (says-field e) i j = absurd (j refl)
 none-said (says-no-place e) i j = e
 
 module _
-    (left : ℕ) {values bound : ℕ} (c : Cursor) {text : Bytes} {forms p₀ p : List ℕ} {b : Begun} (r₀ : Ready text forms p₀ values bound c)
-    (y : Begins-form text p₀ p values left c b) where
+    (left : ℕ) {values bound : ℕ} (c : Cursor) {text : Bytes} {forms p : List ℕ} {b : Begun} (r₀ : Ready text forms p values bound c)
+    (y : Begins-form text values left c b) where
   pub begin-refused
       : {number place : ℕ} → b ≡ Begun-is.Refused number place
-      → Reads-place left values bound text forms p₀ forms p c (Refused number place)
+      → Reads-place left values bound text forms p forms p c (Refused number place)
   begin-refused e =
       record {
         answer = λ x o w.
             subst (Begun-answer text values left c) e (y .answer) x (place-open o) (place-depth o) (λ q. place-word q o)
             (λ q v. where-some (look-word place-words v) (λ f. go (want (f q o)))) (opens-place o) (λ q. wants-place q o) (w .limited);
-        sized = record { forms-kept = refl; pool-kept = y .kept .size };
+        sized = record { forms-kept = refl; pool-kept = refl };
       }
 
   module _ {place at end : ℕ} (e : b ≡ Begun-is.Word place at end) where
@@ -401,12 +396,12 @@ module _
                 few = r₀ .few;
                 limit = omega (arith, worded .bracket .begun);
                 shallow = omega (arith, r₀ .shallow);
-                texts = omega (arith, r₀ .texts, y .kept .size);
+                texts = omega (arith, r₀ .texts);
                 small = omega (arith, r₀ .small);
               };
           begun = omega arith;
           near = omega (arith, worded .bracket .within, r₀ .short);
-          spare = omega (arith, r₀ .texts, y .kept .size);
+          spare = omega (arith, r₀ .texts);
           spare-small = omega (arith, r₀ .small);
         }
 
@@ -428,21 +423,21 @@ module _
 
     pub no-place
         : {k : ℕ} → Place-says (word-in text at end) k → (k ≡ 1 → ⊥) → (k ≡ 2 → ⊥)
-        → Reads-place left values bound text forms p₀ forms p c (Refused 7 at)
+        → Reads-place left values bound text forms p forms p c (Refused 7 at)
     unfolding where-some
     no-place s i j =
         record {
           answer = λ x o w.
               to-word x o w
               ∙ word-misplaced x (suc (c .begun)) (place-word place o) (wants-place place o) (worded .found) (rw (none-said s i j));
-          sized = record { forms-kept = refl; pool-kept = y .kept .size };
+          sized = record { forms-kept = refl; pool-kept = refl };
         }
 
     -- what is read behind the word is what is read from the bracket on
     onward
         : (forms′ p′ : List ℕ) (f : ℕ → Place-around → Want) → look-word place-words (word-in text at end) ≡ some f → (r : Part)
         → Place-answer (λ o. f place o) left values bound text forms p forms′ p′ (inside .begun - 1) inside r
-        → Place-answer (λ o. place-open o) left values bound text forms p₀ forms′ p′ (c .begun) c r
+        → Place-answer (λ o. place-open o) left values bound text forms p forms′ p′ (c .begun) c r
     unfolding inside
     onward forms′ p′ f g (Done to) d =
         let first : inside .begun - 1 ≡ c .begun = omega arith in
@@ -456,7 +451,7 @@ module _
                 table = d .goes .table ∙ ap (λ (n : ℕ). take (3 * n) forms ++ d .rows) first;
                 counted = omega (arith, d .goes .counted, first);
                 limit = d .goes .limit;
-                kept = kept-then (y .kept) (d .goes .kept);
+                kept = d .goes .kept;
               };
           ahead = omega (arith, d .ahead, worded .bracket .ahead, worded .found .from, worded .found .ahead);
           within = d .within;
@@ -469,18 +464,18 @@ module _
     module _ {forms′ p′ : List ℕ} {k : ℕ} {r : Part} (s : Place-says (word-in text at end) k) where
       pub it-placed
           : k ≡ 1 → Reads-it values bound text forms p forms′ p′ place (record { at = end; begun = c .begun + 1; top = c .top }) r
-          → Reads-place left values bound text forms p₀ forms′ p′ c r
+          → Reads-place left values bound text forms p forms′ p′ c r
       unfolding inside
       it-placed i d =
           record {
             answer = onward forms′ p′ (λ q o. it-index q o) (it-said s i) r (d .answer left);
-            sized = record { forms-kept = d .sized .forms-kept; pool-kept = d .sized .pool-kept ∙ y .kept .size };
+            sized = d .sized;
           }
 
       pub field-placed
           : k ≡ 2
           → Reads-field (left - 1) values bound text forms p forms′ p′ place (record { at = end; begun = c .begun + 1; top = c .top }) r
-          → Reads-place left values bound text forms p₀ forms′ p′ c r
+          → Reads-place left values bound text forms p forms′ p′ c r
       unfolding inside
       field-placed i d =
           let deep : suc (left - 1) ≡ left = omega (arith, worded .bracket .nested) in
@@ -490,5 +485,5 @@ module _
                 (subst
                 (λ (n : ℕ). Place-answer (λ o. field-name place o) n values bound text forms p forms′ p′ (inside .begun - 1) inside r)
                 deep (d .answer));
-            sized = record { forms-kept = d .sized .forms-kept; pool-kept = d .sized .pool-kept ∙ y .kept .size };
+            sized = d .sized;
           }

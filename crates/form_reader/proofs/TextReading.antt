@@ -1,15 +1,16 @@
 -- Answers for a whole reader, and for a place alone. Assumes nothing.
 use Prim.Native.Nat.{ℕ, _+_, _*_, _≤_}
 use mathlib.Core.Path.{_≡_, refl, sym, _∙_, subst}
-use mathlib.Core.List.{List, [], _∷_}
+use mathlib.Core.List.{List}
 use native.Mathlib.Omega.{arith}
 use lib.ListN.{length, take}
 use Rattle.definitions.specs.declared.Limits.{Limits}
 use Rattle.definitions.specs.Bytes.{Bytes}
-use Rattle.definitions.specs.Tokens.{Placed, tokens, read-tokens, or-end}
+use Rattle.definitions.specs.Tokens.{tokens, or-end}
 use Rattle.definitions.specs.Reader.{text-end, place-end, place-open, result-open, want, whole-place, whole-result, put-place, put-result, depth}
-use Rattle.definitions.specs.Reader.{place-depth, bindings, place-bindings, step, finished-result, finished-place, empty-reader, read-result}
+use Rattle.definitions.specs.Reader.{place-depth, bindings, place-bindings, step, finished-result, finished-place}
 use Rattle.definitions.specs.Reader.{read-reader, read-place}
+use Rattle.laws.specs.ReaderForms.{result-from-start}
 use Rattle.forms.specs.Forms.{Place-rows, Form-rows}
 use Rattle.forms.specs.FormsLaws.{length-place-rows, length-form-rows}
 use Rattle.tokens.specs.TokenRead.{tokens-from}
@@ -24,7 +25,6 @@ use Rattle.form_reader.specs.declared.FormsRead.the-variants as Forms-ar
 use Rattle.form_reader.specs.FormParts.{a-reader, a-place, finished, Job, reading, Within, Place-within, Ready, Place-done, Place-answer}
 use Rattle.form_reader.specs.FormParts.{Reads-place, Result-done, Result-answer, Reads-result}
 use Rattle.form_reader.specs.FormReads.{Tables, Pool-used, Reads-reader, Reads-lone-place}
-use Rattle.form_reader.proofs.PoolGrowth.{kept-before}
 use Rattle.form_reader.proofs.PlaceReading.{ready-at}
 
 -- where a text begins
@@ -48,25 +48,18 @@ start-ready t =
 
 -- what of the pool is used behind a whole text
 pool-used
-    : {text : Bytes} {s p p′ p″ : List ℕ} {top values : ℕ} (to : Cursor) → Ready text s p′ values 1 to → Kept p p′ top → Kept p′ p″ (to .top)
-    → top ≤ to .top → 8 * to .top ≤ to .at + 5 * to .begun + 8 * top → Pool-used text p p″ top (3 * to .begun) (to .top)
-pool-used to r k m g h =
+    : {text : Bytes} {s p p′ : List ℕ} {top values : ℕ} (to : Cursor) → Ready text s p′ values 1 to → Kept p p′ top → top ≤ to .top
+    → 8 * to .top ≤ to .at + 5 * to .begun + 8 * top → Pool-used text p p′ top (3 * to .begun) (to .top)
+pool-used to r k g h =
     record {
       grows = g;
       bounded = omega (arith, h, r .within);
-      within = omega (arith, r .texts, r .within, r .limit, m .size);
+      within = omega (arith, r .texts, r .within, r .limit);
       small = omega (arith, r .small, r .within, r .limit);
-      front = kept-before k m g .front;
+      front = k .front;
     }
 
 -- ---- readers
-
--- a text with no token is refused as one that ends too soon is
-same-result
-    : (l : Limits) (end : ℕ) (ts : List Placed) → read-result l end ts ≡ read-tokens step finished-result l 0 end (want (result-open text-end)) ts
-unfolding read-result empty-reader read-tokens or-end finished-result
-same-result l end [] = refl
-same-result l end (t ∷ ts) = refl
 
 abbrev reader-job : Limits → Job
 reader-job l = record { aim = a-reader; limits = l }
@@ -75,7 +68,7 @@ module _ (l : Limits) (text : Bytes) where
   -- the whole text is read from its first place on
   reader-begins : read-reader l text ≡ reading (reader-job l) 0 text (want (result-open text-end)) 0
   unfolding read-reader reading tokens tokens-from finished
-  reader-begins = same-result l (length text) (tokens text)
+  reader-begins = result-from-start l (length text) (tokens text)
 
   reader-limits : Within (reader-job l) text-end (l .values) (l .nesting) 1
   unfolding depth bindings
@@ -108,9 +101,9 @@ module _
     unfolding put-result
     to-reader-end = reader-begins l text ∙ reader-done .run (reader-job l) text-end (reader-limits l text)
 
-    module _ {p″ : List ℕ} {k : Ending} (y : Expects-end text (to .at) p′ p″ (to .top) k) where
+    module _ {k : Ending} (y : Expects-end text (to .at) k) where
       pub reader-more
-          : {place : ℕ} → k ≡ Ending-is.More place → Reads-reader l text s p s′ p″ top (Forms-are.Refused 7 place)
+          : {place : ℕ} → k ≡ Ending-is.More place → Reads-reader l text s p s′ p′ top (Forms-are.Refused 7 place)
       unfolding reading step
       reader-more i =
           record {
@@ -119,11 +112,11 @@ module _
                 ∙ Laws.more-text step (finished a-reader) l (to .begun) (whole-result (reader-done .form))
                 (subst (End-answer text (to .at)) i (y .answer)) (λ u. refl);
             forms-kept = x .sized .forms-kept;
-            pool-kept = y .kept .size ∙ x .sized .pool-kept;
+            pool-kept = x .sized .pool-kept;
           }
 
       pub reader-whole
-          : k ≡ Ending-is.Whole → Reads-reader l text s p s′ p″ top (Forms-are.Read (3 * to .begun) (to .top))
+          : k ≡ Ending-is.Whole → Reads-reader l text s p s′ p′ top (Forms-are.Read (3 * to .begun) (to .top))
       unfolding reading or-end finished finished-result
       reader-whole i =
           let d = reader-done in
@@ -137,13 +130,12 @@ module _
                       ∙ Laws.whole-text step (finished a-reader) l (to .begun) text (to .at) (whole-result (d .form))
                       (subst (End-answer text (to .at)) i (y .answer));
                   held =
-                      subst (λ (q : List ℕ). Form-rows q 1 0 (d .form) (take (3 * to .begun) s′)) (sym (y .kept .front))
-                      (subst (λ (q : List ℕ). Form-rows (take (to .top) p′) 1 0 (d .form) q) (sym rows-are) (d .held));
+                      subst (λ (q : List ℕ). Form-rows (take (to .top) p′) 1 0 (d .form) q) (sym rows-are) (d .held);
                   counted = omega (arith, d .goes .counted, length-form-rows (d .held));
-                  used = pool-used to reader-end (d .goes .kept) (y .kept) (d .grows) (omega (arith, d .room));
+                  used = pool-used to reader-end (d .goes .kept) (d .grows) (omega (arith, d .room));
                 };
             forms-kept = x .sized .forms-kept;
-            pool-kept = y .kept .size ∙ x .sized .pool-kept;
+            pool-kept = x .sized .pool-kept;
           }
 
 -- ---- a place alone
@@ -188,9 +180,9 @@ module _
     unfolding put-place
     to-place-end = place-begins l text ∙ place-done .run (place-job l) place-end (place-limits l text)
 
-    module _ {p″ : List ℕ} {k : Ending} (y : Expects-end text (to .at) p′ p″ (to .top) k) where
+    module _ {k : Ending} (y : Expects-end text (to .at) k) where
       pub place-more
-          : {place : ℕ} → k ≡ Ending-is.More place → Reads-lone-place l text s p s′ p″ top (Forms-are.Refused 7 place)
+          : {place : ℕ} → k ≡ Ending-is.More place → Reads-lone-place l text s p s′ p′ top (Forms-are.Refused 7 place)
       unfolding reading step
       place-more i =
           record {
@@ -199,11 +191,11 @@ module _
                 ∙ Laws.more-text step (finished a-place) l (to .begun) (whole-place (place-done .place))
                 (subst (End-answer text (to .at)) i (y .answer)) (λ u. refl);
             forms-kept = x .sized .forms-kept;
-            pool-kept = y .kept .size ∙ x .sized .pool-kept;
+            pool-kept = x .sized .pool-kept;
           }
 
       pub place-whole
-          : k ≡ Ending-is.Whole → Reads-lone-place l text s p s′ p″ top (Forms-are.Read (3 * to .begun) (to .top))
+          : k ≡ Ending-is.Whole → Reads-lone-place l text s p s′ p′ top (Forms-are.Read (3 * to .begun) (to .top))
       unfolding reading or-end finished finished-place
       place-whole i =
           let d = place-done in
@@ -217,11 +209,10 @@ module _
                       ∙ Laws.whole-text step (finished a-place) l (to .begun) text (to .at) (whole-place (d .place))
                       (subst (End-answer text (to .at)) i (y .answer));
                   held =
-                      subst (λ (q : List ℕ). Place-rows q 1 (d .place) (take (3 * to .begun) s′)) (sym (y .kept .front))
-                      (subst (λ (q : List ℕ). Place-rows (take (to .top) p′) 1 (d .place) q) (sym rows-are) (d .held));
+                      subst (λ (q : List ℕ). Place-rows (take (to .top) p′) 1 (d .place) q) (sym rows-are) (d .held);
                   counted = omega (arith, d .goes .counted, length-place-rows (d .held));
-                  used = pool-used to place-end-ready (d .goes .kept) (y .kept) (d .grows) (omega (arith, d .room));
+                  used = pool-used to place-end-ready (d .goes .kept) (d .grows) (omega (arith, d .room));
                 };
             forms-kept = x .sized .forms-kept;
-            pool-kept = y .kept .size ∙ x .sized .pool-kept;
+            pool-kept = x .sized .pool-kept;
           }

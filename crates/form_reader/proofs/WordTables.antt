@@ -12,7 +12,6 @@ use Rattle.definitions.specs.Value.{Value}
 use Rattle.definitions.specs.Reader.{to-int, to-dec, to-bool, to-text, Test, Result, no-pairs, if-first, Around, in-form, Place-use, converts, keeps}
 use Rattle.definitions.specs.Reader.{counts, maps, tests, in-result, Want, place-open, it-index, field-name, result-open, when-test, num-number}
 use Rattle.definitions.specs.Reader.{str-text, pack-name, result-close, test-words, place-words, result-words}
-use Rattle.laws.specs.Names.{same-eq}
 use Rattle.forms.specs.Forms.{conversion-code, test-code}
 use Rattle.form_reader.specs.FormWords.{test-or-none, Place-says, says-it, says-field, says-no-place, use-code, Started, starts-use}
 use Rattle.form_reader.specs.FormWords.{starts-when, starts-if, starts-num, starts-str, starts-yes, starts-no, starts-none, starts-pack}
@@ -23,7 +22,7 @@ use Rattle.form_reader.specs.FormWords.{use-words, Use-says, says-use, s
 -- what looking w up gives: it is this word, or not that of the first row, or none
 pub data Looks {A : Type 0} (w : Bytes) : List (Named A) → Option A → Type 0 where
   spelled
-      : {rows : List (Named A)} {o : Option A} (n : Bytes) → same w n ≡ true → look-word rows n ≡ o → Looks w rows o
+      : {rows : List (Named A)} {o : Option A} (n : Bytes) → w ≡ n → look-word rows n ≡ o → Looks w rows o
   past
       : {n : Bytes} {a : A} {rows : List (Named A)} {o : Option A} → same w n ≡ false → Looks w rows o
       → Looks w (named n a ∷ rows) o
@@ -32,7 +31,7 @@ pub data Looks {A : Type 0} (w : Bytes) : List (Named A) → Option A → Type 0
 
 pub looked : {A : Type 0} {w : Bytes} {rows : List (Named A)} {o : Option A} → Looks w rows o → look-word rows w ≡ o
 unfolding look-word
-looked {w} {rows} (spelled n e f) = ap (look-word rows) (same-eq w n e) ∙ f
+looked {w} {rows} (spelled n e f) = ap (look-word rows) e ∙ f
 looked (past e l) = rw (e, look-word) (looked l)
 looked at-end = refl
 looked (found-as e) = e
@@ -40,35 +39,35 @@ looked (found-as e) = e
 -- ---- K
 
 module _ (w : Bytes) where
-  test-row : {t : Test} (n : Bytes) → look-word test-words n ≡ some t → same w n ≡ true → test-code t ≡ test-or-none (look-word test-words w)
+  test-row : {t : Test} (n : Bytes) → look-word test-words n ≡ some t → w ≡ n → test-code t ≡ test-or-none (look-word test-words w)
   unfolding test-or-none
   test-row n f e = sym (ap test-or-none (looked (spelled n e f)))
 
-  pub null-told : same w (bytes "null") ≡ true → 0 ≡ test-or-none (look-word test-words w)
+  pub null-told : w ≡ bytes "null" → 0 ≡ test-or-none (look-word test-words w)
   unfolding look-word test-words bytes same order test-code
   null-told e = test-row {t = Test.null} (bytes "null") refl e
 
-  pub bool-told : same w (bytes "bool") ≡ true → 1 ≡ test-or-none (look-word test-words w)
+  pub bool-told : w ≡ bytes "bool" → 1 ≡ test-or-none (look-word test-words w)
   unfolding look-word test-words bytes same order test-code
   bool-told e = test-row {t = Test.bool} (bytes "bool") refl e
 
-  pub int-told : same w (bytes "int") ≡ true → 2 ≡ test-or-none (look-word test-words w)
+  pub int-told : w ≡ bytes "int" → 2 ≡ test-or-none (look-word test-words w)
   unfolding look-word test-words bytes same order test-code
   int-told e = test-row {t = Test.int} (bytes "int") refl e
 
-  pub num-told : same w (bytes "num") ≡ true → 3 ≡ test-or-none (look-word test-words w)
+  pub num-told : w ≡ bytes "num" → 3 ≡ test-or-none (look-word test-words w)
   unfolding look-word test-words bytes same order test-code
   num-told e = test-row {t = Test.num} (bytes "num") refl e
 
-  pub text-told : same w (bytes "text") ≡ true → 4 ≡ test-or-none (look-word test-words w)
+  pub text-told : w ≡ bytes "text" → 4 ≡ test-or-none (look-word test-words w)
   unfolding look-word test-words bytes same order test-code
   text-told e = test-row {t = Test.text} (bytes "text") refl e
 
-  pub list-told : same w (bytes "list") ≡ true → 5 ≡ test-or-none (look-word test-words w)
+  pub list-told : w ≡ bytes "list" → 5 ≡ test-or-none (look-word test-words w)
   unfolding look-word test-words bytes same order test-code
   list-told e = test-row {t = Test.list} (bytes "list") refl e
 
-  pub rec-told : same w (bytes "rec") ≡ true → 6 ≡ test-or-none (look-word test-words w)
+  pub rec-told : w ≡ bytes "rec" → 6 ≡ test-or-none (look-word test-words w)
   unfolding look-word test-words bytes same order test-code
   rec-told e = test-row {t = Test.rec} (bytes "rec") refl e
 
@@ -86,14 +85,14 @@ it-row : look-word place-words (bytes "it") ≡ some (λ at o. it-index at o)
 unfolding look-word place-words bytes same order
 it-row = refl
 
-pub it-told : (w : Bytes) → same w (bytes "it") ≡ true → Place-says w 1
+pub it-told : (w : Bytes) → w ≡ bytes "it" → Place-says w 1
 it-told w e = says-it (looked (spelled (bytes "it") e it-row))
 
 field-row : look-word place-words (bytes "field") ≡ some (λ at o. field-name at o)
 unfolding look-word place-words bytes same order
 field-row = refl
 
-pub field-told : (w : Bytes) → same w (bytes "field") ≡ true → Place-says w 2
+pub field-told : (w : Bytes) → w ≡ bytes "field" → Place-says w 2
 field-told w e = says-field (looked (spelled (bytes "field") e field-row))
 
 no-place-row : {w : Bytes} → same w (bytes "it") ≡ false → same w (bytes "field") ≡ false → Looks w place-words none
@@ -188,31 +187,31 @@ started-some starts-none = omega arith
 started-some starts-pack = omega arith
 
 module _ (w : Bytes) where
-  pub int-used : same w (bytes "int") ≡ true → Use-says w 3
+  pub int-used : w ≡ bytes "int" → Use-says w 3
   unfolding use-code conversion-code
   int-used e = says-use {u = converts to-int} (looked (spelled (bytes "int") e int-row)) (omega arith)
 
-  pub dec-used : same w (bytes "dec") ≡ true → Use-says w 4
+  pub dec-used : w ≡ bytes "dec" → Use-says w 4
   unfolding use-code conversion-code
   dec-used e = says-use {u = converts to-dec} (looked (spelled (bytes "dec") e dec-row)) (omega arith)
 
-  pub bool-used : same w (bytes "bool") ≡ true → Use-says w 5
+  pub bool-used : w ≡ bytes "bool" → Use-says w 5
   unfolding use-code conversion-code
   bool-used e = says-use {u = converts to-bool} (looked (spelled (bytes "bool") e bool-row)) (omega arith)
 
-  pub text-used : same w (bytes "text") ≡ true → Use-says w 6
+  pub text-used : w ≡ bytes "text" → Use-says w 6
   unfolding use-code conversion-code
   text-used e = says-use {u = converts to-text} (looked (spelled (bytes "text") e text-row)) (omega arith)
 
-  pub keep-used : same w (bytes "keep") ≡ true → Use-says w 7
+  pub keep-used : w ≡ bytes "keep" → Use-says w 7
   unfolding use-code conversion-code
   keep-used e = says-use {u = keeps} (looked (spelled (bytes "keep") e keep-row)) (omega arith)
 
-  pub count-used : same w (bytes "count") ≡ true → Use-says w 8
+  pub count-used : w ≡ bytes "count" → Use-says w 8
   unfolding use-code conversion-code
   count-used e = says-use {u = counts} (looked (spelled (bytes "count") e count-row)) (omega arith)
 
-  pub each-used : same w (bytes "each") ≡ true → Use-says w 9
+  pub each-used : w ≡ bytes "each" → Use-says w 9
   unfolding use-code conversion-code
   each-used e = says-use {u = maps} (looked (spelled (bytes "each") e each-row)) (omega arith)
 
@@ -228,29 +227,29 @@ module _ (w : Bytes) where
   other-length : {k : ℕ} → (k ≡ 13 → ⊥) → k ≡ 13 → 3 ≤ length w
   other-length h e = absurd (h e)
 
-  pub when-says : same w (bytes "when") ≡ true → Result-says w 10
+  pub when-says : w ≡ bytes "when" → Result-says w 10
   when-says e = says-result (looked (spelled (bytes "when") e when-row)) starts-when (other-length (λ i. omega arith))
 
-  pub if-says : same w (bytes "if") ≡ true → Result-says w 11
+  pub if-says : w ≡ bytes "if" → Result-says w 11
   if-says e = says-result (looked (spelled (bytes "if") e if-row)) starts-if (other-length (λ i. omega arith))
 
-  pub num-says : same w (bytes "num") ≡ true → Result-says w 12
+  pub num-says : w ≡ bytes "num" → Result-says w 12
   num-says e = says-result (looked (spelled (bytes "num") e num-row)) starts-num (other-length (λ i. omega arith))
 
-  pub str-says : same w (bytes "str") ≡ true → Result-says w 13
+  pub str-says : w ≡ bytes "str" → Result-says w 13
   unfolding bytes
-  str-says e = says-result (looked (spelled (bytes "str") e str-row)) starts-str (λ i. omega (arith, ap length (same-eq w (bytes "str") e)))
+  str-says e = says-result (looked (spelled (bytes "str") e str-row)) starts-str (λ i. omega (arith, ap length e))
 
-  pub yes-says : same w (bytes "yes") ≡ true → Result-says w 14
+  pub yes-says : w ≡ bytes "yes" → Result-says w 14
   yes-says e = says-result (looked (spelled (bytes "yes") e yes-row)) starts-yes (other-length (λ i. omega arith))
 
-  pub no-says : same w (bytes "no") ≡ true → Result-says w 15
+  pub no-says : w ≡ bytes "no" → Result-says w 15
   no-says e = says-result (looked (spelled (bytes "no") e no-row)) starts-no (other-length (λ i. omega arith))
 
-  pub none-says : same w (bytes "none") ≡ true → Result-says w 16
+  pub none-says : w ≡ bytes "none" → Result-says w 16
   none-says e = says-result (looked (spelled (bytes "none") e none-row)) starts-none (other-length (λ i. omega arith))
 
-  pub pack-says : same w (bytes "pack") ≡ true → Result-says w 17
+  pub pack-says : w ≡ bytes "pack" → Result-says w 17
   pack-says e = says-result (looked (spelled (bytes "pack") e pack-row)) starts-pack (other-length (λ i. omega arith))
 
   pub use-says

@@ -131,9 +131,8 @@ Opened-answer text values left c (Opened-is.Refused number place) =
     (x : Job) (w : Want) (d : ℕ) (f : ℕ → Want) → Opens-at w d f → Limited x d values left
     → reading x (c .begun) text (want w) (c .at) ≡ refused number place
 
-pub record Opens-form (text : Bytes) (p p′ : List ℕ) (values left : ℕ) (c : Cursor) (r : Opened) : Type 0 where
+pub record Opens-form (text : Bytes) (values left : ℕ) (c : Cursor) (r : Opened) : Type 0 where
   pub answer : Opened-answer text values left c r
-  pub kept : Kept p p′ (c .top)
 
 -- a word must come here, which g judges
 pub record Wants-word (w : Want) (g : Bytes → Tokens.Step State) : Type 0 where
@@ -155,9 +154,8 @@ Begun-answer text values left c (Begun-is.Refused number place) =
     → ((p : ℕ) → Wants-word (f p) (g p)) → Limited x d values left
     → reading x (c .begun) text (want w) (c .at) ≡ refused number place
 
-pub record Begins-form (text : Bytes) (p p′ : List ℕ) (values left : ℕ) (c : Cursor) (r : Begun) : Type 0 where
+pub record Begins-form (text : Bytes) (values left : ℕ) (c : Cursor) (r : Begun) : Type 0 where
   pub answer : Begun-answer text values left c r
-  pub kept : Kept p p′ (c .top)
 
 -- a form may end here; q comes behind
 pub record Closes-at (w : Want) (q : State) : Type 0 where
@@ -177,9 +175,8 @@ Close-answer text c (Done to) = Closed text c to
 Close-answer text c (Refused number place) =
     (x : Job) (n : ℕ) (w : Want) (q : State) → Closes-at w q → reading x n text (want w) (c .at) ≡ refused number place
 
-pub record Closes-form (text : Bytes) (p p′ : List ℕ) (c : Cursor) (r : Part) : Type 0 where
+pub record Closes-form (text : Bytes) (c : Cursor) (r : Part) : Type 0 where
   pub answer : Close-answer text c r
-  pub kept : Kept p p′ (c .top)
 
 -- ---- N of `it`
 
@@ -219,9 +216,8 @@ Index-answer text bound c (Index-is.Refused place) =
     (x : Job) (n at : ℕ) (o : Place-around) → place-bindings o ≡ bound
     → reading x n text (want (it-index at o)) (c .at) ≡ refused 7 place
 
-pub record Reads-index (text : Bytes) (p p′ : List ℕ) (bound : ℕ) (c : Cursor) (r : Index) : Type 0 where
+pub record Reads-index (text : Bytes) (bound : ℕ) (c : Cursor) (r : Index) : Type 0 where
   pub answer : Index-answer text bound c r
-  pub kept : Kept p p′ (c .top)
 
 -- ---- texts
 
@@ -264,13 +260,11 @@ Operand-answer f code text p c (Operand-is.Read operand payload to) = Operand-re
 Operand-answer f code text p c (Operand-is.Refused place) =
     (x : Job) (n at : ℕ) (o : Around) → reading x n text (want (f at o)) (c .at) ≡ refused 7 place
 
-pub record Reads-test (text : Bytes) (p p′ : List ℕ) (c : Cursor) (r : Operand) : Type 0 where
-  pub answer : Operand-answer (λ at o. Want.when-test at o) 10 text p′ c r
-  pub kept : Kept p p′ (c .top)
+pub record Reads-test (text : Bytes) (c : Cursor) (r : Operand) : Type 0 where
+  pub answer : (p : List ℕ) → Operand-answer (λ at o. Want.when-test at o) 10 text p c r
 
-pub record Reads-number (text : Bytes) (p p′ : List ℕ) (c : Cursor) (r : Operand) : Type 0 where
-  pub answer : Operand-answer (λ at o. Want.num-number at o) 12 text p′ c r
-  pub kept : Kept p p′ (c .top)
+pub record Reads-number (text : Bytes) (c : Cursor) (r : Operand) : Type 0 where
+  pub answer : (p : List ℕ) → Operand-answer (λ at o. Want.num-number at o) 12 text p c r
 
 pub record Reads-operand (text : Bytes) (p p′ : List ℕ) (code : ℕ) (c : Cursor) (r : Operand) : Type 0 where
   pub answer : (f : ℕ → Around → Want) → Started code f → Operand-answer f code text p′ c r
@@ -364,9 +358,8 @@ abbrev pub Worded-answer : Bytes → (values left : ℕ) → Cursor → Worded �
 Worded-answer text values left c (Worded-is.Form code place to) = Result-begun text values left c code place to
 Worded-answer text values left c (Worded-is.Refused number place) = Limited-refused text values left c number place
 
-pub record Begins-result (text : Bytes) (p p′ : List ℕ) (values left : ℕ) (c : Cursor) (r : Worded) : Type 0 where
+pub record Begins-result (text : Bytes) (values left : ℕ) (c : Cursor) (r : Worded) : Type 0 where
   pub answer : Worded-answer text values left c r
-  pub kept : Kept p p′ (c .top)
 
 -- a result has been read up to its place or its results
 pub record Head-read (text : Bytes) (p : List ℕ) (values left : ℕ) (c : Cursor) (row : Row) (to : Cursor) : Type 0 where

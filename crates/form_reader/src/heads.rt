@@ -1,4 +1,6 @@
 // What a result begins with: its bracket, its word, its operand and its place.
+ghost use Prim.Native.Nat.{_≤_};
+ghost use lib.ListN.{length};
 ghost use Rattle.tokens.specs.Expecting.{Text-placed};
 ghost use Rattle.form_reader.specs.FormParts.{Ready, Begins-result, Reads-head, Reads-lead};
 use crate::opening::Begun;
@@ -17,11 +19,11 @@ pub enum Worded {
 }
 
 // Reads the bracket and the word of a result.
-fn begin_result(text: &[u8], pool: &mut [u64], values: usize, left: usize, c: Cursor) -> Worded
-    requires { ⌜ Text-placed (now text) (now pool) (c .at) (c .top) ⌝ }
-    ensures read { λ r. ⌜ Begins-result (now (text .entry)) (now (pool .entry)) (now (pool .exit)) values left c r ⌝ }
+fn begin_result(text: &[u8], values: usize, left: usize, c: Cursor) -> Worded
+    requires { ⌜ c .at ≤ length (now text) ⌝ }
+    ensures read { λ r. ⌜ Begins-result (now (text .entry)) values left c r ⌝ }
 {
-    match begin_form(text, pool, values, left, c) {
+    match begin_form(text, values, left, c) {
         Begun::Word { place, at, end } => {
             let code = result_code(text, at, end);
             if code == 0 {
@@ -60,7 +62,7 @@ fn read_head(text: &[u8], pool: &mut [u64], values: usize, left: usize, c: Curso
     requires { ⌜ Text-placed (now text) (now pool) (c .at) (c .top) ⌝ }
     ensures read { λ r. ⌜ Reads-head (now (text .entry)) (now (pool .entry)) (now (pool .exit)) values left c r ⌝ }
 {
-    match begin_result(text, pool, values, left, c) {
+    match begin_result(text, values, left, c) {
         Worded::Form {
             code,
             place,

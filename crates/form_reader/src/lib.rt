@@ -50,7 +50,7 @@ pub fn read_reader(
         start,
         0,
     ) {
-        Part::Done { to } => match expect::next_end(text, to.at, pool, to.top) {
+        Part::Done { to } => match expect::next_end(text, to.at) {
             Ending::Whole => FormsRead::Read {
                 words: 3 * to.begun,
                 top: to.top,
@@ -78,7 +78,7 @@ pub fn read_place(
         top,
     };
     match places::read_place(text, forms, pool, limits.values, limits.nesting, 1, start) {
-        Part::Done { to } => match expect::next_end(text, to.at, pool, to.top) {
+        Part::Done { to } => match expect::next_end(text, to.at) {
             Ending::Whole => FormsRead::Read {
                 words: 3 * to.begun,
                 top: to.top,

@@ -1,5 +1,6 @@
 // The brackets of a form, and the word behind the first one.
-ghost use Rattle.tokens.specs.Expecting.{Text-placed};
+ghost use Prim.Native.Nat.{_≤_};
+ghost use lib.ListN.{length};
 ghost use Rattle.form_reader.specs.FormParts.{Opens-form, Begins-form, Closes-form};
 use crate::reading::Cursor;
 use crate::reading::Part;
@@ -14,11 +15,11 @@ pub enum Opened {
 }
 
 // Reads the bracket of a form, with so much nesting left.
-fn open_form(text: &[u8], pool: &mut [u64], values: usize, left: usize, c: Cursor) -> Opened
-    requires { ⌜ Text-placed (now text) (now pool) (c .at) (c .top) ⌝ }
-    ensures read { λ r. ⌜ Opens-form (now (text .entry)) (now (pool .entry)) (now (pool .exit)) values left c r ⌝ }
+fn open_form(text: &[u8], values: usize, left: usize, c: Cursor) -> Opened
+    requires { ⌜ c .at ≤ length (now text) ⌝ }
+    ensures read { λ r. ⌜ Opens-form (now (text .entry)) values left c r ⌝ }
 {
-    match expect::next_opening(text, c.at, pool, c.top) {
+    match expect::next_opening(text, c.at) {
         Bracket::At { place } => {
             if expect::is_full(values, left, c.begun) {
                 Opened::Refused { number: 8, place }
@@ -37,12 +38,12 @@ pub enum Begun {
 }
 
 // Reads the bracket and the word of a form.
-pub fn begin_form(text: &[u8], pool: &mut [u64], values: usize, left: usize, c: Cursor) -> Begun
-    requires { ⌜ Text-placed (now text) (now pool) (c .at) (c .top) ⌝ }
-    ensures read { λ r. ⌜ Begins-form (now (text .entry)) (now (pool .entry)) (now (pool .exit)) values left c r ⌝ }
+pub fn begin_form(text: &[u8], values: usize, left: usize, c: Cursor) -> Begun
+    requires { ⌜ c .at ≤ length (now text) ⌝ }
+    ensures read { λ r. ⌜ Begins-form (now (text .entry)) values left c r ⌝ }
 {
-    match open_form(text, pool, values, left, c) {
-        Opened::At { place } => match expect::next_word(text, place + 1, pool, c.top) {
+    match open_form(text, values, left, c) {
+        Opened::At { place } => match expect::next_word(text, place + 1) {
             Spelled::At { place: at, end } => Begun::Word { place, at, end },
             Spelled::Missing { place: at } => Begun::Refused {
                 number: 7,
@@ -54,11 +55,11 @@ pub fn begin_form(text: &[u8], pool: &mut [u64], values: usize, left: usize, c: 
 }
 
 // Reads the bracket that ends a form.
-pub fn close_form(text: &[u8], pool: &mut [u64], c: Cursor) -> Part
-    requires { ⌜ Text-placed (now text) (now pool) (c .at) (c .top) ⌝ }
-    ensures read { λ r. ⌜ Closes-form (now (text .entry)) (now (pool .entry)) (now (pool .exit)) c r ⌝ }
+pub fn close_form(text: &[u8], c: Cursor) -> Part
+    requires { ⌜ c .at ≤ length (now text) ⌝ }
+    ensures read { λ r. ⌜ Closes-form (now (text .entry)) c r ⌝ }
 {
-    match expect::next_closing(text, c.at, pool, c.top) {
+    match expect::next_closing(text, c.at) {
         Bracket::At { place } => {
             let to = Cursor {
                 at: place + 1,

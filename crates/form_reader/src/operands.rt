@@ -53,11 +53,11 @@ pub enum Index {
 }
 
 // Reads N of `it`, where there are so many bindings.
-pub fn read_index(text: &[u8], pool: &mut [u64], bound: usize, c: Cursor) -> Index
-    requires { ⌜ Text-placed (now text) (now pool) (c .at) (c .top) ⌝ }
-    ensures read { λ r. ⌜ Reads-index (now (text .entry)) (now (pool .entry)) (now (pool .exit)) bound c r ⌝ }
+pub fn read_index(text: &[u8], bound: usize, c: Cursor) -> Index
+    requires { ⌜ c .at ≤ length (now text) ⌝ }
+    ensures read { λ r. ⌜ Reads-index (now (text .entry)) bound c r ⌝ }
 {
-    match expect::next_word(text, c.at, pool, c.top) {
+    match expect::next_word(text, c.at) {
         Spelled::At { place, end } => match slot_of(text, place, end, bound) {
             Slot::Of { slot } => {
                 let to = Cursor {
@@ -114,11 +114,11 @@ pub enum Operand {
 }
 
 // Reads K of `when`.
-fn read_test(text: &[u8], pool: &mut [u64], c: Cursor) -> Operand
-    requires { ⌜ Text-placed (now text) (now pool) (c .at) (c .top) ⌝ }
-    ensures read { λ r. ⌜ Reads-test (now (text .entry)) (now (pool .entry)) (now (pool .exit)) c r ⌝ }
+fn read_test(text: &[u8], c: Cursor) -> Operand
+    requires { ⌜ c .at ≤ length (now text) ⌝ }
+    ensures read { λ r. ⌜ Reads-test (now (text .entry)) c r ⌝ }
 {
-    match expect::next_word(text, c.at, pool, c.top) {
+    match expect::next_word(text, c.at) {
         Spelled::At { place, end } => {
             let operand = test_code(text, place, end);
             if operand < 7 {
@@ -141,11 +141,11 @@ fn read_test(text: &[u8], pool: &mut [u64], c: Cursor) -> Operand
 }
 
 // Reads N of `num`.
-fn read_number(text: &[u8], pool: &mut [u64], c: Cursor) -> Operand
-    requires { ⌜ Text-placed (now text) (now pool) (c .at) (c .top) ⌝ }
-    ensures read { λ r. ⌜ Reads-number (now (text .entry)) (now (pool .entry)) (now (pool .exit)) c r ⌝ }
+fn read_number(text: &[u8], c: Cursor) -> Operand
+    requires { ⌜ c .at ≤ length (now text) ⌝ }
+    ensures read { λ r. ⌜ Reads-number (now (text .entry)) c r ⌝ }
 {
-    match expect::next_word(text, c.at, pool, c.top) {
+    match expect::next_word(text, c.at) {
         Spelled::At { place, end } => match word::read_word(&text[place..end]) {
             WordRead::Number {
                 negative,
@@ -176,10 +176,10 @@ pub fn read_operand(text: &[u8], pool: &mut [u64], code: u64, c: Cursor) -> Oper
     ensures read { λ r. ⌜ Reads-operand (now (text .entry)) (now (pool .entry)) (now (pool .exit)) code c r ⌝ }
 {
     if code == forms::WHEN {
-        return read_test(text, pool, c);
+        return read_test(text, c);
     }
     if code == forms::NUM {
-        return read_number(text, pool, c);
+        return read_number(text, c);
     }
     if code == forms::STR {
         return match read_text(text, pool, c) {

@@ -84,7 +84,7 @@ fn next_pair(text: &[u8], forms: &[u64], pool: &mut [u64], first: usize, c: Curs
             }
         }
         Quotation::Missing { place: _ } => {
-            match expect::next_closing(text, c.at, pool, c.top) {
+            match expect::next_closing(text, c.at) {
                 Bracket::At { place } => {
                     let to = Cursor {
                         at: place + 1,
@@ -125,6 +125,6 @@ pub fn next_part(
         return next_pair(text, forms, pool, first, c);
     }
     Turn::Stop {
-        answer: close_form(text, pool, c),
+        answer: close_form(text, c),
     }
 }

@@ -25,9 +25,9 @@ fn read_it(
     ensures read { λ r. ⌜ Reads-it values bound (now (text .entry)) (now (forms .entry)) (now (pool .entry)) (now (forms .exit))
         (now (pool .exit)) place c r ⌝ }
 {
-    match read_index(text, pool, bound, c) {
+    match read_index(text, bound, c) {
         Index::Read { slot, to } => {
-            let r = close_form(text, pool, to);
+            let r = close_form(text, to);
             let Part::Done { to: _ } = r else {
                 return r;
             };
@@ -65,7 +65,7 @@ fn read_field(
             let Part::Done { to: behind } = q else {
                 return q;
             };
-            let r = close_form(text, pool, behind);
+            let r = close_form(text, behind);
             let Part::Done { to } = r else {
                 return r;
             };
@@ -95,7 +95,7 @@ pub fn read_place(
     ensures read { λ r. ⌜ Reads-place left values bound (now (text .entry)) (now (forms .entry)) (now (pool .entry)) (now (forms .exit))
         (now (pool .exit)) c r ⌝ }
 {
-    match begin_form(text, pool, values, left, c) {
+    match begin_form(text, values, left, c) {
         Begun::Word { place, at, end } => {
             let inner = Cursor {
                 at: end,

@@ -6,11 +6,11 @@ use mathlib.Core.List.{List, [], _∷_, _++_}
 use native.Mathlib.Nat.{add-zero}
 use native.Mathlib.Omega.{arith}
 use lib.ListN.{length, drop, getD, length-append, length-drop}
-use lib.Seq.{drop-at, drop-drop, getD-drop}
+use lib.Seq.{drop-at}
 use Rattle.definitions.specs.Value.{Value}
 use Rattle.definitions.specs.Reader.{Place, Conversion, Test, to-int, to-dec, to-bool, to-text, Result, Pairs, no-pairs, pair}
-use Rattle.laws.specs.FormGrammar.{place-forms, result-forms, pairs-forms}
-use Rattle.nodes.specs.NodesLaws.{refers-grow}
+use Rattle.laws.specs.FormGrammar.{place-forms, result-forms, pairs-forms, result-levels}
+use Rattle.nodes.specs.NodesLaws.{refers-grow, getD-row, drop-row}
 use Rattle.forms.specs.Forms.{place-code, place-at, test-code, conversion-code, literal-code}
 use Rattle.forms.specs.Forms.{form-code, form-operand, form-at, Head, Form-head, Place-head}
 use Rattle.forms.specs.Forms.{Literal-payload, null-payload, yes-payload, no-payload, number-payload, text-payload, slot, Place-rows, it-row}
@@ -138,6 +138,17 @@ forms-some (Result.choose at r₁ r₂ r₃) = omega arith
 forms-some (Result.literal at v) = omega arith
 forms-some (Result.pack at ps) = omega arith
 
+pub levels-some : (r : Result) → 1 ≤ result-levels r
+unfolding result-levels
+levels-some (Result.convert at c q) = omega arith
+levels-some (Result.keep at q) = omega arith
+levels-some (Result.count at q) = omega arith
+levels-some (Result.each at q r) = omega arith
+levels-some (Result.when at k q r₁ r₂) = omega arith
+levels-some (Result.choose at r₁ r₂ r₃) = omega arith
+levels-some (Result.literal at v) = omega arith
+levels-some (Result.pack at ps) = omega arith
+
 length-place-rows-at : (q : Place) {p : List ℕ} {d : ℕ} {rs : List ℕ} → Place-rows p d q rs → length rs ≡ 3 * place-forms q
 unfolding place-forms
 length-place-rows-at (Place.it at n) (it-row h l) = refl
@@ -221,16 +232,8 @@ form-begins (pack-rows {h} {rs} x is) = record { head = h; headed = x; payload =
 
 -- ---- where a form stands
 
--- the words of a table from a row on
-pub getD-row : (t : List ℕ) (row i : ℕ) {xs : List ℕ} → drop row t ≡ xs → getD t (row + i) 0 ≡ getD xs i 0
-getD-row t row i e = sym (getD-drop row t i 0) ∙ ap (λ (l : List ℕ). getD l i 0) e
-
 getD-first : (t : List ℕ) (row : ℕ) {xs : List ℕ} → drop row t ≡ xs → getD t row 0 ≡ getD xs 0 0
 getD-first t row e = ap (λ (i : ℕ). getD t i 0) (sym (add-zero row)) ∙ getD-row t row 0 e
-
--- behind the first words
-pub drop-row : (t : List ℕ) (row n : ℕ) {xs : List ℕ} → drop row t ≡ xs → drop (row + n) t ≡ drop n xs
-drop-row t row n e = sym (drop-drop n row t) ∙ ap (drop n) e
 
 -- behind a part of n words
 pub behind

@@ -13,8 +13,9 @@ use Rattle.nodes.specs.Nodes.{Refers}
 use Rattle.forms.specs.Forms.{Literal-payload, slot, Place-rows, it-row, field-rows, Form-rows, convert-rows, keep-rows, count-rows, each-rows}
 use Rattle.forms.specs.Forms.{when-rows, choose-rows, literal-row, pack-rows, Pair-rows, no-pair-rows, pair-rows, Place-stands, Form-stands}
 use Rattle.forms.specs.Forms.{Pairs-stand, size-at}
-use Rattle.forms.specs.FormsLaws.{place-rows-grow, form-rows-grow, forms-some, length-place-rows, length-form-rows, length-pair-rows, getD-row}
-use Rattle.forms.specs.FormsLaws.{drop-row, behind, place-stands-size, stands-size}
+use Rattle.forms.specs.FormsLaws.{place-rows-grow, form-rows-grow, forms-some, length-place-rows, length-form-rows, length-pair-rows}
+use Rattle.nodes.specs.NodesLaws.{getD-row, drop-row}
+use Rattle.forms.specs.FormsLaws.{behind, place-stands-size, stands-size}
 
 -- the row behind the form at a row
 abbrev pub after : List ℕ → ℕ → ℕ

@@ -8,7 +8,7 @@ use Rattle.definitions.specs.declared.Limits.{Limits}
 use Rattle.definitions.specs.Bytes.{Bytes}
 use Rattle.definitions.specs.ShapeText.{read-shape}
 use Rattle.definitions.specs.Operations.{Reading, Source, judge-both, stopped, refusal}
-use Rattle.definitions.specs.WorkSlices.{form-words, name-words, value-words, text-words}
+use Rattle.definitions.specs.WorkSlices.{shape-words, name-words, value-words, text-words}
 use Rattle.laws.specs.Judging.{first-stops, second-stops, both-pass}
 use Rattle.shape_reader.specs.declared.ShapeRead.{ShapeRead}
 use Rattle.shape_reader.specs.declared.ShapeRead.the-variants.{Read, Refused}
@@ -36,10 +36,10 @@ module _ {l : Limits} {text : Bytes} {p shapes′ p′ : List ℕ} {r : ShapeRea
 
 module _ {shape document : Bytes} {shapes nodes pool : List ℕ} {l : Limits} (s : Shape-document-slices shape document shapes nodes pool l) where
   parts
-      : (form-words l ≤ length shapes) × (value-words l (length document) ≤ length nodes)
+      : (shape-words l (length shape) ≤ length shapes) × (value-words l (length document) ≤ length nodes)
       × (name-words l (length shape) + text-words l (length document) ≤ length pool)
   parts =
-      long-three (form-words l) (value-words l (length document)) (name-words l (length shape) + text-words l (length document))
+      long-three (shape-words l (length shape)) (value-words l (length document)) (name-words l (length shape) + text-words l (length document))
       (length shapes) (length nodes) (length pool) (s .long)
 
   pub room-for-shape : Shape-room shape shapes pool 0 l
@@ -93,11 +93,11 @@ module _
 
 module _ {one two : Bytes} {shapes others pool : List ℕ} {l : Limits} (s : Two-shapes-slices one two shapes others pool l) where
   both-parts
-      : (form-words l ≤ length shapes) × (form-words l ≤ length others)
+      : (shape-words l (length one) ≤ length shapes) × (shape-words l (length two) ≤ length others)
       × (name-words l (length one) + name-words l (length two) ≤ length pool)
   both-parts =
-      long-three (form-words l) (form-words l) (name-words l (length one) + name-words l (length two)) (length shapes) (length others)
-      (length pool) (s .long)
+      long-three (shape-words l (length one)) (shape-words l (length two)) (name-words l (length one) + name-words l (length two))
+      (length shapes) (length others) (length pool) (s .long)
 
   pub room-for-first : Shape-room one shapes pool 0 l
   room-for-first =

@@ -1,5 +1,5 @@
 -- A reader judged and read, and the text behind it: room for both, and what both come to. Assumes nothing.
-use Prim.Native.Nat.{ℕ, _+_, _≤_, _<_}
+use Prim.Native.Nat.{ℕ, _+_, _/_, _≤_, _<_, min}
 use native.Mathlib.Omega.{arith}
 use mathlib.Core.Path.{_≡_, sym, ap, _∙_, subst}
 use mathlib.Core.List.{List, _++_}
@@ -16,6 +16,7 @@ use Rattle.laws.specs.ReaderForms.{reader-accepted-to}
 use Rattle.laws.specs.ReaderFacts.{reader-proper}
 use Rattle.laws.specs.RoundReaderRead.{reader-read-good}
 use Rattle.laws.specs.Judging.{text-long, text-reads, text-refused, first-stops, second-stops, both-pass}
+use Rattle.laws.specs.FormGrammar.{result-forms}
 use Rattle.forms.specs.Forms.{Form-rows}
 use Rattle.forms.specs.FormsLaws.{form-rows-grow}
 use Rattle.form_reader.specs.declared.FormsRead.{FormsRead}
@@ -25,10 +26,12 @@ use Rattle.shape_reader.specs.declared.ShapeRead.{ShapeRead}
 use Rattle.shape_reader.specs.declared.ShapeRead.the-variants.{Read, Refused}
 use Rattle.json.specs.declared.DocumentRead.{DocumentRead}
 use Rattle.json.specs.declared.DocumentRead.the-variants as document-read
+use Rattle.slices.specs.Fewer.{with-values}
 use Rattle.documents.specs.Documents.{Document-room, Judges-document}
 use Rattle.documents.specs.DocumentsLaws.{document-passes as judged-passes, document-refused as judged-refused}
 use Rattle.inputs.specs.Inputs.{Shape-room, Shape-outcome, Judges-shape, Both-pass, Reader-table, Reader-room, Reader-passes, Reader-outcome}
 use Rattle.inputs.specs.Inputs.{Judges-reader, Reader-shape-slices, Reader-shape-held, Reader-document-slices, Reader-document-held}
+use Rattle.inputs.proofs.FewReaders.{few-reader-forms}
 
 -- ---- a table
 
@@ -57,41 +60,50 @@ module _ {l : Limits} {text : Bytes} where
   pub reader-long : (forms′ p′ : List ℕ) → l .bytes < length text → Judges-reader l text forms′ p′ (forms-read.Refused 2 0)
   reader-long forms′ p′ h = record { answer = λ k. text-long k l read-reader text (lt-ltb _ _ h) }
 
-  pub reader-room : {forms pool : List ℕ} → Reader-room text forms pool l → length text ≤ l .bytes → Tables text forms pool 0 (l .values)
-  reader-room {forms} {pool} r h =
-      record {
-        rows = r .rows;
-        texts = omega (arith, r .texts, h);
-        short = omega (arith, r .small .bytes, h);
-        few = omega (arith, r .small .values);
-        small = omega (arith, r .small .bytes, r .small .values, h);
-      }
+  module _ {few : Limits} (e : few ≡ with-values l (min (l .values) ((length text + 2) / 3))) (h : length text ≤ l .bytes) where
+    -- a text that is short enough has room under fewer forms
+    pub reader-room : {forms pool : List ℕ} → Reader-room text forms pool l → Tables text forms pool 0 (few .values)
+    reader-room {forms} {pool} r =
+        let v : few .values ≡ min (l .values) ((length text + 2) / 3) = ap (λ (k : Limits). k .values) e in
+        record {
+          rows = omega (arith, r .rows, v, h);
+          texts = omega (arith, r .texts, v, h);
+          short = omega (arith, r .small .bytes, h);
+          few = omega (arith, r .small .values, v);
+          small = omega (arith, r .small .bytes, r .small .values, v, h);
+        }
 
-  pub reader-judged
-      : {forms p forms′ p′ : List ℕ} {r : FormsRead} → length text ≤ l .bytes → Reads-reader l text forms p forms′ p′ 0 r
-      → Judges-reader l text forms′ p′ r
-  reader-judged {forms} {p} {forms′} {p′} {r} h d = record { answer = go r (d .answer) }
-    where
-      go : (r : FormsRead) → Reader-answer l text forms′ p p′ 0 r → Reader-outcome l text forms′ p′ r
-      go (forms-read.Read words top) a =
-          let (f, few, nests) = reader-accepted-to l text (a .form) (a .read) in
-          record {
-            reader = a .form;
-            judged = λ k. text-reads k l read-reader text (a .form) h (a .read);
-            table =
-                record {
-                  rows = a .held;
-                  counted = a .counted;
-                  few = few;
-                  nests = nests;
-                  names-once = reader-proper l text (a .form) (a .read);
-                  good = reader-read-good l text (a .form) (a .read);
-                  within = a .used .within;
-                  small = a .used .small;
-                };
-            low = omega (arith, a .used .bounded, a .counted, few, h);
-          }
-      go (forms-read.Refused n q) e = λ k. text-refused k l read-reader text n q h e
+    -- and what was read so was read under the limits themselves
+    pub reader-judged
+        : {forms p forms′ p′ : List ℕ} {r : FormsRead} → Reads-reader few text forms p forms′ p′ 0 r → Judges-reader l text forms′ p′ r
+    reader-judged {forms} {p} {forms′} {p′} {r} d = record { answer = go r (d .answer) }
+      where
+        same : read-reader l text ≡ read-reader few text
+        same = sym (ap (λ (k : Limits). read-reader k text) e ∙ few-reader-forms l text)
+
+        go : (r : FormsRead) → Reader-answer few text forms′ p p′ 0 r → Reader-outcome l text forms′ p′ r
+        go (forms-read.Read words top) a =
+            let v : few .values ≡ min (l .values) ((length text + 2) / 3) = ap (λ (k : Limits). k .values) e in
+            let read = same ∙ a .read in
+            let (f, counted, nests) = reader-accepted-to l text (a .form) read in
+            let fewer : result-forms (a .form) ≤ few .values = reader-accepted-to few text (a .form) (a .read) .1 in
+            record {
+              reader = a .form;
+              judged = λ k. text-reads k l read-reader text (a .form) h read;
+              table =
+                  record {
+                    rows = a .held;
+                    counted = a .counted;
+                    few = counted;
+                    nests = nests;
+                    names-once = reader-proper l text (a .form) read;
+                    good = reader-read-good l text (a .form) read;
+                    within = a .used .within;
+                    small = a .used .small;
+                  };
+              low = omega (arith, a .used .bounded, a .counted, fewer, v, h);
+            }
+        go (forms-read.Refused n q) f = λ k. text-refused k l read-reader text n q h (same ∙ f)
 
 -- ---- the first text
 

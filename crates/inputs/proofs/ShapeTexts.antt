@@ -1,5 +1,5 @@
 -- A shape text judged and read, and the first of two texts, whose names stand in a part of the pool. Assumes nothing.
-use Prim.Native.Nat.{ℕ, _≤_, _<_}
+use Prim.Native.Nat.{ℕ, _+_, _/_, _≤_, _<_, min}
 use native.Mathlib.Omega.{arith}
 use mathlib.Core.Path.{_≡_, refl, sym, ap, _∙_, subst}
 use mathlib.Core.List.{List, _++_}
@@ -17,8 +17,10 @@ use Rattle.shapes.specs.Shapes.{Shape-rows}
 use Rattle.shapes.specs.ShapesLaws.{shape-rows-grow}
 use Rattle.shape_reader.specs.declared.ShapeRead.{ShapeRead}
 use Rattle.shape_reader.specs.declared.ShapeRead.the-variants.{Read, Refused}
-use Rattle.shape_reader.specs.ShapeReads.{Shape-answer, Reads-shape}
+use Rattle.shape_reader.specs.ShapeReads.{Tables, Shape-answer, Reads-shape}
+use Rattle.slices.specs.Fewer.{with-values}
 use Rattle.inputs.specs.Inputs.{Shape-table, Shape-room, Shape-passes, Shape-outcome, Judges-shape, Judges-first}
+use Rattle.inputs.proofs.FewShapes.{few-forms}
 
 -- ---- a table
 
@@ -46,29 +48,49 @@ pub judges-long
     → Judges-shape l text p shapes′ p top (Refused 2 0)
 judges-long l text p shapes′ top h = record { answer = λ k. text-long k l read-shape text (lt-ltb _ _ h); kept = refl }
 
+-- a text that is short enough has room under fewer forms
+pub few-room
+    : {l few : Limits} {text : Bytes} {shapes pool : List ℕ} {top : ℕ} → few ≡ with-values l (min (l .values) ((length text + 6) / 7))
+    → length text ≤ l .bytes → Shape-room text shapes pool top l → Tables text shapes pool top (few .values)
+few-room {l} {few} {text} {shapes} {pool} {top} e h r =
+    let f : few .values ≡ min (l .values) ((length text + 6) / 7) = ap (λ (k : Limits). k .values) e in
+    record {
+      rows = omega (arith, r .rows, f, h);
+      texts = omega (arith, r .names, h);
+      short = omega (arith, r .small .bytes, h);
+      few = omega (arith, r .small .values, f);
+      small = omega (arith, r .small .bytes, r .low, h);
+    }
+
+-- and what was read so was read under the limits themselves
 pub judges-read
-    : {l : Limits} {text : Bytes} {shapes p shapes′ p′ : List ℕ} {top : ℕ} {r : ShapeRead} → length text ≤ l .bytes
-    → Reads-shape l text shapes p shapes′ p′ top r → Judges-shape l text p shapes′ p′ top r
-judges-read {l} {text} {shapes} {p} {shapes′} {p′} {top} {r} h d = record { answer = go r (d .answer); kept = d .pool-kept }
+    : {l few : Limits} {text : Bytes} {shapes p shapes′ p′ : List ℕ} {top : ℕ} {r : ShapeRead}
+    → few ≡ with-values l (min (l .values) ((length text + 6) / 7)) → length text ≤ l .bytes
+    → Reads-shape few text shapes p shapes′ p′ top r → Judges-shape l text p shapes′ p′ top r
+judges-read {l} {few} {text} {shapes} {p} {shapes′} {p′} {top} {r} e h d = record { answer = go r (d .answer); kept = d .pool-kept }
   where
-    go : (r : ShapeRead) → Shape-answer l text shapes′ p p′ top r → Shape-outcome l text p shapes′ p′ top r
+    same : read-shape l text ≡ read-shape few text
+    same = sym (ap (λ (k : Limits). read-shape k text) e ∙ few-forms l text)
+
+    go : (r : ShapeRead) → Shape-answer few text shapes′ p p′ top r → Shape-outcome l text p shapes′ p′ top r
     go (Read words top′) a =
+        let read = same ∙ a .read in
         record {
           shape = a .form;
-          judged = λ k. text-reads k l read-shape text (a .form) h (a .read);
+          judged = λ k. text-reads k l read-shape text (a .form) h read;
           table =
               record {
                 rows = a .held;
                 counted = a .counted;
-                ascends = shape-ascending l text (a .form) (a .read);
-                nests = shape-accepted-to l text (a .form) (a .read) .2;
+                ascends = shape-ascending l text (a .form) read;
+                nests = shape-accepted-to l text (a .form) read .2;
                 within = a .within;
                 small = a .small;
               };
           grows = a .grows;
           front = a .front;
         }
-    go (Refused n q) e = λ k. text-refused k l read-shape text n q h e
+    go (Refused n q) f = λ k. text-refused k l read-shape text n q h (same ∙ f)
 
 -- ---- the first text, in the first n words of the pool
 

@@ -11,7 +11,7 @@ use Rattle.definitions.specs.Shape.{Shape, ascending, forms, levels}
 use Rattle.definitions.specs.ShapeText.{read-shape}
 use Rattle.definitions.specs.Reader.{Result, read-reader}
 use Rattle.definitions.specs.Operations.{Reading, passed, stopped, refusal, judge-text, judge-both, slices-short}
-use Rattle.definitions.specs.WorkSlices.{form-words, name-words, value-words, text-words, reader-words, reader-texts}
+use Rattle.definitions.specs.WorkSlices.{shape-words, name-words, value-words, text-words, reader-words, reader-texts}
 use Rattle.definitions.specs.WorkSlices.{for-shape-document, for-two-shapes}
 use Rattle.laws.specs.FormGrammar.{result-forms, result-levels}
 use Rattle.laws.specs.Readers.{proper}
@@ -40,7 +40,7 @@ pub record Shape-table (l : Limits) (shapes pool : List ℕ) (words top : ℕ) (
 
 -- the tables have room for this text, if it is short enough to be read, behind the first `top` words of the pool
 pub record Shape-room (text : Bytes) (shapes pool : List ℕ) (top : ℕ) (l : Limits) : Type 0 where
-  pub rows : form-words l ≤ length shapes
+  pub rows : shape-words l (length text) ≤ length shapes
   pub names : top + name-words l (length text) ≤ length pool
   pub low : top ≤ 16384
   pub small : Small l
@@ -83,7 +83,7 @@ pub record Reader-table (l : Limits) (forms pool : List ℕ) (words top : ℕ) (
 
 -- the tables have room for this text, if it is short enough to be read
 pub record Reader-room (text : Bytes) (forms pool : List ℕ) (l : Limits) : Type 0 where
-  pub rows : reader-words l ≤ length forms
+  pub rows : reader-words l (length text) ≤ length forms
   pub texts : reader-texts l (length text) ≤ length pool
   pub small : Small l
 
@@ -147,8 +147,8 @@ pub record Two-shapes-held (l : Limits) (shapes others pool : List ℕ) (a b top
 -- ---- a reader and a shape
 
 pub record Reader-shape-slices (reader shape : Bytes) (forms shapes pool : List ℕ) (l : Limits) : Type 0 where
-  pub rows : reader-words l ≤ length forms
-  pub shape-rows : form-words l ≤ length shapes
+  pub rows : reader-words l (length reader) ≤ length forms
+  pub shape-rows : shape-words l (length shape) ≤ length shapes
   pub texts : reader-texts l (length reader) + name-words l (length shape) ≤ length pool
   pub small : Small l
 
@@ -159,7 +159,7 @@ pub record Reader-shape-held (l : Limits) (forms shapes pool : List ℕ) (a b to
 -- ---- a reader and a document
 
 pub record Reader-document-slices (reader document : Bytes) (forms nodes pool : List ℕ) (l : Limits) : Type 0 where
-  pub rows : reader-words l ≤ length forms
+  pub rows : reader-words l (length reader) ≤ length forms
   pub value-rows : value-words l (length document) ≤ length nodes
   pub texts : reader-texts l (length reader) + text-words l (length document) ≤ length pool
   pub small : Small l

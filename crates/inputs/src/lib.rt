@@ -26,7 +26,8 @@ pub enum Texts {
     },
 }
 
-// Judges a shape text, and reads it behind the names of another. A text that is too long is not read.
+// Judges a shape text, and reads it behind the names of another. A text that is too long is not read, and a shorter one begins no
+// more forms than its bytes pay for.
 fn read_shape(
     text: &[u8],
     shapes: &mut [u64],
@@ -43,7 +44,8 @@ fn read_shape(
             place: 0,
         };
     }
-    shape_reader::read_shape(text, shapes, pool, top, limits)
+    let few = slices::fewer(limits, (text.len() + 6) / 7);
+    shape_reader::read_shape(text, shapes, pool, top, few)
 }
 
 // Judges and reads the first text: its names take no more of the pool than one text's can.
@@ -136,7 +138,7 @@ pub fn two_shapes(
     }
 }
 
-// Judges and reads a reader. A text that is too long is not read.
+// Judges and reads a reader. A text that is too long is not read, and a shorter one begins no more forms than its bytes pay for.
 fn first_reader(text: &[u8], forms: &mut [u64], pool: &mut [u64], limits: Limits) -> FormsRead
     requires { ⌜ Reader-room (now text) (now forms) (now pool) limits ⌝ }
     ensures judged { λ r. ⌜ Judges-reader limits (now (text .entry)) (now (forms .exit)) (now (pool .exit)) r ⌝ }
@@ -147,7 +149,8 @@ fn first_reader(text: &[u8], forms: &mut [u64], pool: &mut [u64], limits: Limits
             place: 0,
         };
     }
-    form_reader::read_reader(text, forms, pool, 0, limits)
+    let few = slices::fewer(limits, (text.len() + 2) / 3);
+    form_reader::read_reader(text, forms, pool, 0, few)
 }
 
 // A reader, then a shape.

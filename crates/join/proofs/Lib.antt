@@ -11,3 +11,4 @@ pub mod Loop
 pub mod Turning
 pub mod Joining
 pub mod Whole
+pub mod Idle

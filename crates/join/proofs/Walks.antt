@@ -8,7 +8,7 @@ use lib.ListN.{getD}
 use Rattle.definitions.specs.Bytes.{Bytes, order}
 use Rattle.definitions.specs.Shape.{Shape, Fields, no-fields, field, behind}
 use Rattle.definitions.specs.Join.{with-null, join}
-use Rattle.laws.specs.Names.{order-eq, before-lt, before-gt}
+use Rattle.laws.specs.Names.{order-refl, order-eq, before-lt, before-gt}
 use Rattle.pool.specs.Pool.{text-in, ordering-of}
 use Rattle.pool.specs.declared.Comparison.{Comparison}
 use Rattle.pool.specs.declared.Comparison.the-variants.{Less, Equal, Greater}
@@ -73,3 +73,18 @@ module _ {shapes second pool p : List ℕ} {row end other to : ℕ} where
           ∙ text-referred pool (w .pooled .front) (w .pooled .small) (a .1))
           (ap₂ (text-in pool) (ev ∙ ap (λ (i : ℕ). i % 65536) (f ∙ stands-name (b .2))) (em ∙ ap (λ (i : ℕ). i / 65536) (f ∙ stands-name (b .2)))
           ∙ text-referred pool (w .pooled .front) (w .pooled .small) (b .1)))
+
+  -- names at one reference are the same
+  pub one-name
+      : {x y : ℕ} → x ≡ getD shapes (row + 1) 0 → y ≡ getD second (other + 1) 0 → x ≡ y → row < end → other < to → (fs gs : Fields)
+      → Members-walk shapes second pool p row end other to fs gs → Next Equal fs gs
+  unfolding ordering-of
+  one-name {x} e f q h i fs gs w =
+      compared Equal e f refl refl refl refl
+      (sym (order-refl (text-in pool (x % 65536) (x / 65536)))
+      ∙ ap (λ (y : ℕ). order (text-in pool (x % 65536) (x / 65536)) (text-in pool (y % 65536) (y / 65536))) q)
+      h
+      i
+      fs
+      gs
+      w

@@ -3,7 +3,8 @@ use Prim.Native.Nat.{ℕ, _+_, _*_, _%_, _≤_, _<_}
 use mathlib.Core.Path.{_≡_}
 use mathlib.Core.Bool.{true, false}
 use mathlib.Core.List.{List}
-use lib.ListN.{length, take, drop}
+use lib.Bits.{bitOr}
+use lib.ListN.{length, getD, take, drop}
 use Rattle.definitions.specs.Bytes.{Bytes}
 use Rattle.definitions.specs.Shape.{Shape, shape, Fields, field, element-of, record-of, behind, ascending}
 use Rattle.definitions.specs.Shape.{ascending-fields, forms, forms-fields, levels, levels-fields}
@@ -136,6 +137,12 @@ Puts-null shapes shapes′ second used at from r =
     → Puts shapes shapes′ used at 0 (2 * forms b) (Shape-rows p k (with-null b)) r
 
 -- ---- shapes
+
+-- the shape at a row of a second table has no parts, and no kind that the one at a row of a first lacks
+pub record Adds-nothing (shapes second : List ℕ) (row other : ℕ) : Type 0 where
+  pub no-list : has-bit (getD second other 0 % 128) 32 ≡ false
+  pub no-rec : has-bit (getD second other 0 % 128) 64 ≡ false
+  pub within : bitOr (getD shapes row 0 % 128) (getD second other 0 % 128) ≡ getD shapes row 0 % 128
 
 -- the shape s stands in the used words of a table at a row, under the name word m, and t in a second
 pub record Both (shapes second p : List ℕ) (used row m other k : ℕ) (s t : Shape) : Type 0 where

@@ -8,7 +8,7 @@ ghost use Rattle.shapes.specs.Shapes.{has-bit};
 ghost use lib.ListN.{length, getD, take, drop};
 ghost use Rattle.join.specs.Replacing.{Opened, Puts};
 ghost use Rattle.join.specs.Joining.{Insertable, Copied, null-head, Tells-next, passed-words, Mergeable, Merges, Turns, Turned};
-ghost use Rattle.join.specs.Joining.{Puttable, Puts-null, Beside, Becomes-both, Joinable, Joins-to, join-records, join-elements};
+ghost use Rattle.join.specs.Joining.{Adds-nothing, Puttable, Puts-null, Beside, Becomes-both, Joinable, Joins-to, join-records, join-elements};
 use pool::Comparison;
 use shapes::Shape;
 
@@ -45,7 +45,7 @@ fn copy_rows(shapes: &mut [u64], at: usize, second: &[u64], from: usize, count: 
 }
 
 // Puts words of a second table at a place of a first, whose later words move up.
-pub fn put_rows(
+fn put_rows(
     shapes: &mut [u64],
     used: usize,
     at: usize,
@@ -65,7 +65,7 @@ pub fn put_rows(
 }
 
 // Adds null to the shape at a row.
-pub fn add_null(shapes: &mut [u64], row: usize)
+fn add_null(shapes: &mut [u64], row: usize)
     requires { ⌜ row < length (now shapes) ⌝ }
     requires fits { ⌜ getD (now shapes) row 0 + 1 < 2 ^ 64 ⌝ }
     ensures added { λ _. ⌜ now (shapes .exit)
@@ -78,7 +78,7 @@ pub fn add_null(shapes: &mut [u64], row: usize)
 }
 
 // Tells in the first word of the shape at a row that it has a kind more, or none, and words more.
-pub fn grow_head(shapes: &mut [u64], row: usize, kind: Shape, words: usize)
+fn grow_head(shapes: &mut [u64], row: usize, kind: Shape, words: usize)
     requires { ⌜ row < length (now shapes) ⌝ }
     requires fits { ⌜ getD (now shapes) row 0 + kind .kinds + 128 * words < 2 ^ 64 ⌝ }
     ensures told { λ _. ⌜ now (shapes .exit)
@@ -107,6 +107,10 @@ fn next_member(
     }
     let k = shapes::name(shapes, row);
     let m = shapes::name(second, other);
+    // the two shapes mostly have their names from one
+    if k == m {
+        return Comparison::Equal;
+    }
     let w = nodes::text_word(k);
     let v = nodes::text_word(m);
     pool::compare(pool, w, nodes::text_bytes(k), v, nodes::text_bytes(m))
@@ -124,7 +128,7 @@ fn second_step(second: &[u64], other: usize, order: Comparison) -> usize
 }
 
 // Puts a shape of a second table at a place of a first, with null added.
-pub fn put_member(shapes: &mut [u64], used: usize, at: usize, second: &[u64], from: usize) -> Joined
+fn put_member(shapes: &mut [u64], used: usize, at: usize, second: &[u64], from: usize) -> Joined
     requires { ⌜ Puttable (now shapes) (now second) used at from ⌝ }
     ensures put { λ r. ⌜ Puts-null (now (shapes .entry)) (now (shapes .exit)) (now (second .entry)) used at from r ⌝ }
 {
@@ -168,6 +172,20 @@ fn put_element(shapes: &mut [u64], used: usize, row: usize, second: &[u64], othe
     Joined::Grown { words }
 }
 
+// Whether the shape at a row of a second table has no parts and no kind that the one at a row of a first lacks: a join changes nothing.
+fn adds_nothing(shapes: &[u64], row: usize, second: &[u64], other: usize) -> bool
+    ensures told { λ r. ⌜ (r ≡ true → Adds-nothing (now (shapes .entry)) (now (second .entry)) row other) ⌝ }
+{
+    let kinds = shapes::kinds(second, other);
+    if shapes::has(kinds, Shape::LIST) {
+        return false;
+    }
+    if shapes::has(kinds, Shape::REC) {
+        return false;
+    }
+    shapes::is_within(kinds, shapes::kinds(shapes, row))
+}
+
 // Joins the next member of the second into the first: a member of only one is kept with null added.
 fn join_next(
     shapes: &mut [u64],
@@ -187,7 +205,12 @@ fn join_next(
             add_null(shapes, row);
             Joined::Grown { words: 0 }
         }
-        Comparison::Equal => join_at(shapes, used, row, second, other, pool, left),
+        Comparison::Equal => {
+            if adds_nothing(shapes, row, second, other) {
+                return Joined::Grown { words: 0 };
+            }
+            join_at(shapes, used, row, second, other, pool, left)
+        }
         Comparison::Greater => put_member(shapes, used, row, second, other),
     }
 }

@@ -6,6 +6,7 @@ pub mod Answers
 pub mod Scalars
 pub mod Literals
 pub mod Names
+pub mod Seen
 pub mod Bracketed
 pub mod Turns
 pub mod NameReading

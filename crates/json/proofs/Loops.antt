@@ -46,8 +46,8 @@ inside-record ms n a = record { most = a .most; nests = omega (arith, a .nests) 
 
 -- where the next part may begin
 unfoldable pub part-ready
-    : (k : Bracket) {left values written : ℕ} {doc : Bytes} {nodes₀ pool₀ nodes pool : List ℕ} (c from : Cursor)
-    → Ready doc nodes₀ pool₀ values c → Open-parts k (next-of k) 1 left values doc nodes₀ pool₀ nodes pool c from written
+    : (k : Bracket) {seen left values written : ℕ} {doc : Bytes} {nodes₀ pool₀ nodes pool : List ℕ} (c from : Cursor)
+    → Ready doc nodes₀ pool₀ values c → Open-parts k seen (next-of k) 1 left values doc nodes₀ pool₀ nodes pool c from written
     → Ready doc nodes pool values from
 part-ready k c from r op =
     record {
@@ -73,8 +73,8 @@ used-within c r = r .used
 -- ---- a list's element
 
 module _
-    {left values written : ℕ} {doc : Bytes} {nodes₀ pool₀ nodes pool nodes′ pool′ : List ℕ} (c from : Cursor) (used : from .top ≤ length pool)
-    (op : Open-parts square (next-of square) 1 left values doc nodes₀ pool₀ nodes pool c from written) where
+    {seen left values written : ℕ} {doc : Bytes} {nodes₀ pool₀ nodes pool nodes′ pool′ : List ℕ} (c from : Cursor) (used : from .top ≤ length pool)
+    (op : Open-parts square seen (next-of square) 1 left values doc nodes₀ pool₀ nodes pool c from written) where
   pub element-refused
       : {name number place : ℕ} {v : ValueRead} → v ≡ Refused number place
       → Reads Gap.value (from .begun) left values doc nodes pool nodes′ pool′ 0 from v
@@ -95,7 +95,7 @@ module _
 
   pub element-read
       : {to : Cursor} {n : ℕ} → Reads Gap.value (from .begun) left values doc nodes pool nodes′ pool′ 0 from (Done to n)
-      → Open-parts square (behind-of square) 0 left values doc nodes₀ pool₀ nodes′ pool′ c to (written + n + 1)
+      → Open-parts square seen (behind-of square) 0 left values doc nodes₀ pool₀ nodes′ pool′ c to (written + n + 1)
   unfolding put size items-length
   element-read {to} {n} d =
       let v = d .answer in
@@ -104,6 +104,7 @@ module _
         run = λ l o a kept. op .run l o a kept ∙ v .run l (in-list (op .parts) o) (inside-list (op .parts) a) kept;
         rows = op .rows ++ v .rows;
         held = item-before held-then (v .held);
+        marked = tt;
         table =
             v .table
             ∙ ap (λ (s : List ℕ). s ++ v .rows) (op .table)
@@ -158,8 +159,8 @@ behind-ready c from to r h i e same v short =
 -- ---- a record's member
 
 module _
-    {left values written : ℕ} {doc : Bytes} {nodes₀ pool₀ nodes pool : List ℕ} (c from : Cursor) (room : 3 * c .begun + 3 ≤ length nodes)
-    (used : from .top ≤ length pool) (op : Open-parts curly (next-of curly) 1 left values doc nodes₀ pool₀ nodes pool c from written) where
+    {seen left values written : ℕ} {doc : Bytes} {nodes₀ pool₀ nodes pool : List ℕ} (c from : Cursor) (room : 3 * c .begun + 3 ≤ length nodes)
+    (used : from .top ≤ length pool) (op : Open-parts curly seen (next-of curly) 1 left values doc nodes₀ pool₀ nodes pool c from written) where
   members-before : Members-at nodes pool (c .begun + 1) from (op .parts)
   members-before =
       record {
@@ -185,20 +186,21 @@ module _
 
   module _ {pool₁ : List ℕ} where
     pub name-refused
-        : {name number place : ℕ} → Reads-name doc nodes pool pool₁ (c .begun + 1) from (Name-is.Refused number place)
+        : {name number place : ℕ} → Reads-name doc nodes pool pool₁ (c .begun + 1) seen from (Name-is.Refused number place)
         → Reads Gap.first-name (suc (c .begun)) (suc left) values doc nodes₀ pool₀ nodes pool₁ name c (Refused number place)
     name-refused d =
         record {
           answer =
               record {
-                run = λ l o a kept. op .run l o a kept ∙ d .answer .run (op .parts) members-before l (from .begun) kept o;
+                run = λ l o a kept. op .run l o a kept ∙ d .answer .run (op .parts) members-before (op .marked) l (from .begun) kept o;
                 within = d .answer .within;
               };
           nodes-kept = op .nodes-kept;
           pool-kept = d .pool-kept ∙ op .pool-kept;
         }
 
-    module _ (at : Cursor) {word named : ℕ} (d : Reads-name doc nodes pool pool₁ (c .begun + 1) from (Name-is.Done at word named)) where
+    module _ (at : Cursor) {word named seen′ : ℕ}
+        (d : Reads-name doc nodes pool pool₁ (c .begun + 1) seen from (Name-is.Done at word named seen′)) where
       pub value-ready : Ready doc nodes₀ pool₀ values c → Ready doc nodes pool₁ values at
       value-ready r =
           let q = part-ready curly c from r op in
@@ -225,7 +227,7 @@ module _
           ≡ scan l (at .begun) kept (gap (Gap.value (in-rec (op .parts) (d .answer .name) o))) (drop (at .at) doc)
       named-run l o a kept =
           op .run l o a kept
-          ∙ d .answer .run (op .parts) members-before l (from .begun) kept o
+          ∙ d .answer .run (op .parts) members-before (op .marked) l (from .begun) kept o
           ∙ ap (λ (i : ℕ). scan l i kept (gap (Gap.value (in-rec (op .parts) (d .answer .name) o))) (drop (at .at) doc)) (sym (d .answer .moves .begun))
 
       module _ {nodes′ pool′ : List ℕ} where
@@ -251,7 +253,7 @@ module _
         pub member-read
             : {to : Cursor} {n : ℕ} → at .top ≤ length pool₁
             → Reads Gap.value (at .begun) left values doc nodes pool₁ nodes′ pool′ word at (Done to n)
-            → Open-parts curly (behind-of curly) 0 left values doc nodes₀ pool₀ nodes′ pool′ c to (written + named + n + 2)
+            → Open-parts curly seen′ (behind-of curly) 0 left values doc nodes₀ pool₀ nodes′ pool′ c to (written + named + n + 2)
         unfolding put size members-length
         member-read {to} {n} room-then u =
             let v = u .answer in
@@ -263,6 +265,7 @@ module _
                   ∙ v .run l (in-rec (op .parts) (d .answer .name) o) (inside-record (op .parts) (d .answer .name) a) kept;
               rows = op .rows ++ v .rows;
               held = member-before before-then named-then (v .held);
+              marked = d .answer .covers (v .value) (op .marked);
               table =
                   v .table
                   ∙ ap (λ (i : ℕ). take (3 * i) nodes ++ v .rows) (m .begun)
@@ -310,6 +313,6 @@ module _
 
 -- what is written stays small
 pub total-small
-    : (k : Bracket) {here : Parts k → Open → Gap} {spare left values total : ℕ} {doc : Bytes} {nodes₀ pool₀ nodes pool : List ℕ} (c to : Cursor)
-    → Ready doc nodes₀ pool₀ values c → Open-parts k here spare left values doc nodes₀ pool₀ nodes pool c to total → total ≤ 2 ^ 40
+    : (k : Bracket) {here : Parts k → Open → Gap} {seen spare left values total : ℕ} {doc : Bytes} {nodes₀ pool₀ nodes pool : List ℕ} (c to : Cursor)
+    → Ready doc nodes₀ pool₀ values c → Open-parts k seen here spare left values doc nodes₀ pool₀ nodes pool c to total → total ≤ 2 ^ 40
 total-small k c to r op = omega (arith, op .moves .short, op .moves .within, op .moves .limit, r .placed .short, r .placed .few)

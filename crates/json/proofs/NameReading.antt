@@ -1,10 +1,11 @@
 -- Answers for a name and its colon. Assumes nothing.
-use Prim.Native.Nat.{ℕ, _+_, _-_, _*_, _/_, _≤_, _<_}
+use Prim.Native.Nat.{ℕ, _+_, _-_, _*_, _/_, _^_, _≤_, _<_}
 use mathlib.Core.Path.{_≡_, refl, sym, ap, _∙_, subst}
 use mathlib.Core.Bool.{Bool, true, false}
 use mathlib.Core.List.{List, [], _∷_}
 use native.Mathlib.Omega.{arith}
 use borrow.Author.Tests.{ne-eqb}
+use lib.Bits.{bitOr}
 use lib.ListN.{length, take, drop, getD}
 use Rattle.definitions.specs.declared.Limits.{Limits}
 use Rattle.definitions.specs.Bytes.{Bytes, look, between, is, white, white-table, found}
@@ -21,8 +22,9 @@ use Rattle.text.specs.TextLaws.{scan-broke, scan-ended}
 use Rattle.text.specs.TextRead.{Text-closed, Text-broken}
 use Rattle.json.specs.declared.reading.Cursor.{Cursor}
 use Rattle.json.specs.declared.name.NameRead.the-variants as Name-is
-use Rattle.json.specs.JsonParts.{Skips, Token, Neither, Named-rows, Walkable, Members-at, Name-ready, Reads-name}
+use Rattle.json.specs.JsonParts.{Skips, Token, Neither, Named-rows, Walkable, Members-at, name-place, Covers, covers-none, Name-ready, Reads-name}
 use Rattle.json.proofs.Kept.{scan-kept}
+use Rattle.json.proofs.Seen.{covers-onto, covers-with}
 use Rattle.json.proofs.Scan.{byte-inside, byte-here, scan-broken}
 
 -- ---- reading
@@ -101,12 +103,12 @@ module _ {doc nodes pool : List ℕ} {values first : ℕ} (c : Cursor) (p : Name
 -- ---- answers
 
 module _ {doc nodes pool : List ℕ} {values first at : ℕ} (c : Cursor) (p : Name-ready doc nodes pool values first c) (s : Skips doc (c .at) at) where
-  pub no-name : (getD doc at 256 ≡ 0x22 → ⊥) → Reads-name doc nodes pool pool first c (Name-is.Refused 3 at)
+  pub no-name : {seen : ℕ} → (getD doc at 256 ≡ 0x22 → ⊥) → Reads-name doc nodes pool pool first seen c (Name-is.Refused 3 at)
   no-name h =
       record {
         answer =
             record {
-              run = λ ms m l n kept o.
+              run = λ ms m covered l n kept o.
                   let miss = name-missing ms o (getD doc at 256) h in
                   s .run l n kept (Gap.next-name ms o) ∙ scan-broken l n kept doc at (Gap.next-name ms o) (miss .0) (s .stops) (miss .1);
               within = s .within;
@@ -127,12 +129,12 @@ module _ {doc nodes pool : List ℕ} {values first at : ℕ} (c : Cursor) (p : N
 
   module _ {pool′ : List ℕ} (e : getD doc at 256 ≡ 0x22) (same : length pool′ ≡ length pool) where
     pub name-broken
-        : {place : ℕ} → Text-broken doc (at + 1) place → Reads-name doc nodes pool pool′ first c (Name-is.Refused 3 place)
+        : {place seen : ℕ} → Text-broken doc (at + 1) place → Reads-name doc nodes pool pool′ first seen c (Name-is.Refused 3 place)
     name-broken {place} t =
         record {
           answer =
               record {
-                run = λ ms m l n kept o.
+                run = λ ms m covered l n kept o.
                     begins e ms l n kept o
                     ∙ scan-broke l n (drop at doc) (as-name ms o) Inside.chars [] (drop (at + 1) doc) (drop place doc) (t .run);
                 within = t .within;
@@ -141,16 +143,17 @@ module _ {doc nodes pool : List ℕ} {values first at : ℕ} (c : Cursor) (p : N
         }
 
     module _
-        {end k w : ℕ} {found-now : Bool} (front : take (c .top) pool′ ≡ take (c .top) pool) (t : Text-closed doc (at + 1) pool′ (c .top) end k w)
-        (f : (ms : Members) → Named-rows nodes pool′ (3 * first) (3 * c .begun) ms → found-now ≡ has-name (text-in pool′ (c .top) k) ms) where
+        {end k w seen : ℕ} {found-now : Bool} (front : take (c .top) pool′ ≡ take (c .top) pool)
+        (t : Text-closed doc (at + 1) pool′ (c .top) end k w)
+        (f : (ms : Members) → Named-rows nodes pool′ (3 * first) (3 * c .begun) ms → Covers seen ms → found-now ≡ has-name (text-in pool′ (c .top) k) ms) where
       judged
-          : (ms : Members) → Members-at nodes pool first c ms → (l : Limits) (n : ℕ) (kept : Bytes) (o : Open)
+          : (ms : Members) → Members-at nodes pool first c ms → Covers seen ms → (l : Limits) (n : ℕ) (kept : Bytes) (o : Open)
           → scan l n kept (gap (Gap.next-name ms o)) (drop (c .at) doc)
           ≡ elim found-now [
             | true ↦ refused 5 (drop at doc)
             | false ↦ scan l n (drop at doc) (gap (Gap.colon ms (text-in pool′ (c .top) k) o)) (drop end doc)
           ]
-      judged ms m l n kept o =
+      judged ms m covered l n kept o =
           begins e ms l n kept o
           ∙ scan-ended l n (drop at doc) (as-name ms o) Inside.chars [] (drop (at + 1) doc) (text-in pool′ (c .top) k) (drop end doc) (t .run)
           ∙ name-ends l n (drop at doc) (drop end doc) (text-in pool′ (c .top) k) ms o
@@ -160,25 +163,26 @@ module _ {doc nodes pool : List ℕ} {values first at : ℕ} (c : Cursor) (p : N
           ])
           (sym
           (f (members-onto ms no-members) (members-named c (omega (arith, used-within c p, same)) (few-used c p) front m)
+          (covers-onto ms covered covers-none)
           ∙ has-name-read (text-in pool′ (c .top) k) ms))
 
-      pub name-twice : found-now ≡ true → Reads-name doc nodes pool pool′ first c (Name-is.Refused 5 at)
+      pub name-twice : found-now ≡ true → Reads-name doc nodes pool pool′ first seen c (Name-is.Refused 5 at)
       name-twice g =
           record {
-            answer = record { run = λ ms m l n kept o. judged ms m l n kept o ∙ rw g; within = s .within };
+            answer = record { run = λ ms m covered l n kept o. judged ms m covered l n kept o ∙ rw g; within = s .within };
             pool-kept = same;
           }
 
       pub no-colon
           : {place : ℕ} → found-now ≡ false → Neither doc end 0x3A 0x3A place
-          → Reads-name doc nodes pool pool′ first c (Name-is.Refused 3 place)
+          → Reads-name doc nodes pool pool′ first seen c (Name-is.Refused 3 place)
       no-colon {place} g q =
           record {
             answer =
                 record {
-                  run = λ ms m l n kept o.
+                  run = λ ms m covered l n kept o.
                       let miss = colon-missing (text-in pool′ (c .top) k) ms o (getD doc place 256) (q .first) in
-                      judged ms m l n kept o
+                      judged ms m covered l n kept o
                       ∙ rw g
                       (q .skips .run l n (drop at doc) (Gap.colon ms (text-in pool′ (c .top) k) o)
                       ∙ scan-broken l n (drop at doc) doc place (Gap.colon ms (text-in pool′ (c .top) k) o) (miss .0) (q .skips .stops) (miss .1));
@@ -188,22 +192,24 @@ module _ {doc nodes pool : List ℕ} {values first at : ℕ} (c : Cursor) (p : N
           }
 
       pub name-read
-          : {next word : ℕ} → found-now ≡ false → Token doc end 0x3A next → word ≡ reference (c .top) k
-          → Reads-name doc nodes pool pool′ first c
-          (Name-is.Done (record { at = next; begun = c .begun; top = c .top + (k + 7) / 8 }) word w)
-      name-read {next} {word} g q u =
+          : {next word place x : ℕ} → place ≡ name-place (text-in pool′ (c .top) k) → x ≡ 1 * 2 ^ place → found-now ≡ false
+          → Token doc end 0x3A next → word ≡ reference (c .top) k
+          → Reads-name doc nodes pool pool′ first seen c
+          (Name-is.Done (record { at = next; begun = c .begun; top = c .top + (k + 7) / 8 }) word w (bitOr seen x))
+      name-read {next} {word} at-bit bit g q u =
           record {
             answer =
                 record {
                   name = text-in pool′ (c .top) k;
-                  run = λ ms m l n kept o.
-                      judged ms m l n kept o
+                  run = λ ms m covered l n kept o.
+                      judged ms m covered l n kept o
                       ∙ rw g
                       (q .run l n (drop at doc) (Gap.colon ms (text-in pool′ (c .top) k) o)
                       ∙ colon-read l n (drop at doc) (drop next doc) (text-in pool′ (c .top) k) ms o
                       ∙ scan-kept l (drop at doc) kept n (Gap.value (in-rec ms (text-in pool′ (c .top) k) o)) (drop next doc));
                   refers = rw u (text-refers pool′ (c .top) k (t .size) (t .room));
                   wrote = t .written;
+                  covers = λ v cs. covers-with v at-bit bit cs;
                   front = front;
                   moves =
                       record {

@@ -11,7 +11,7 @@ use Rattle.definitions.specs.Value.{Value, Members, no-members, member, has-nam
 use Rattle.pool.specs.Pool.{text-in}
 use Rattle.nodes.specs.Nodes.{Refers, refers, row-size, Member-rows, no-member-rows, member-rows}
 use Rattle.nodes.specs.NodesLaws.{length-rows, row-size-is, row-name-is}
-use Rattle.nodes.specs.StandingLaws.{text-referred-front, size-some}
+use Rattle.nodes.specs.StandingLaws.{text-referred-front, referred-whole-front, size-some}
 use Rattle.json.specs.JsonParts.{Named-rows, Walkable}
 
 -- ---- one member
@@ -104,35 +104,49 @@ module _ (nodes pool : List ℕ) (from to w n row : ℕ) (within : to ≤ length
   step-sizes k v h =
       let f = first-of h (v .left (k .members) (k .named) .named) in (f .wide, f .inside)
 
+  -- the name of the row
+  abbrev pub name-here : ℕ
+  name-here = getD nodes (row + 2) 0
+
+  -- the pool has it whole
+  pub name-whole
+      : Walkable nodes pool from to → Walking nodes pool from to w n row → row < to
+      → length (text-in pool (name-here % 65536) (name-here / 65536)) ≡ name-here / 65536
+  name-whole k v h =
+      let r = v .left (k .members) (k .named) .named in
+      let f = first-of h r in
+      subst (λ (x : ℕ). length (text-in pool (x % 65536) (x / 65536)) ≡ x / 65536) (sym (f .named))
+      (referred-whole-front pool (r .used) (r .within) (r .few) (f .refers))
+
   -- what comparing says of the first member
   compared
-      : (h : row < to) {others : Members} (r : Named-rows nodes pool row to others) {x : ℕ} {b : Bool} → x ≡ getD nodes (row + 2) 0
-      → b ≡ same (text-in pool w n) (text-in pool (x % 65536) (x / 65536)) → b ≡ same (text-in pool w n) (first-of h r .name)
-  compared h r {x} e s =
+      : (h : row < to) {others : Members} (r : Named-rows nodes pool row to others) {b : Bool}
+      → b ≡ same (text-in pool w n) (text-in pool (name-here % 65536) (name-here / 65536)) → b ≡ same (text-in pool w n) (first-of h r .name)
+  compared h r s =
       let f = first-of h r in
       s
-      ∙ ap (λ (y : ℕ). same (text-in pool w n) (text-in pool (y % 65536) (y / 65536))) (e ∙ f .named)
+      ∙ ap (λ (y : ℕ). same (text-in pool w n) (text-in pool (y % 65536) (y / 65536))) (f .named)
       ∙ ap (λ (t : Bytes). same (text-in pool w n) t) (text-referred-front pool (r .used) (r .within) (r .few) (f .refers))
 
   pub found-here
-      : Walking nodes pool from to w n row → row < to → {x : ℕ} {b : Bool} → x ≡ getD nodes (row + 2) 0
-      → b ≡ same (text-in pool w n) (text-in pool (x % 65536) (x / 65536)) → b ≡ true
+      : Walking nodes pool from to w n row → row < to → {b : Bool}
+      → b ≡ same (text-in pool w n) (text-in pool (name-here % 65536) (name-here / 65536)) → b ≡ true
       → (ms : Members) → Named-rows nodes pool from to ms → true ≡ has-name (text-in pool w n) ms
   unfolding has-name
-  found-here v h e s t ms r =
+  found-here v h s t ms r =
       let left = v .left ms r in
       let f = first-of h (left .named) in
       sym
       (left .found
       ∙ ap (has-name (text-in pool w n)) (f .split)
-      ∙ ap (λ (y : Bool). y || has-name (text-in pool w n) (f .others)) (sym (compared h (left .named) e s) ∙ t))
+      ∙ ap (λ (y : Bool). y || has-name (text-in pool w n) (f .others)) (sym (compared h (left .named) s) ∙ t))
 
   pub walked-on
-      : Walking nodes pool from to w n row → row < to → Walkable nodes pool from to → {x : ℕ} {b : Bool} → x ≡ getD nodes (row + 2) 0
-      → b ≡ same (text-in pool w n) (text-in pool (x % 65536) (x / 65536)) → b ≡ false
+      : Walking nodes pool from to w n row → row < to → Walkable nodes pool from to → {b : Bool}
+      → b ≡ same (text-in pool w n) (text-in pool (name-here % 65536) (name-here / 65536)) → b ≡ false
       → Walking nodes pool from to w n (row + row-size nodes row)
   unfolding has-name
-  walked-on v h k e s t =
+  walked-on v h k s t =
       record {
         ordered = step-sizes k v h .1;
         left = λ ms r.
@@ -145,7 +159,7 @@ module _ (nodes pool : List ℕ) (from to w n row : ℕ) (within : to ≤ length
               found =
                   left .found
                   ∙ ap (has-name (text-in pool w n)) (f .split)
-                  ∙ ap (λ (y : Bool). y || has-name (text-in pool w n) (f .others)) (sym (compared h (left .named) e s) ∙ t);
+                  ∙ ap (λ (y : Bool). y || has-name (text-in pool w n) (f .others)) (sym (compared h (left .named) s) ∙ t);
             };
       }
 

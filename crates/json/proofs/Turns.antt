@@ -15,7 +15,8 @@ use Rattle.json.specs.declared.reading.Cursor.{Cursor}
 use Rattle.json.specs.declared.reading.ValueRead.{ValueRead}
 use Rattle.json.specs.declared.reading.ValueRead.the-variants.{Refused}
 use Rattle.json.specs.JsonParts.{Skips, Token, Neither, Open-limited, Table-placed, Moves, Reads, Bracket, Parts, no-parts, code-of, closing-of}
-use Rattle.json.specs.JsonParts.{start-of, next-of, behind-of, Before, count-of, whole-of, Open-parts, Closes, Behind-ready}
+use Rattle.json.specs.JsonParts.{square, curly, start-of, next-of, behind-of, Before, count-of, whole-of, Marked, covers-none}
+use Rattle.json.specs.JsonParts.{Open-parts, Closes, Behind-ready}
 use Rattle.json.proofs.Scan.{scan-broken}
 use Rattle.nodes.specs.RowLaws.{length-with-row, row-put}
 use Rattle.json.proofs.Bracketed.{comma, closes, closes-empty, first-part, behind-end, behind-broken, no-rows, whole-rows}
@@ -72,6 +73,10 @@ module _
 
 -- ---- behind an opening bracket
 
+none-marked : (k : Bracket) (seen : ℕ) → Marked k seen (no-parts k)
+none-marked square seen = tt
+none-marked curly seen = covers-none
+
 module _
     {left values : ℕ} {doc : Bytes} {nodes pool : List ℕ} {kind closing : ℕ} (c : Cursor) {at : ℕ} (p : Table-placed doc nodes values c)
     (free : c .begun < values) (k : Bracket) (code : kind ≡ code-of k) (shut : closing ≡ closing-of k) (s : Skips doc (c .at) at) where
@@ -101,9 +106,9 @@ module _
       (let e : suc (c .begun) ≡ c .begun + 1 = omega arith in e))
 
   pub first-part-more
-      : (getD doc at 256 ≡ closing → ⊥)
-      → Open-parts k (next-of k) 1 left values doc nodes pool nodes pool c (record { at = at; begun = c .begun + 1; top = c .top }) 1
-  first-part-more h =
+      : {seen : ℕ} → (getD doc at 256 ≡ closing → ⊥)
+      → Open-parts k seen (next-of k) 1 left values doc nodes pool nodes pool c (record { at = at; begun = c .begun + 1; top = c .top }) 1
+  first-part-more {seen} h =
       record {
         parts = no-parts k;
         run = λ l o a kept.
@@ -113,6 +118,7 @@ module _
             (let e : suc (c .begun) ≡ c .begun + 1 = omega arith in e);
         rows = [];
         held = no-rows k (take (c .top) pool);
+        marked = none-marked k seen;
         table =
             ap (λ (i : ℕ). take (3 * i) nodes) (let e : c .begun + 1 ≡ suc (c .begun) = omega arith in e)
             ∙ sym (append-nil (take (3 * suc (c .begun)) nodes));
@@ -135,12 +141,12 @@ module _
 -- ---- behind a part
 
 module _
-    {left values : ℕ} {doc : Bytes} {nodes₀ pool₀ nodes pool : List ℕ} {kind closing written : ℕ} (c to : Cursor)
+    {seen left values : ℕ} {doc : Bytes} {nodes₀ pool₀ nodes pool : List ℕ} {kind closing written : ℕ} (c to : Cursor)
     (b : Behind-ready doc nodes c kind closing to written) (k : Bracket) (code : kind ≡ code-of k) (shut : closing ≡ closing-of k)
-    (op : Open-parts k (behind-of k) 0 left values doc nodes₀ pool₀ nodes pool c to written) where
+    (op : Open-parts k seen (behind-of k) 0 left values doc nodes₀ pool₀ nodes pool c to written) where
   pub next-part-more
       : {at : ℕ} → Token doc (to .at) 0x2C at
-      → Open-parts k (next-of k) 1 left values doc nodes₀ pool₀ nodes pool c (record { at = at; begun = to .begun; top = to .top }) written
+      → Open-parts k seen (next-of k) 1 left values doc nodes₀ pool₀ nodes pool c (record { at = at; begun = to .begun; top = to .top }) written
   next-part-more {at} t =
       record {
         parts = op .parts;
@@ -150,6 +156,7 @@ module _
             ∙ comma l (to .begun) kept o k (op .parts) (drop at doc);
         rows = op .rows;
         held = op .held;
+        marked = op .marked;
         table = op .table;
         counted = op .counted;
         wrote = op .wrote;

@@ -1,6 +1,6 @@
 -- What the parts of reading a document answer: each says how `scan` goes from where it starts to where it ends, for every stack
 -- of what is open around it, and what it put into the tables. Assumes nothing.
-use Prim.Native.Nat.{ℕ, suc, _+_, _-_, _*_, _^_, _≤_, _<_}
+use Prim.Native.Nat.{ℕ, suc, _+_, _-_, _*_, _/_, _%_, _^_, _≤_, _<_}
 use mathlib.Core.Path.{_≡_}
 use mathlib.Core.Bool.{Bool, false}
 use mathlib.Core.List.{List, [], _∷_, _++_}
@@ -199,6 +199,16 @@ pub record Members-at (nodes pool : List ℕ) (first : ℕ) (c : Cursor) (ms : M
   pub held : Members-before (take (c .top) pool) ms rows
   pub table : drop (3 * first) (take (3 * c .begun) nodes) ≡ rows
 
+-- the bit of a name among 64: by its first byte and its length
+unfoldable pub name-place : Bytes → ℕ
+name-place n = (getD n 0 0 + 5 * length n) % 64
+
+-- the bits of these names are set
+pub data Covers (seen : ℕ) : Members → Type 0 where
+  covers-none : Covers seen no-members
+  covers-more
+      : {n : Bytes} {v : Value} {ms : Members} → seen / 2 ^ name-place n % 2 ≡ 1 → Covers seen ms → Covers seen (member n v ms)
+
 -- where a name may begin behind some members
 pub record Name-ready (doc : Bytes) (nodes pool : List ℕ) (values first : ℕ) (c : Cursor) : Type 0 where
   pub ready : Ready doc nodes pool values c
@@ -218,31 +228,32 @@ pub record Name-moves (doc : Bytes) (from to : Cursor) (written : ℕ) : Type 0 
   pub short : written + 1 + from .at ≤ to .at
 
 pub record Name-done
-    (doc : Bytes) (nodes pool pool′ : List ℕ) (first : ℕ) (from to : Cursor) (word written : ℕ) : Type 0 where
+    (doc : Bytes) (nodes pool pool′ : List ℕ) (first seen : ℕ) (from to : Cursor) (word written seen′ : ℕ) : Type 0 where
   pub name : Bytes
   pub run
-      : (ms : Members) → Members-at nodes pool first from ms → (l : Limits) (n : ℕ) (kept : Bytes) (o : Open)
+      : (ms : Members) → Members-at nodes pool first from ms → Covers seen ms → (l : Limits) (n : ℕ) (kept : Bytes) (o : Open)
       → scan l n kept (gap (Gap.next-name ms o)) (drop (from .at) doc)
       ≡ scan l n kept (gap (Gap.value (in-rec ms name o))) (drop (to .at) doc)
   pub refers : Refers (take (to .top) pool′) name word
   pub wrote : written ≡ length (plain-text name)
+  pub covers : (v : Value) {ms : Members} → Covers seen ms → Covers seen′ (member name v ms)
   pub front : take (from .top) pool′ ≡ take (from .top) pool
   pub moves : Name-moves doc from to written
 
-pub record Name-refused (doc : Bytes) (nodes pool : List ℕ) (first : ℕ) (from : Cursor) (number place : ℕ) : Type 0 where
+pub record Name-refused (doc : Bytes) (nodes pool : List ℕ) (first seen : ℕ) (from : Cursor) (number place : ℕ) : Type 0 where
   pub run
-      : (ms : Members) → Members-at nodes pool first from ms → (l : Limits) (n : ℕ) (kept : Bytes) (o : Open)
+      : (ms : Members) → Members-at nodes pool first from ms → Covers seen ms → (l : Limits) (n : ℕ) (kept : Bytes) (o : Open)
       → scan l n kept (gap (Gap.next-name ms o)) (drop (from .at) doc) ≡ refused number (drop place doc)
   pub within : place ≤ length doc
 
-abbrev pub Name-answer : (doc : Bytes) (nodes pool pool′ : List ℕ) (first : ℕ) (from : Cursor) → NameRead → Type 0
-Name-answer doc nodes pool pool′ first from (Name-is.Done to word written) =
-    Name-done doc nodes pool pool′ first from to word written
-Name-answer doc nodes pool pool′ first from (Name-is.Refused number place) =
-    Name-refused doc nodes pool first from number place
+abbrev pub Name-answer : (doc : Bytes) (nodes pool pool′ : List ℕ) (first seen : ℕ) (from : Cursor) → NameRead → Type 0
+Name-answer doc nodes pool pool′ first seen from (Name-is.Done to word written seen′) =
+    Name-done doc nodes pool pool′ first seen from to word written seen′
+Name-answer doc nodes pool pool′ first seen from (Name-is.Refused number place) =
+    Name-refused doc nodes pool first seen from number place
 
-pub record Reads-name (doc : Bytes) (nodes pool pool′ : List ℕ) (first : ℕ) (from : Cursor) (r : NameRead) : Type 0 where
-  pub answer : Name-answer doc nodes pool pool′ first from r
+pub record Reads-name (doc : Bytes) (nodes pool pool′ : List ℕ) (first seen : ℕ) (from : Cursor) (r : NameRead) : Type 0 where
+  pub answer : Name-answer doc nodes pool pool′ first seen from r
   pub pool-kept : length pool′ ≡ length pool
 
 abbrev pub Colon-answer : Bytes → ℕ → Colon → Type 0
@@ -291,6 +302,11 @@ abbrev pub Before : (k : Bracket) → List ℕ → Parts k → List ℕ → Type
 Before square p vs rs = Items-before p vs rs
 Before curly p ms rs = Members-before p ms rs
 
+-- of members, the bits of their names are set
+abbrev pub Marked : (k : Bracket) → ℕ → Parts k → Type 0
+Marked square seen vs = Unit {0}
+Marked curly seen ms = Covers seen ms
+
 abbrev pub count-of : (k : Bracket) → Parts k → ℕ
 count-of square vs = size-items vs
 count-of curly ms = size-members ms
@@ -324,8 +340,8 @@ pub record Part-moves (spare : ℕ) (doc : Bytes) (values : ℕ) (c from : Curso
 
 -- what has been read of a list or record that was opened at c, where reading stands in this gap
 pub record Open-parts
-    (k : Bracket) (here : Parts k → Open → Gap) (spare left values : ℕ) (doc : Bytes) (nodes pool nodes′ pool′ : List ℕ) (c from : Cursor)
-    (written : ℕ)
+    (k : Bracket) (seen : ℕ) (here : Parts k → Open → Gap) (spare left values : ℕ) (doc : Bytes) (nodes pool nodes′ pool′ : List ℕ)
+    (c from : Cursor) (written : ℕ)
     : Type 0 where
   pub parts : Parts k
   pub run
@@ -334,6 +350,7 @@ pub record Open-parts
       ≡ scan l (from .begun) kept (gap (here parts o)) (drop (from .at) doc)
   pub rows : List ℕ
   pub held : Before k (take (from .top) pool′) parts rows
+  pub marked : Marked k seen parts
   pub table : take (3 * from .begun) nodes′ ≡ take (3 * suc (c .begun)) nodes ++ rows
   pub counted : from .begun ≡ suc (c .begun) + count-of k parts
   pub wrote : written ≡ suc (length-of k parts)
@@ -344,10 +361,10 @@ pub record Open-parts
 
 -- another part, or the answer
 abbrev pub Turn-answer
-    : (k : Bracket) (left values : ℕ) (doc : Bytes) (nodes pool nodes′ pool′ : List ℕ) (name : ℕ) (c : Cursor) → Turn → Type 0
-Turn-answer k left values doc nodes pool nodes′ pool′ name c (More from written) =
-    Open-parts k (next-of k) 1 left values doc nodes pool nodes′ pool′ c from written
-Turn-answer k left values doc nodes pool nodes′ pool′ name c (Stop r) =
+    : (k : Bracket) (seen left values : ℕ) (doc : Bytes) (nodes pool nodes′ pool′ : List ℕ) (name : ℕ) (c : Cursor) → Turn → Type 0
+Turn-answer k seen left values doc nodes pool nodes′ pool′ name c (More from written) =
+    Open-parts k seen (next-of k) 1 left values doc nodes pool nodes′ pool′ c from written
+Turn-answer k seen left values doc nodes pool nodes′ pool′ name c (Stop r) =
     Reads (start-of k) (suc (c .begun)) (suc left) values doc nodes pool nodes′ pool′ name c r
 
 -- the row of a list or record at value `begun` is put
@@ -376,7 +393,7 @@ Ahead to (Stop r) = Unit {0}
 pub record Goes-on
     (doc : Bytes) (nodes nodes′ : List ℕ) (c : Cursor) (kind closing name : ℕ) (to : Cursor) (written : ℕ) (r : Turn) : Type 0 where
   pub answer
-      : (k : Bracket) → kind ≡ code-of k → closing ≡ closing-of k → (left values : ℕ) (nodes₀ pool₀ pool : List ℕ)
-      → Open-parts k (behind-of k) 0 left values doc nodes₀ pool₀ nodes pool c to written
-      → Turn-answer k left values doc nodes₀ pool₀ nodes′ pool name c r
+      : (k : Bracket) → kind ≡ code-of k → closing ≡ closing-of k → (seen left values : ℕ) (nodes₀ pool₀ pool : List ℕ)
+      → Open-parts k seen (behind-of k) 0 left values doc nodes₀ pool₀ nodes pool c to written
+      → Turn-answer k seen left values doc nodes₀ pool₀ nodes′ pool name c r
   pub ahead : Ahead to r

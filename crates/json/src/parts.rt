@@ -47,8 +47,8 @@ pub fn first_part(
     name: u64,
 ) -> Turn
     requires { ⌜ Table-placed (now doc) (now nodes) values c × (c .begun < values) × (kind < 8) × (closing < 256) ⌝ }
-    ensures entered { λ r. ⌜ ((k : Bracket) → kind ≡ code-of k → closing ≡ closing-of k → (left : ℕ) (pool : List ℕ)
-        → Turn-answer k left values (now (doc .entry)) (now (nodes .entry)) pool (now (nodes .exit)) pool name c r) ⌝ }
+    ensures entered { λ r. ⌜ ((k : Bracket) → kind ≡ code-of k → closing ≡ closing-of k → (seen left : ℕ) (pool : List ℕ)
+        → Turn-answer k seen left values (now (doc .entry)) (now (nodes .entry)) pool (now (nodes .exit)) pool name c r) ⌝ }
 {
     let at = skip_white(doc, c.at);
     let begun = c.begun + 1;

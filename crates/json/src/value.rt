@@ -65,6 +65,7 @@ fn read_record(
         (now (nodes .exit)) (now (pool .exit)) name c r ⌝ }
 {
     let mut turn = first_part(doc, nodes, values, c, nodes::RECORD, 0x7D, name);
+    let mut seen: u64 = 0;
     loop {
         match turn {
             Turn::More { from, written } => match read_name(
@@ -74,12 +75,15 @@ fn read_record(
                 values,
                 c.begun + 1,
                 from,
+                seen,
             ) {
                 NameRead::Done {
                     to: at,
                     word,
                     written: named,
+                    seen: more,
                 } => {
+                    seen = more;
                     let r = read_value(doc, nodes, pool, values, left, at, word);
                     let ValueRead::Done {
                         to,
@@ -95,9 +99,7 @@ fn read_record(
                     return ValueRead::Refused { number, place };
                 }
             },
-            Turn::Stop { answer } => {
-                return answer;
-            }
+            Turn::Stop { answer } => return answer,
         }
     }
 }

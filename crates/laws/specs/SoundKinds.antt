@@ -19,7 +19,7 @@ use Rattle.definitions.specs.Reader.{Conversion, to-int, to-dec, to-bool, to-te
 use Rattle.definitions.specs.Checking.{convert-kinds, if-kinds, convert-shape, element-shape, test-kinds}
 use Rattle.definitions.specs.Checking.{stay-numeric, stay-element, stay-record, stay, cut-to, taken-out}
 use Rattle.definitions.specs.Running.{items-of, int-value, truth}
-use Rattle.laws.specs.Bools.{and-left, and-right, and-intro, or-cases, clash}
+use Rattle.laws.specs.Bools.{and-left, and-right, and-intro, or-cases, clash, implied}
 use Rattle.laws.specs.SoundHolds.{Holds}
 
 -- ---- seven kinds
@@ -97,10 +97,6 @@ every-among p (j ∷ js) k h a =
 
 every-kind : (p : Kind → Bool) → every p all-kinds ≡ true → (k : Kind) → p k ≡ true
 every-kind p h k = every-among p all-kinds k h (known k)
-
-implied : (a b : Bool) → not a || b ≡ true → a ≡ true → b ≡ true
-implied true b h e = h
-implied false b h e = absurd (false≢true e)
 
 -- a kind of the shape is among those that its kinds are within
 within-has : (ks : List Kind) (s : Shape) (k : Kind) → within ks s ≡ true → has k s ≡ true → among k ks ≡ true

@@ -7,10 +7,10 @@ use mathlib.Core.Bool.{Bool, true, false}
 use mathlib.Core.List.{[], _∷_, _++_}
 use mathlib.Core.Option.{Option, none, some, Option·none-ne-some}
 use lib.Dec.{ltb}
-use lib.ListN.{length}
+use lib.ListN.{length, length-append}
 use native.Mathlib.Omega.{arith}
 use Rattle.definitions.specs.Bytes.{Bytes, bytes, look, between}
-use Rattle.definitions.specs.Plain.{short-escapes, hex-digit, escaped, escaped-all}
+use Rattle.definitions.specs.Plain.{short-escapes, hex-digit, escaped, escaped-all, plain-text}
 use Rattle.laws.specs.Ranges.{Hit, here, there, look-hit, in-one, at-one, leb-le, leb-gt}
 use Rattle.laws.specs.Rfc3629.{In, Encodes, one-octet}
 use Rattle.laws.specs.Rfc8259 as Rfc
@@ -145,3 +145,13 @@ pub written-plain : {b : ℕ} {e : Bytes} → Written b e → 0x20 ≤ b → (b 
 written-plain (as-short x f) l q n = absurd (f l q n)
 written-plain (as-hex m) l q n = absurd (let z : ⊥ = omega arith in z)
 written-plain (as-itself m p o) l q n = refl
+
+escaped-most : (t : Bytes) → length (escaped-all t) ≤ 6 * length t
+unfolding escaped-all
+escaped-most [] = omega arith
+escaped-most (b ∷ t) = omega (arith, length-append (escaped b) (escaped-all t), written-length (written b), escaped-most t)
+
+-- a text with its quotation marks
+pub plain-most : (t : Bytes) → length (plain-text t) ≤ 2 + 6 * length t
+unfolding plain-text bytes
+plain-most t = omega (arith, length-append (escaped-all t) (0x22 ∷ []), escaped-most t)

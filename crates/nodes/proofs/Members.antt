@@ -10,11 +10,22 @@ use Rattle.definitions.specs.Value.{Members, has-name}
 use Rattle.pool.specs.Pool.{text-in}
 use Rattle.nodes.specs.Nodes.{row-size}
 use Rattle.nodes.specs.Standing.{Members-stand, First-member, Members-held}
-use Rattle.nodes.specs.StandingLaws.{size-some, value-name, value-size, value-within, first-member, no-member-left, text-referred}
+use Rattle.nodes.specs.StandingLaws.{size-some, value-name, value-size, value-within, first-member, no-member-left, text-referred, referred-whole}
 
 -- the text of a reference
 abbrev pub text-of : List ℕ → ℕ → Bytes
 text-of pool k = text-in pool (k % 65536) (k / 65536)
+
+-- the row of the first member is there
+pub member-step
+    : {nodes p : List ℕ} {i end : ℕ} {ms : Members} → Members-stand nodes p i end ms → i < end
+    → (3 ≤ row-size nodes i) × (i + row-size nodes i ≤ length nodes) × (i + row-size nodes i ≤ end)
+member-step s more =
+    let f = first-member s more in (
+      omega (arith, value-size (f .stands), size-some (f .value)),
+      omega (arith, value-size (f .stands), value-within (f .stands)),
+      omega (arith, f .more .reaches),
+    )
 
 module _ (nodes pool : List ℕ) (at end name : ℕ) where
   -- what is left of the members at row i, where the name was not found before
@@ -35,13 +46,15 @@ module _ (nodes pool : List ℕ) (at end name : ℕ) where
     pub walk-step
         : Members-held nodes pool at end → i < end
         → (3 ≤ row-size nodes i) × (i + row-size nodes i ≤ length nodes) × (i + row-size nodes i ≤ end)
-    walk-step h more =
+    walk-step h more = member-step (w .left (h .used) (h .members) (h .front) (h .small) (h .stand) .stand) more
+
+    -- the pool has its name whole
+    pub walk-whole
+        : Members-held nodes pool at end → i < end → {k : ℕ} → k ≡ getD nodes (i + 2) 0 → length (text-of pool k) ≡ k / 65536
+    walk-whole h more e =
         let l = w .left (h .used) (h .members) (h .front) (h .small) (h .stand) in
-        let f = first-member (l .stand) more in (
-          omega (arith, value-size (f .stands), size-some (f .value)),
-          omega (arith, value-size (f .stands), value-within (f .stands)),
-          omega (arith, f .more .reaches),
-        )
+        let f = first-member (l .stand) more in
+        subst (λ (x : ℕ). length (text-of pool x) ≡ x / 65536) (sym (e ∙ value-name (f .stands))) (referred-whole pool (h .front) (h .small) (f .refers))
 
     module _ {k : ℕ} {b : Bool} (named : k ≡ getD nodes (i + 2) 0) (told : b ≡ same (text-of pool name) (text-of pool k)) where
       compared

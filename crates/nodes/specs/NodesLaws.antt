@@ -7,7 +7,7 @@ use native.Mathlib.Nat.{add-zero}
 use native.Mathlib.Omega.{arith}
 use borrow.Author.Tests.{lt-ltb, le-ltb}
 use lib.ListN.{length, take, drop, getD, length-append}
-use lib.Seq.{take-length, take-append-seam, take-add, getD-drop}
+use lib.Seq.{take-length, take-append-seam, take-add, drop-drop, getD-drop}
 use Rattle.definitions.specs.Bytes.{Bytes, same}
 use Rattle.definitions.specs.Value.{Value, Items, no-items, item, items-onto, Members, no-members}
 use Rattle.definitions.specs.Value.{member, members-onto, has-name, size, size-items, size-members}
@@ -148,8 +148,12 @@ rows-name (rec-rows ns) = refl
 -- ---- how many words the value at a row takes
 
 -- the words of a table from a row on
-getD-row : (ns : List ℕ) (row i : ℕ) {xs : List ℕ} → drop row ns ≡ xs → getD ns (row + i) 0 ≡ getD xs i 0
+pub getD-row : (ns : List ℕ) (row i : ℕ) {xs : List ℕ} → drop row ns ≡ xs → getD ns (row + i) 0 ≡ getD xs i 0
 getD-row ns row i e = sym (getD-drop row ns i 0) ∙ ap (λ (l : List ℕ). getD l i 0) e
+
+-- behind the first of them
+pub drop-row : (ns : List ℕ) (row n : ℕ) {xs : List ℕ} → drop row ns ≡ xs → drop (row + n) ns ≡ drop n xs
+drop-row ns row n e = sym (drop-drop n row ns) ∙ ap (drop n) e
 
 kind-at
     : (ns : List ℕ) (row : ℕ) (v : Value) {x m : ℕ} {rs : List ℕ} → drop row ns ≡ head-word v ∷ x ∷ m ∷ rs → kind-code v < 8

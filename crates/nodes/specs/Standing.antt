@@ -4,7 +4,7 @@ use mathlib.Core.Path.{_≡_}
 use mathlib.Core.List.{List, _++_}
 use lib.ListN.{length, take, drop}
 use Rattle.definitions.specs.Bytes.{Bytes}
-use Rattle.definitions.specs.Value.{Value, Items, item, Members, member}
+use Rattle.definitions.specs.Value.{Value, Items, item, Members, no-members, member}
 use Rattle.nodes.specs.Nodes.{Refers, Rows, Item-rows, Member-rows, row-size}
 
 -- the rows of v stand in the table from a row on, under the name word m; p is the used part of the pool
@@ -48,6 +48,17 @@ pub record First-member (nodes p : List ℕ) (at end : ℕ) (ms : Members) : Typ
   pub more : Members-stand nodes p (at + row-size nodes at) end others
 
 -- ---- what a walk over members asks
+
+-- some members stand there
+pub record Some-members (nodes : List ℕ) (at end : ℕ) : Type 0 where
+  pub used : List ℕ
+  pub members : Members
+  pub stand : Members-stand nodes used at end members
+
+-- how many members there are
+unfoldable pub member-count : Members → ℕ
+member-count no-members = 0
+member-count (member n v ms) = member-count ms + 1
 
 -- some members stand there, their names in the pool
 pub record Members-held (nodes pool : List ℕ) (at end : ℕ) : Type 0 where

@@ -1,15 +1,16 @@
 -- Laws of where values, elements and members stand, in the order of their definitions. Assumes nothing.
 use Prim.Native.Nat.{ℕ, _+_, _*_, _/_, _%_, _≤_, _<_}
-use mathlib.Core.Path.{_≡_, refl, sym, ap, _∙_, subst}
+use mathlib.Core.Path.{_≡_, refl, sym, ap, ap₂, _∙_, subst}
+use mathlib.Core.Bool.{Bool}
 use mathlib.Core.List.{List, _∷_, _++_, append-assoc}
 use native.Mathlib.Nat.{add-zero}
 use native.Mathlib.Omega.{arith}
 use lib.ListN.{length, take, drop, getD, length-append, length-drop}
 use lib.Seq.{drop-drop, drop-at, getD-drop, take-length, length-take-le, take-take}
-use Rattle.definitions.specs.Bytes.{Bytes}
+use Rattle.definitions.specs.Bytes.{Bytes, same}
 use Rattle.definitions.specs.Value.{Value, Items, no-items, Members, no-members, size}
 use Rattle.pool.specs.Pool.{text-in, words}
-use Rattle.pool.specs.PoolLaws.{text-in-front}
+use Rattle.pool.specs.PoolLaws.{text-in-front, text-in-held}
 use Rattle.nodes.specs.Nodes.{head-word, Refers, refers, Rows, list-rows, rec-rows, row-size, Item-rows, reference}
 use Rattle.nodes.specs.Nodes.{no-item-rows, item-rows, Member-rows, no-member-rows, member-rows}
 use Rattle.nodes.specs.NodesLaws.{reference-word, reference-bytes, length-rows, rows-begin, row-size-is, row-name-is}
@@ -182,6 +183,26 @@ text-referred pool {p} {t} front small (refers w h e) =
     rw (reference-word w (length t) g, reference-bytes w (length t) g)
     (text-in-front p pool (length p) w (length t) (front ∙ sym (take-length p)) h ∙ e)
 
+-- the pool has it whole
+pub referred-whole
+    : (pool : List ℕ) {p : List ℕ} {t : Bytes} {k : ℕ} → take (length p) pool ≡ p → length p < 65536 → Refers p t k
+    → length (text-in pool (k % 65536) (k / 65536)) ≡ k / 65536
+referred-whole pool {p} {t} front small (refers w h e) =
+    ap length (text-referred pool front small (refers w h e)) ∙ sym (reference-bytes w (length t) (omega arith))
+
+-- by its word and its length
+pub whole-parts
+    : (pool : List ℕ) (k : ℕ) {x y : ℕ} → x ≡ k % 65536 → y ≡ k / 65536 → length (text-in pool (k % 65536) (k / 65536)) ≡ k / 65536
+    → length (text-in pool x y) ≡ y
+whole-parts pool k e f h = ap length (ap₂ (text-in pool) e f) ∙ h ∙ sym f
+
+-- the texts of two references are compared as what the pool has of the first, n bytes, and the second
+pub compared-parts
+    : (pool : List ℕ) (a k : ℕ) {w s n x y : ℕ} {b : Bool} → w ≡ a % 65536 → s ≡ a / 65536 → n ≡ length (text-in pool w s) → x ≡ k % 65536
+    → y ≡ k / 65536 → b ≡ same (text-in pool w n) (text-in pool x y)
+    → b ≡ same (text-in pool (a % 65536) (a / 65536)) (text-in pool (k % 65536) (k / 65536))
+compared-parts pool a k {w} {s} {n} e f g h i q = q ∙ ap₂ same (text-in-held pool w s n g ∙ ap₂ (text-in pool) e f) (ap₂ (text-in pool) h i)
+
 -- where the used part is the first words of the pool
 pub text-referred-front
     : (pool : List ℕ) (used : ℕ) {k : ℕ} {t : Bytes} → used ≤ length pool → used < 65536 → Refers (take used pool) t k
@@ -189,6 +210,13 @@ pub text-referred-front
 text-referred-front pool used h few r =
     let size : length (take used pool) ≡ used = length-take-le used pool h in
     text-referred pool (ap (λ (k : ℕ). take k pool) size) (omega arith) r
+
+pub referred-whole-front
+    : (pool : List ℕ) (used : ℕ) {k : ℕ} {t : Bytes} → used ≤ length pool → used < 65536 → Refers (take used pool) t k
+    → length (text-in pool (k % 65536) (k / 65536)) ≡ k / 65536
+referred-whole-front pool used h few r =
+    let size : length (take used pool) ≡ used = length-take-le used pool h in
+    referred-whole pool (ap (λ (k : ℕ). take k pool) size) (omega arith) r
 
 -- a text that was put behind the used part of a pool stands in what is used then
 pub text-refers

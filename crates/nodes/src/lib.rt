@@ -10,7 +10,7 @@ ghost use Rattle.definitions.specs.Number.{Number, is-int};
 ghost use Rattle.definitions.specs.Value.{Value, Members, has-name};
 ghost use Rattle.pool.specs.Pool.{text-in};
 ghost use Rattle.nodes.specs.Nodes.{head-of, head-word, number-bits, reference, row-size, sign-bit};
-ghost use Rattle.nodes.specs.Standing.{Members-stand, Members-held};
+ghost use Rattle.nodes.specs.Standing.{Members-stand, Members-held, Some-members, member-count};
 
 // The codes of the kinds.
 pub const NULL: u64 = 0;
@@ -118,6 +118,18 @@ pub fn row_size(nodes: &[u64], row: usize) -> usize
     }
 }
 
+// The same of a row that is there.
+pub fn row_size_in(nodes: &[u64], row: usize) -> usize
+    requires { ⌜ row + 1 < length (now nodes) ⌝ }
+    ensures sized { λ r. ⌜ r ≡ row-size (now (nodes .entry)) row ⌝ }
+{
+    if TEXT < nodes[row] % 8 {
+        nodes[row + 1] as usize
+    } else {
+        3
+    }
+}
+
 // ---- words made and taken apart
 
 // A number's sign and scale.
@@ -179,15 +191,31 @@ pub fn has_member(nodes: &[u64], at: usize, end: usize, pool: &[u64], name: u64)
     ensures found { λ r. ⌜ ((p : List ℕ) (ms : Members) → take (length p) (now (pool .entry)) ≡ p → length p < 65536
         → Members-stand (now (nodes .entry)) p at end ms → r ≡ has-name (text-in (now (pool .entry)) (name % 65536) (name / 65536)) ms) ⌝ }
 {
+    let w = text_word(name);
+    let n = pool::held(pool, w, text_bytes(name));
     let mut i = at;
     while i < end {
-        let k = row_name(nodes, i);
-        if same_name(pool, name, k) {
+        let k = nodes[i + 2];
+        if pool::same_held(pool, w, n, text_word(k), text_bytes(k)) {
             return true;
         }
-        i += row_size(nodes, i);
+        i += row_size_in(nodes, i);
     }
     false
+}
+
+// How many members stand from one row up to another.
+pub fn member_count(nodes: &[u64], at: usize, end: usize) -> usize
+    requires { ⌜ Some-members (now nodes) at end ⌝ }
+    ensures counted { λ r. ⌜ ((p : List ℕ) (ms : Members) → Members-stand (now (nodes .entry)) p at end ms → r ≡ member-count ms) ⌝ }
+{
+    let mut i = at;
+    let mut count: usize = 0;
+    while i < end {
+        count += 1;
+        i += row_size_in(nodes, i);
+    }
+    count
 }
 
 // ---- rows put

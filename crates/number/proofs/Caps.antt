@@ -1,12 +1,14 @@
 -- Numerals as the code holds them: what is past a number's bounds stays past them. Assumes nothing.
 use Prim.Native.Nat.{ℕ, suc, _+_, _*_, _≤_, _<_, min}
+use native.Mathlib.Decide.{decLt}
 use native.Mathlib.Omega.{arith}
-use mathlib.Core.Path.{_≡_, refl, _∙_}
-use mathlib.Core.Bool.{Bool, true, false, not, _&&_}
+use mathlib.Core.Path.{_≡_, refl, sym, ap, _∙_}
+use mathlib.Core.Bool.{Bool, true, false, not, _&&_, _||_}
 use borrow.Author.Tests.{lt-ltb, le-ltb, eq-eqb, ne-eqb}
-use lib.Dec.{eqb}
+use lib.Dec.{eqb, ltb}
 use Rattle.definitions.specs.Number.{Numeral, most-coefficient, most-scale, beyond, number-of}
 use Rattle.number.specs.NumberCode.{Stands-for, past-coefficient, past-scale}
+use Rattle.number.specs.NumberRead.{numeral}
 use Rattle.number.specs.NumberWrite.{as-number}
 use Rattle.number.specs.NumberLaws.{not-beyond}
 use Rattle.number.specs.declared.numeral.CappedNumeral.{CappedNumeral}
@@ -63,3 +65,33 @@ module _ {d : CappedNumeral} {n : Numeral} (s : Stands-for d n) where
       let y : d .scale ≡ n .scale = omega (arith, s .scale, not-beyond n b .scale) in
       let z : m ≡ n .negative && not (eqb (n .coefficient) 0) = e ∙ rw (s .negative, x) in
       λ i. record { negative = z i; coefficient = x i; scale = y i }
+
+-- ---- a number without an exponent
+
+either : (x y : Bool) → x || y ≡ y || x || false
+either true true = refl
+either true false = refl
+either false true = refl
+either false false = refl
+
+module _ (s : Bool) (k c m : ℕ) (e : k ≡ min c past-coefficient) where
+  capped-test : eqb k past-coefficient ≡ ltb most-coefficient c
+  unfolding most-coefficient
+  capped-test = go (decLt most-coefficient c)
+    where
+      go : Dec (most-coefficient < c) → eqb k past-coefficient ≡ ltb most-coefficient c
+      go (yes h) = eq-eqb k past-coefficient (omega arith) ∙ sym (lt-ltb most-coefficient c h)
+      go (no h) = ne-eqb k past-coefficient (λ q. omega arith) ∙ sym (le-ltb most-coefficient c (omega arith))
+
+  -- refusal 4 is for it where it has too many digits
+  pub settled-over : ltb 9 m || eqb k past-coefficient ≡ beyond (numeral s c m)
+  unfolding beyond most-scale
+  settled-over = ap (λ (b : Bool). ltb 9 m || b) capped-test ∙ either (ltb 9 m) (ltb most-coefficient c)
+
+  -- and else it is held as it is
+  pub settled-meaning
+      : ltb 9 m || eqb k past-coefficient ≡ false → as-number (s && not (eqb k 0)) k m ≡ number-of (numeral s c m)
+  unfolding number-of most-coefficient
+  settled-meaning b =
+      let same : k ≡ c = omega (arith, not-beyond (numeral s c m) (sym settled-over ∙ b) .coefficient) in
+      ap (λ (n : ℕ). as-number (s && not (eqb n 0)) n m) same

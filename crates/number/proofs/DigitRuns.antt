@@ -1,11 +1,12 @@
 -- Digits that a run goes along, in the integer part and in the fraction. Assumes nothing.
-use Prim.Native.Nat.{ℕ, suc, _+_, _-_, _*_, _≤_, _<_, min}
+use Prim.Native.Nat.{ℕ, zero, suc, _+_, _-_, _≤_, _<_}
 use native.Mathlib.Nat.{le-refl, eq-or-lt-of-le}
+use native.Mathlib.Decide.{decLt}
 use native.Mathlib.Numerals.{add-one}
 use native.Mathlib.Omega.{arith}
 use mathlib.Core.Logic.{⊎-elim}
 use mathlib.Core.Path.{_≡_, refl, sym, ap, _∙_}
-use mathlib.Core.Bool.{Bool, true, false}
+use mathlib.Core.Bool.{Bool, true, false, not, true≢false}
 use mathlib.Core.Option.{none, some}
 use lib.ListN.{length, getD, drop}
 use lib.Seq.{drop-cons}
@@ -14,12 +15,11 @@ use Rattle.definitions.specs.Number.{Numeral, Phase, no-digits, begin, after-mi
 use Rattle.definitions.specs.Number.{in-frac, after-e, after-sign, in-exp, next, extend, shifted, int-rows, e-rows}
 use Rattle.number.specs.NumberRun.{longest}
 use Rattle.number.specs.NumberRead.{Reads-number, Reads-on, numeral}
-use Rattle.number.specs.NumberCode.{Digit, Digit-run, Stands-at, Opening, opening-of, behind-minus, Pointed, Settled, Quiet, past-coefficient}
+use Rattle.number.specs.NumberCode.{Digit, All-digits, onto, Stands-at, Opening, opening-of, behind-minus, Pointed, Settled, Quiet}
 use Rattle.number.specs.NumberLaws.{longest-on}
 use Rattle.number.proofs.Rows.{looked, nowhere, in-row, past-row, in-one, past-one, row-bounds, from-row, below-row}
 use Rattle.number.specs.declared.NumberRead.{NumberRead}
 use borrow.Author.Tests.{le-leb}
-use Rattle.number.proofs.Caps.{shifted-cap}
 
 pub digit-of : (b : ℕ) → between 48 57 b ≡ true → Digit b
 digit-of b e = let m = row-bounds 48 57 b e in record { least = m .0; most = m .1 }
@@ -39,42 +39,65 @@ longest-at doc i p n h e =
     ∙ longest-on p n (getD doc i 0) (drop (suc i) doc) e
     ∙ rw add-one
 
--- no digit yet
-pub no-run : {doc : Bytes} {at c : ℕ} → at ≤ length doc → Digit-run doc at c at c
-no-run {doc} {at} {c} h =
+-- ---- digits one behind the other
+
+pub no-digit : {doc : Bytes} {at : ℕ} → at ≤ length doc → All-digits doc at at
+no-digit {at = at} h = record { behind = le-refl at; within = h; each = λ i l m. absurd (let z : ⊥ = omega arith in z) }
+
+-- digits behind digits
+pub digits-join : {doc : Bytes} {at i j : ℕ} → All-digits doc at i → All-digits doc i j → All-digits doc at j
+digits-join {doc} {at} {i} {j} d e =
+    record { behind = omega (arith, d .behind, e .behind); within = e .within; each = λ k l m. go k l m (decLt k i) }
+  where
+    go : (k : ℕ) → at ≤ k → k < j → Dec (k < i) → between 48 57 (getD doc k 0) ≡ true
+    go k l m (yes h) = d .each k l h
+    go k l m (no h) = e .each k (omega arith) m
+
+-- a test that does not fail
+pub holds : (b : Bool) → not b ≡ false → b ≡ true
+holds true e = refl
+holds false e = absurd (true≢false e)
+
+-- one digit
+pub one-digit : {doc : Bytes} {i : ℕ} → i < length doc → between 48 57 (getD doc i 0) ≡ true → All-digits doc i (i + 1)
+one-digit {doc} {i} h e =
     record {
-      behind = le-refl at;
-      within = h;
-      full = λ k. k;
-      capped = λ k e. e;
-      first = λ l. omega arith;
-      int = λ s k. refl;
-      frac = λ s k. ap (λ (m : ℕ). longest in-frac (numeral s k m) (drop at doc)) (omega arith);
+      behind = omega arith;
+      within = omega arith;
+      each = λ k l m. let q : k ≡ i = omega arith in ap (λ (j : ℕ). between 48 57 (getD doc j 0)) q ∙ e;
     }
 
--- one more
-pub run-on
-    : {doc : Bytes} {at c i c₁ c₂ : ℕ} → Digit-run doc at c i c₁ → i < length doc → between 48 57 (getD doc i 0) ≡ true
-    → c₂ ≡ min (c₁ * 10 + (getD doc i 0 - 48)) past-coefficient → Digit-run doc at c (i + 1) c₂
-unfolding extend shifted next
-run-on {doc} {at} {c} {i} {c₁} {c₂} d h e f =
-    record {
-      behind = omega (arith, d .behind);
-      within = omega arith;
-      full = λ k. d .full k * 10 + (getD doc i 0 - 48);
-      capped = λ k g. shifted-cap c₁ (d .full k) c₂ (getD doc i 0 - 48) (d .capped k g) f;
-      first = λ l. ⊎-elim (λ p. rw p (digit-of (getD doc i 0) e)) (λ p. d .first p) (eq-or-lt-of-le (d .behind));
-      int = λ s k. d .int s k ∙ longest-at doc i in-int (numeral s (d .full k) 0) h (sym (looked (in-row e)));
-      frac = λ s k.
-          d .frac s k
-          ∙ longest-at doc i in-frac (numeral s (d .full k) (i - at)) h (sym (looked (in-row e)))
-          ∙ ap
-          (λ (m : ℕ). longest in-frac (numeral s (d .full k * 10 + (getD doc i 0 - 48)) m) (drop (i + 1) doc))
-          (count (d .behind));
-    }
-  where
-    count : at ≤ i → suc (i - at) ≡ i + 1 - at
-    count p = omega arith
+pub digits-front : {doc : Bytes} {at i j : ℕ} → at ≤ i → i ≤ j → All-digits doc at j → All-digits doc at i
+digits-front h l d = record { behind = h; within = omega (arith, d .within); each = λ k m n. d .each k m (omega arith) }
+
+pub digits-back : {doc : Bytes} {at i j : ℕ} → at ≤ i → i ≤ j → All-digits doc at j → All-digits doc i j
+digits-back h l d = record { behind = l; within = d .within; each = λ k m n. d .each k (omega arith) n }
+
+-- a run goes along them
+module _ (doc : Bytes) (at : ℕ) (s : Bool) (k : ℕ) where
+  int-run
+      : (n : ℕ) → All-digits doc at (at + n)
+      → longest in-int (numeral s k 0) (drop at doc) ≡ longest in-int (numeral s (onto doc at n k) 0) (drop (at + n) doc)
+  unfolding extend shifted next onto
+  int-run zero d = ap (λ (i : ℕ). longest in-int (numeral s k 0) (drop i doc)) (let e : at ≡ at + 0 = omega arith in e)
+  int-run (suc n) d =
+      let front : All-digits doc at (at + n) = digits-front (omega arith) (omega arith) d in
+      let here : at + n < length doc = omega (arith, d .within) in
+      int-run n front
+      ∙ longest-at doc (at + n) in-int (numeral s (onto doc at n k) 0) here (sym (looked (in-row (d .each (at + n) (omega arith) (omega arith)))))
+      ∙ ap (λ (i : ℕ). longest in-int (numeral s (onto doc at (suc n) k) 0) (drop i doc)) (let e : at + n + 1 ≡ at + suc n = omega arith in e)
+
+  frac-run
+      : (n : ℕ) → All-digits doc at (at + n)
+      → longest in-frac (numeral s k 0) (drop at doc) ≡ longest in-frac (numeral s (onto doc at n k) n) (drop (at + n) doc)
+  unfolding extend shifted next onto
+  frac-run zero d = ap (λ (i : ℕ). longest in-frac (numeral s k 0) (drop i doc)) (let e : at ≡ at + 0 = omega arith in e)
+  frac-run (suc n) d =
+      let front : All-digits doc at (at + n) = digits-front (omega arith) (omega arith) d in
+      let here : at + n < length doc = omega (arith, d .within) in
+      frac-run n front
+      ∙ longest-at doc (at + n) in-frac (numeral s (onto doc at n k) n) here (sym (looked (in-row (d .each (at + n) (omega arith) (omega arith)))))
+      ∙ ap (λ (i : ℕ). longest in-frac (numeral s (onto doc at (suc n) k) (suc n)) (drop i doc)) (let e : at + n + 1 ≡ at + suc n = omega arith in e)
 
 -- ---- where a number may end
 
@@ -195,24 +218,18 @@ fraction-read doc i n h d =
 
 -- ---- a number's parts, one behind the other
 
--- a point with no digit behind it
-pub reads-point
-    : {doc : Bytes} {at end : ℕ} (p : Phase) {n : Numeral} {r : NumberRead} → Pointed p → at < length doc → getD doc at 0 ≡ 0x2E
-    → end ≡ at + 1 → Reads-on doc after-point n end r → Reads-on doc p n at r
-reads-point {doc} {at} {end} p {n} o h b e s =
-    reads-from (omega arith) (point-read doc at p n o h b ∙ ap (λ (j : ℕ). longest after-point n (drop j doc)) (sym e)) s
-
 -- a point and digits behind it
 pub reads-fraction
-    : {doc : Bytes} {at end c c′ : ℕ} (p : Phase) {s : Bool} {k : ℕ} {r : NumberRead} → Pointed p → at < length doc
-    → getD doc at 0 ≡ 0x2E → (d : Digit-run doc (at + 1) c end c′) → (end ≡ at + 1 → ⊥)
-    → Reads-on doc in-frac (numeral s (d .full k) (end - (at + 1))) end r → Reads-on doc p (numeral s k 0) at r
-reads-fraction {doc} {at} {end} p {s} {k} o h b d e r =
-    let l = lt-of-ne (d .behind) e in
-    reads-from (omega (arith, d .behind))
+    : {doc : Bytes} {at end : ℕ} (p : Phase) {s : Bool} {k : ℕ} {r : NumberRead} → Pointed p → at < length doc
+    → getD doc at 0 ≡ 0x2E → All-digits doc (at + 1) end → at + 1 < end
+    → Reads-on doc in-frac (numeral s (onto doc (at + 1) (end - (at + 1)) k) (end - (at + 1))) end r → Reads-on doc p (numeral s k 0) at r
+reads-fraction {doc} {at} {end} p {s} {k} o h b d l r =
+    let e : at + 1 + (end - (at + 1)) ≡ end = omega arith in
+    reads-from (omega arith)
     (point-read doc at p (numeral s k 0) o h b
-    ∙ fraction-read doc (at + 1) (numeral s k 0) (omega (arith, d .within)) (d .first l)
-    ∙ d .frac s k)
+    ∙ fraction-read doc (at + 1) (numeral s k 0) (omega (arith, d .within)) (digit-of (getD doc (at + 1) 0) (d .each (at + 1) (le-refl (at + 1)) l))
+    ∙ frac-run doc (at + 1) s k (end - (at + 1)) (rw e d)
+    ∙ ap (λ (i : ℕ). longest in-frac (numeral s (onto doc (at + 1) (end - (at + 1)) k) (end - (at + 1))) (drop i doc)) e)
     r
 
 -- a zero
@@ -223,13 +240,17 @@ reads-zero {doc} {at} p {n} o h b s = reads-from (omega arith) (zero-read doc at
 
 -- digits, of which the first is no zero
 pub reads-int
-    : {doc : Bytes} {at end c c′ : ℕ} (p : Phase) {s : Bool} {k : ℕ} {r : NumberRead} → Opening p
-    → (at < length doc → getD doc at 0 ≡ 0x30 → ⊥) → (d : Digit-run doc at c end c′) → (end ≡ at → ⊥)
-    → Reads-on doc in-int (numeral s (d .full k) 0) end r → Reads-on doc p (numeral s k 0) at r
-reads-int {doc} {at} {end} p {s} {k} o z d e r =
-    let l = lt-of-ne (d .behind) e in
+    : {doc : Bytes} {at end : ℕ} (p : Phase) {s : Bool} {k : ℕ} {r : NumberRead} → Opening p
+    → (at < length doc → getD doc at 0 ≡ 0x30 → ⊥) → All-digits doc at end → at < end
+    → Reads-on doc in-int (numeral s (onto doc at (end - at) k) 0) end r → Reads-on doc p (numeral s k 0) at r
+reads-int {doc} {at} {end} p {s} {k} o z d l r =
     let h : at < length doc = omega (arith, d .within) in
-    reads-from (d .behind) (int-read doc at p (numeral s k 0) o h (d .first l) (z h) ∙ d .int s k) r
+    let e : at + (end - at) ≡ end = omega arith in
+    reads-from (omega arith)
+    (int-read doc at p (numeral s k 0) o h (digit-of (getD doc at 0) (d .each at (le-refl at) l)) (z h)
+    ∙ int-run doc at s k (end - at) (rw e d)
+    ∙ ap (λ (i : ℕ). longest in-int (numeral s (onto doc at (end - at) k) 0) (drop i doc)) e)
+    r
 
 -- a minus or none: the integer part begins behind it
 pub signed

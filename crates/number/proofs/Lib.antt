@@ -4,5 +4,9 @@ pub mod Caps
 pub mod Reading
 pub mod DigitRuns
 pub mod Counting
+pub mod EightDigits
+pub mod DigitValues
+pub mod Parts
+pub mod DigitLanes
 pub mod Writing
 pub mod WordNumbers

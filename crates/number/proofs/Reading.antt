@@ -1,7 +1,6 @@
 -- How the loop of `read_on` goes along the run that begins a number. Assumes nothing.
 use Prim.Native.Nat.{ℕ, suc, _+_, _≤_, _<_}
-use native.Mathlib.Nat.{le-refl, eq-or-lt-of-le}
-use mathlib.Core.Logic.{⊎-elim}
+use native.Mathlib.Nat.{le-refl}
 use native.Mathlib.Numerals.{add-one}
 use native.Mathlib.Omega.{arith}
 use mathlib.Core.Path.{_≡_, refl, sym, ap, _∙_}
@@ -131,11 +130,3 @@ module _ {doc : Bytes} {p₀ : Phase} {n₀ : Numeral} {at : ℕ} {p : NumberPha
   pub ends : {r : NumberRead} → length doc ≤ i → Answers (phase-of p) d i r → Reads-on doc p₀ n₀ at r
   unfolding longest
   ends h a = ended (rw (drop-of-length-le doc h)) a
-
--- where a number may end and no byte goes on with it
-pub settles
-    : {doc : Bytes} {at : ℕ} (p : NumberPhase) {d : CappedNumeral} {n : Numeral} {r : NumberRead} → at ≤ length doc → Stands-for d n
-    → (at < length doc → look (next (phase-of p)) (getD doc at 0) ≡ none) → Answers (phase-of p) d at r
-    → Reads-on doc (phase-of p) n at r
-settles p h s e a =
-    ⊎-elim (λ q. ends {p = p} (begins h s) (omega (arith, q)) a) (λ l. stops-at {p = p} (begins h s) l (e l) a) (eq-or-lt-of-le h)

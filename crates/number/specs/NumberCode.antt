@@ -1,14 +1,14 @@
 -- How the code's phases and numerals stand for those of the definitions. Assumes nothing.
-use Prim.Native.Nat.{ℕ, _+_, _-_, _≤_, _<_, min}
+use Prim.Native.Nat.{ℕ, zero, suc, _+_, _-_, _*_, _≤_, _<_, min}
 use mathlib.Core.Path.{_≡_}
 use mathlib.Core.Bool.{Bool, true, false}
 use mathlib.Core.Option.{Option, none, some}
-use lib.ListN.{length, getD, drop}
+use lib.ListN.{length, getD}
 use Rattle.definitions.specs.Bytes.{Bytes, between}
 use Rattle.definitions.specs.Number.{Numeral, beyond, number-of, Phase, begin, after-minus, after-zero}
 use Rattle.definitions.specs.Number.{in-int, after-point, in-frac, after-e, after-sign, in-exp, complete}
-use Rattle.number.specs.NumberRead.{number-in, numeral}
-use Rattle.number.specs.NumberRun.{longest}
+use Rattle.pool.specs.Lanes.{lane}
+use Rattle.number.specs.NumberRead.{number-in}
 use Rattle.number.specs.declared.NumberRead.{NumberRead}
 use Rattle.number.specs.declared.phase.NumberPhase.{NumberPhase}
 use Rattle.number.specs.declared.phase.NumberPhase.the-variants.{Begin, AfterMinus, AfterZero, InInt, AfterPoint, InFrac, AfterE, AfterSign, InExp}
@@ -125,19 +125,43 @@ pub record Stands-for (d : CappedNumeral) (n : Numeral) : Type 0 where
   pub scale : d .scale ≡ min (n .scale) past-scale
   pub exponent : d .exponent ≡ n .exponent
 
--- the digits from a place up to an end, taken into a coefficient c, which becomes c′
-pub record Digit-run (doc : Bytes) (at c end c′ : ℕ) : Type 0 where
+-- ---- digits one behind the other
+
+-- the bytes from a place up to an end are digits
+pub record All-digits (doc : Bytes) (at end : ℕ) : Type 0 where
   pub behind : at ≤ end
   pub within : end ≤ length doc
-  -- what a coefficient becomes by them
-  pub full : ℕ → ℕ
-  pub capped : (k : ℕ) → c ≡ min k past-coefficient → c′ ≡ min (full k) past-coefficient
-  pub first : at < end → Digit (getD doc at 0)
-  -- a run goes along them, in the integer part and in the fraction
-  pub int : (s : Bool) (k : ℕ) → longest in-int (numeral s k 0) (drop at doc) ≡ longest in-int (numeral s (full k) 0) (drop end doc)
-  pub frac
-      : (s : Bool) (k : ℕ)
-      → longest in-frac (numeral s k 0) (drop at doc) ≡ longest in-frac (numeral s (full k) (end - at)) (drop end doc)
+  pub each : (i : ℕ) → at ≤ i → i < end → between 48 57 (getD doc i 0) ≡ true
+
+-- a coefficient with the n digits from a place on
+unfoldable pub onto : Bytes → ℕ → ℕ → ℕ → ℕ
+onto doc at zero k = k
+onto doc at (suc n) k = onto doc at n k * 10 + (getD doc (at + n) 0 - 48)
+
+-- the same of coefficients that stay at the cap: c becomes c′
+pub record Taken (doc : Bytes) (at n c c′ : ℕ) : Type 0 where
+  pub capped : (k : ℕ) → c ≡ min k past-coefficient → c′ ≡ min (onto doc at n k) past-coefficient
+
+-- the bytes of x are the values of the digits among the eight bytes from a place on
+pub record Digit-lanes (doc : Bytes) (at x : ℕ) : Type 0 where
+  pub value : (j : ℕ) → j < 8 → between 48 57 (getD doc (at + j) 0) ≡ true → lane x j ≡ getD doc (at + j) 0 - 48
+
+-- the number of the first n bytes of a word, if each is the value of a digit
+unfoldable pub lanes-value : ℕ → ℕ → ℕ
+lanes-value x zero = 0
+lanes-value x (suc n) = lanes-value x n * 10 + lane x n
+
+-- the integer part from a place on ends there: a zero, or digits of which the first is no zero, or none
+pub data Whole-end (doc : Bytes) (at end : ℕ) : Type 0 where
+  a-zero : at < length doc → getD doc at 0 ≡ 0x30 → end ≡ at + 1 → Whole-end doc at end
+  no-zero : (at < length doc → getD doc at 0 ≡ 0x30 → ⊥) → All-digits doc at end → Whole-end doc at end
+
+-- a fraction from a place on is there up to an end: a point and digits behind it, or nothing; more digits may follow
+pub data Fraction-end (doc : Bytes) (at end : ℕ) : Type 0 where
+  no-point : end ≡ at → Fraction-end doc at end
+  a-point : at < length doc → getD doc at 0 ≡ 0x2E → All-digits doc (at + 1) end → Fraction-end doc at end
+
+-- ---- answers
 
 -- the answer for a run that ends at a place, in this phase and with these digits
 pub record Answers (p : Phase) (d : CappedNumeral) (at : ℕ) (r : NumberRead) : Type 0 where
@@ -145,3 +169,10 @@ pub record Answers (p : Phase) (d : CappedNumeral) (at : ℕ) (r : NumberRead) :
   pub whole : r .complete ≡ complete p
   pub over : (n : Numeral) → Stands-for d n → r .beyond ≡ beyond n
   pub meaning : (n : Numeral) → Stands-for d n → beyond n ≡ false → number-in r ≡ number-of n
+
+-- the answer for a number of these digits that ends at a place
+pub record Settles (n : Numeral) (at : ℕ) (r : NumberRead) : Type 0 where
+  pub end : r .end ≡ at
+  pub whole : r .complete ≡ true
+  pub over : r .beyond ≡ beyond n
+  pub meaning : r .beyond ≡ false → number-in r ≡ number-of n

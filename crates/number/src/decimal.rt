@@ -8,18 +8,44 @@ ghost use Rattle.definitions.specs.Number.{most-coefficient, most-scale};
 ghost use Rattle.definitions.specs.Plain.{decimal, last-digits, fraction, minus};
 ghost use Rattle.number.specs.NumberWrite.{Writes, written};
 
-// How many decimal digits a coefficient has.
+// Ten to the power of up to nineteen.
+pub fn power(k: usize) -> u64
+    requires { ⌜ k ≤ 19 ⌝ }
+    ensures { λ r. ⌜ r ≡ 10 ^ k ⌝ }
+{
+    match k {
+        0 => 1,
+        1 => 10,
+        2 => 100,
+        3 => 1000,
+        4 => 10000,
+        5 => 100000,
+        6 => 1000000,
+        7 => 10000000,
+        8 => 100000000,
+        9 => 1000000000,
+        10 => 10000000000,
+        11 => 100000000000,
+        12 => 1000000000000,
+        13 => 10000000000000,
+        14 => 100000000000000,
+        15 => 1000000000000000,
+        16 => 10000000000000000,
+        17 => 100000000000000000,
+        18 => 1000000000000000000,
+        _ => 10000000000000000000,
+    }
+}
+
+// How many decimal digits a coefficient has: its bits times log 2, 1233 / 4096, or one more.
 fn decimal_length(n: u64) -> usize
     requires { ⌜ n ≤ most-coefficient ⌝ }
     ensures { λ r. ⌜ r ≡ length (decimal n) ⌝ }
 {
-    let mut power: u64 = 10;
-    let mut count: usize = 1;
-    while power <= n {
-        power *= 10;
-        count += 1;
-    }
-    count
+    let m = n | 1;
+    let bits = 64 - u64::leading_zeros(m) as usize;
+    let k = (bits * 1233) >> 12;
+    if m < power(k) { k } else { k + 1 }
 }
 
 // How many digits the integer part has: all but the fraction's, or a zero.

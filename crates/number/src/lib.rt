@@ -6,7 +6,8 @@ ghost use lib.ListN.{length, getD};
 ghost use Rattle.definitions.specs.Number.{Numeral};
 ghost use Rattle.definitions.specs.Plain.{plain-number};
 ghost use Rattle.number.specs.NumberRead.{Reads-number, Reads-on, numeral};
-ghost use Rattle.number.specs.NumberCode.{Answers, Stands-for, Stands-at, Pointed, Settled, Quiet, behind-minus, phase-of, past-coefficient};
+ghost use Rattle.number.specs.NumberCode.{Answers, Stands-for, Stands-at, Quiet, Settles, Whole-end};
+ghost use Rattle.number.specs.NumberCode.{Fraction-end, behind-minus, phase-of, past-coefficient};
 ghost use Rattle.number.specs.NumberWrite.{Bounded, Writes-number, as-number};
 
 mod decimal;
@@ -80,17 +81,6 @@ fn may_go_on(doc: &[u8], at: usize) -> bool
     false
 }
 
-// Goes on with a number where it may end, which it mostly does.
-fn read_rest(doc: &[u8], at: usize, phase: NumberPhase, d: CappedNumeral) -> NumberRead
-    requires { ⌜ (at ≤ length (now doc)) × Settled (phase-of phase) ⌝ }
-    ensures { λ r. ⌜ ((n : Numeral) → Stands-for d n → Reads-on (now (doc .entry)) (phase-of phase) n at r) ⌝ }
-{
-    if may_go_on(doc, at) {
-        return read_on(doc, at, phase, d);
-    }
-    answer(phase, d, at)
-}
-
 // Whether byte b stands at place i.
 fn stands_at(doc: &[u8], i: usize, b: u8) -> bool
     ensures { λ r. ⌜ Stands-at (now (doc .entry)) i b r ⌝ }
@@ -101,36 +91,6 @@ fn stands_at(doc: &[u8], i: usize, b: u8) -> bool
     false
 }
 
-// Reads on behind the digits of the integer part.
-fn read_fraction(
-    doc: &[u8],
-    at: usize,
-    phase: NumberPhase,
-    negative: bool,
-    whole: u64,
-) -> NumberRead
-    requires { ⌜ (at ≤ length (now doc)) × Pointed (phase-of phase) ⌝ }
-    ensures { λ r. ⌜ ((c : ℕ) → whole ≡ min c past-coefficient → Reads-on (now (doc .entry)) (phase-of phase) (numeral negative c 0) at r) ⌝ }
-{
-    if stands_at(doc, at, b'.') {
-        let run = digits::read_digits(doc, at + 1, whole);
-        let end = run.end;
-        let coefficient = run.coefficient;
-        if end == at + 1 {
-            let d = numeral::without_exponent(negative, whole, 0);
-            return read_on(doc, end, NumberPhase::AfterPoint, d);
-        }
-        let d = numeral::without_exponent(negative, coefficient, end - (at + 1));
-        return read_rest(doc, end, NumberPhase::InFrac, d);
-    }
-    read_rest(
-        doc,
-        at,
-        phase,
-        numeral::without_exponent(negative, whole, 0),
-    )
-}
-
 // The place behind a minus, if there is one.
 fn behind_minus(at: usize, negative: bool) -> usize
     requires { ⌜ at < 2 ^ 63 ⌝ }
@@ -139,23 +99,62 @@ fn behind_minus(at: usize, negative: bool) -> usize
     if negative { at + 1 } else { at }
 }
 
-// Reads the longest run of bytes from `at` on that begins a number.
+// Where the integer part ends that begins at a place; that place, if none does.
+fn whole_end(doc: &[u8], at: usize) -> usize
+    requires { ⌜ at ≤ length (now doc) ⌝ }
+    ensures { λ r. ⌜ Whole-end (now (doc .entry)) at r ⌝ }
+{
+    if stands_at(doc, at, b'0') {
+        return at + 1;
+    }
+    digits::digits_end(doc, at)
+}
+
+// Where the fraction ends that begins at a place; that place, if none does.
+fn fraction_end(doc: &[u8], at: usize) -> usize
+    requires { ⌜ at ≤ length (now doc) ⌝ }
+    ensures { λ r. ⌜ Fraction-end (now (doc .entry)) at r ⌝ }
+{
+    if stands_at(doc, at, b'.') {
+        return digits::digits_end(doc, at + 1);
+    }
+    at
+}
+
+// The answer for a number with so many digits behind the point and no exponent.
+fn settle(negative: bool, coefficient: u64, digits: usize, end: usize) -> NumberRead
+    ensures { λ r. ⌜ ((c : ℕ) → coefficient ≡ min c past-coefficient → Settles (numeral negative c digits) end r) ⌝ }
+{
+    NumberRead {
+        end,
+        complete: true,
+        beyond: (9 < digits) | (coefficient == numeral::PAST_COEFFICIENT),
+        negative: negative & (coefficient != 0),
+        coefficient,
+        scale: digits as u64,
+    }
+}
+
+// Reads the longest run of bytes from `at` on that begins a number: at once where it is a number without an exponent, as
+// most are, and else a byte at a time.
 pub fn read_number(doc: &[u8], at: usize) -> NumberRead
     requires { ⌜ at ≤ length (now doc) ⌝ }
     ensures { λ r. ⌜ Reads-number (now (doc .entry)) at r ⌝ }
 {
     let negative = stands_at(doc, at, b'-');
     let start = behind_minus(at, negative);
-    if stands_at(doc, start, b'0') {
-        return read_fraction(doc, start + 1, NumberPhase::AfterZero, negative, 0);
-    }
-    let run = digits::read_digits(doc, start, 0);
-    let end = run.end;
-    let coefficient = run.coefficient;
-    if end == start {
+    let point = whole_end(doc, start);
+    let end = fraction_end(doc, point);
+    if (point == start) | (end == point + 1) | may_go_on(doc, end) {
         return read_on(doc, at, NumberPhase::Begin, numeral::no_digits());
     }
-    read_fraction(doc, end, NumberPhase::InInt, negative, coefficient)
+    let whole = digits::digits_value(doc, start, point, 0);
+    if end == point {
+        return settle(negative, whole, 0, end);
+    }
+    let first = point + 1;
+    let coefficient = digits::digits_value(doc, first, end, whole);
+    settle(negative, coefficient, end - first, end)
 }
 
 // How long a number is as plain JSON.

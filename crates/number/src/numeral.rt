@@ -2,10 +2,9 @@
 // once they are one more than a number may hold.
 ghost use mathlib.Core.Path.{_≡_};
 ghost use mathlib.Core.Bool.{_&&_, not};
-ghost use Prim.Native.Nat.{ℕ, suc, _+_, _-_, _*_, min};
+ghost use Prim.Native.Nat.{suc, _+_, _-_, _*_, min};
 ghost use lib.Dec.{eqb};
 ghost use Rattle.definitions.specs.Number.{Numeral, no-digits, extend, beyond};
-ghost use Rattle.number.specs.NumberRead.{numeral};
 ghost use Rattle.number.specs.NumberCode.{Stands-for, Takes, Digit, phase-of, past-coefficient, past-scale};
 use crate::phase::NumberPhase;
 
@@ -16,7 +15,7 @@ pub struct CappedNumeral {
     pub exponent: bool,
 }
 
-const PAST_COEFFICIENT: u64 = 1_000_000_000_000_000_000;
+pub const PAST_COEFFICIENT: u64 = 1_000_000_000_000_000_000;
 
 const PAST_SCALE: u64 = 10;
 
@@ -51,22 +50,6 @@ fn scaled_on(scale: u64) -> u64
         scale + 1
     } else {
         PAST_SCALE
-    }
-}
-
-// The numeral of so many digits behind the point, and with no exponent.
-pub fn without_exponent(negative: bool, coefficient: u64, digits: usize) -> CappedNumeral
-    ensures { λ r. ⌜ ((c : ℕ) → coefficient ≡ min c past-coefficient → Stands-for r (numeral negative c digits)) ⌝ }
-{
-    let mut scale = PAST_SCALE;
-    if digits < 10 {
-        scale = digits as u64;
-    }
-    CappedNumeral {
-        negative,
-        coefficient,
-        scale,
-        exponent: false,
     }
 }
 

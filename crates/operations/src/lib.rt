@@ -212,7 +212,7 @@ pub fn run(
         forms.len(),
         nodes.len(),
         results.len(),
-        bindings.len(), // and one for the document
+        bindings.len(), // as for check
         pool.len(),
     ) { // a reader and a document
         return answers::refusal(1, 0, 0);

@@ -16,7 +16,8 @@ use Rattle.definitions.specs.Reader.{Result}
 use Rattle.definitions.specs.Checking.{check-reader}
 use Rattle.definitions.specs.Running.{run-reader}
 use Rattle.definitions.specs.Operations.{passed, stopped, refusal, in-text, shape-out, finish}
-use Rattle.definitions.specs.WorkSlices.{form-words, name-words, value-words, text-words, reader-words, reader-texts, bound-words, result-words}
+use Rattle.definitions.specs.WorkSlices.{form-words, shape-words, name-words, value-words, text-words, reader-words, reader-texts}
+use Rattle.definitions.specs.WorkSlices.{bound-words, result-words}
 use Rattle.laws.specs.Tests.{lt-ltb}
 use Rattle.laws.specs.Judging.{shape-out-over}
 use Rattle.laws.specs.Ends.{Comes, stopped-keeps}
@@ -35,16 +36,44 @@ use Rattle.infer.specs.Inferring.{Meets, Inferable, Joins as Infer-joins}
 use Rattle.order.specs.Comparing.{Shapes-asked}
 use Rattle.admits.specs.Admission.{Value-asked}
 use Rattle.documents.specs.Documents.{Value-table}
-use Rattle.slices.specs.Long.{long-five}
+use Rattle.slices.specs.Long.{long-three, long-five, read-in-grown-document, read-in-grown-shapes}
 use Rattle.checking.specs.declared.Checked.{Checked}
 use Rattle.checking.specs.declared.Checked.the-variants.{Kinds, Refused}
 use Rattle.checking.specs.CheckContracts.{Checks, Meets-reader, Reader-asked, Checks-reader}
 use Rattle.result_shape.specs.Giving.{Meets-reader as Meets-given, Reader-asked as Given-asked, Holds-given, Gives-reader}
 use Rattle.running.specs.declared.Came.{Came}
 use Rattle.running.specs.Run.{Reads-both, Runnable, Comes-to, Runs-reader}
-use Rattle.inputs.specs.Inputs.{Reader-document-slices, Reader-document-held}
+use Rattle.inputs.specs.Inputs.{Shape-document-slices, Two-shapes-slices, Reader-document-slices, Reader-document-held}
 use Rattle.inputs.specs.Inputs.{Shape-table, Shape-document-held, Two-shapes-held, Reader-shape-slices, Reader-shape-held}
-use Rattle.perform.specs.Perform.{Check-slices, Run-slices, Grows-to}
+use Rattle.perform.specs.Perform.{Grown-document-slices, Grown-shapes-slices, Check-slices, Run-slices, Grows-to}
+
+-- ---- slices in which a table grows have room for the texts, and for every shape that is small enough
+
+module _ {shape document : Bytes} {shapes nodes pool : List ℕ} {l : Limits} (s : Grown-document-slices shape document shapes nodes pool l) where
+  pub document-texts : Shape-document-slices shape document shapes nodes pool l
+  document-texts =
+      record {
+        long = read-in-grown-document l (length shapes) (length nodes) (length pool) (length shape) (length document) (s .long);
+        small = s .small;
+      }
+
+  pub room-beside-document : form-words l ≤ length shapes
+  room-beside-document =
+      long-three (form-words l) (value-words l (length document)) (name-words l (length shape) + text-words l (length document))
+      (length shapes) (length nodes) (length pool) (s .long) .0
+
+module _ {one two : Bytes} {shapes others pool : List ℕ} {l : Limits} (s : Grown-shapes-slices one two shapes others pool l) where
+  pub shape-texts : Two-shapes-slices one two shapes others pool l
+  shape-texts =
+      record {
+        long = read-in-grown-shapes l (length shapes) (length others) (length pool) (length one) (length two) (s .long);
+        small = s .small;
+      }
+
+  pub room-beside-shape : form-words l ≤ length shapes
+  room-beside-shape =
+      long-three (form-words l) (shape-words l (length two)) (name-words l (length one) + name-words l (length two)) (length shapes)
+      (length others) (length pool) (s .long) .0
 
 -- ---- a table that grew, or was full
 
@@ -125,7 +154,7 @@ module _ {l : Limits} {shapes nodes pool : List ℕ} {used words top : ℕ} {s :
 
   -- what `admits` asks
   pub admission : Value-asked shapes 0 nodes 0 pool
-  admission = record { shape = s; held = shape-held (h .shape); value = v; holds = value-held (h .value) }
+  admission = record { shape = s; held = shape-held (h .shape); value = v; holds = value-held (h .value); once = h .value .names-once }
 
   pub inferred
       : (shapes′ : List ℕ) (r : Joined) → 2 * l .values ≤ length shapes → Infer-joins shapes nodes pool shapes′ used 0 0 r
@@ -169,11 +198,12 @@ module _ {l : Limits} {shapes others pool : List ℕ} {used words top : ℕ} {s 
 module _ {reader shape : Bytes} {forms shapes results bindings pool : List ℕ} {l : Limits}
     (s : Check-slices reader shape forms shapes results bindings pool l) where
   check-parts
-      : (reader-words l ≤ length forms) × (form-words l ≤ length shapes) × (form-words l ≤ length results)
+      : (reader-words l (length reader) ≤ length forms) × (shape-words l (length shape) ≤ length shapes) × (form-words l ≤ length results)
       × (bound-words l ≤ length bindings) × (reader-texts l (length reader) + name-words l (length shape) ≤ length pool)
   check-parts =
-      long-five (reader-words l) (form-words l) (form-words l) (bound-words l) (reader-texts l (length reader) + name-words l (length shape))
-      (length forms) (length shapes) (length results) (length bindings) (length pool) (s .long)
+      long-five (reader-words l (length reader)) (shape-words l (length shape)) (form-words l) (bound-words l)
+      (reader-texts l (length reader) + name-words l (length shape)) (length forms) (length shapes) (length results) (length bindings)
+      (length pool) (s .long)
 
   pub check-texts : Reader-shape-slices reader shape forms shapes pool l
   check-texts =
@@ -260,10 +290,10 @@ module _ {l : Limits} {forms shapes pool : List ℕ} {words used top : ℕ} {r :
 module _ {reader document : Bytes} {forms nodes results bindings pool : List ℕ} {l : Limits}
     (s : Run-slices reader document forms nodes results bindings pool l) where
   run-parts
-      : (reader-words l ≤ length forms) × (value-words l (length document) ≤ length nodes) × (result-words l ≤ length results)
-      × (bound-words l + 1 ≤ length bindings) × (reader-texts l (length reader) + text-words l (length document) ≤ length pool)
+      : (reader-words l (length reader) ≤ length forms) × (value-words l (length document) ≤ length nodes) × (result-words l ≤ length results)
+      × (bound-words l ≤ length bindings) × (reader-texts l (length reader) + text-words l (length document) ≤ length pool)
   run-parts =
-      long-five (reader-words l) (value-words l (length document)) (result-words l) (bound-words l + 1)
+      long-five (reader-words l (length reader)) (value-words l (length document)) (result-words l) (bound-words l)
       (reader-texts l (length reader) + text-words l (length document)) (length forms) (length nodes) (length results) (length bindings)
       (length pool) (s .long)
 
@@ -275,8 +305,8 @@ module _ {reader document : Bytes} {forms nodes results bindings pool : List ℕ
   pub run-results : result-words l ≤ length results
   run-results = run-parts .2
 
-  pub run-bindings : bound-words l < length bindings
-  run-bindings = omega (arith, run-parts .3)
+  pub run-bindings : bound-words l ≤ length bindings
+  run-bindings = run-parts .3
 
 module _ {l : Limits} {forms nodes pool : List ℕ} {words many top : ℕ} {r : Result} {v : Value}
     (h : Reader-document-held l forms nodes pool words many top r v) where
@@ -306,7 +336,7 @@ module _ {l : Limits} {forms nodes pool : List ℕ} {words many top : ℕ} {r : 
       }
 
   pub runnable
-      : (bindings results : List ℕ) → bound-words l < length bindings → result-words l ≤ length results → length nodes ≤ 65536
+      : (bindings results : List ℕ) → bound-words l ≤ length bindings → result-words l ≤ length results → length nodes ≤ 65536
       → length results ≤ 65536 → l .steps ≤ 65536 → Runnable forms nodes pool bindings results l
   runnable bindings results b w n m s =
       record {

@@ -1,4 +1,4 @@
--- What the operations ask of work slices for a document, and what a table that grew holds. Assumes nothing.
+-- What the operations ask of work slices for a document or where a table grows, and what a table that grew holds. Assumes nothing.
 use Prim.Native.Nat.{ℕ, _≤_, _<_}
 use mathlib.Core.Path.{_≡_}
 use mathlib.Core.Bool.{false}
@@ -8,7 +8,7 @@ use Rattle.definitions.specs.declared.Limits.{Limits}
 use Rattle.definitions.specs.Bytes.{Bytes}
 use Rattle.definitions.specs.Shape.{Shape, forms}
 use Rattle.definitions.specs.Operations.{slices-short}
-use Rattle.definitions.specs.WorkSlices.{for-document, for-reader-shape, for-reader-document}
+use Rattle.definitions.specs.WorkSlices.{for-document, for-grown-document, for-grown-shapes, for-reader-shape, for-reader-document}
 use Rattle.shapes.specs.Held.{Holds-shape}
 use Rattle.join.specs.declared.Joined.{Joined}
 use Rattle.join.specs.declared.Joined.the-variants.{Grown, Full}
@@ -16,6 +16,17 @@ use Rattle.slices.specs.Small.{Small}
 
 pub record Document-slices (document : Bytes) (nodes pool : List ℕ) (l : Limits) : Type 0 where
   pub long : slices-short (for-document l (length document)) (length nodes ∷ length pool ∷ []) ≡ false
+  pub small : Small l
+
+pub record Grown-document-slices (shape document : Bytes) (shapes nodes pool : List ℕ) (l : Limits) : Type 0 where
+  pub long
+      : slices-short (for-grown-document l (length shape) (length document)) (length shapes ∷ length nodes ∷ length pool ∷ [])
+      ≡ false
+  pub small : Small l
+
+pub record Grown-shapes-slices (one two : Bytes) (shapes others pool : List ℕ) (l : Limits) : Type 0 where
+  pub long
+      : slices-short (for-grown-shapes l (length one) (length two)) (length shapes ∷ length others ∷ length pool ∷ []) ≡ false
   pub small : Small l
 
 pub record Check-slices (reader shape : Bytes) (forms shapes results bindings pool : List ℕ) (l : Limits) : Type 0 where

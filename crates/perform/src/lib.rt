@@ -8,7 +8,8 @@ ghost use Rattle.definitions.specs.Shape.{Shape};
 ghost use Rattle.definitions.specs.Operations.{source, shape-out, finish, say, plain-judged, infer-judged, join-judged, below-judged, admits-judged};
 ghost use Rattle.definitions.specs.Operations.{check-judged, run-judged};
 ghost use Rattle.inputs.specs.Inputs.{Shape-document-slices, Two-shapes-slices};
-ghost use Rattle.perform.specs.Perform.{Document-slices, Check-slices, Run-slices, Grows-to, Some-grown};
+ghost use Rattle.perform.specs.Perform.{Document-slices, Grown-document-slices, Grown-shapes-slices, Check-slices, Run-slices};
+ghost use Rattle.perform.specs.Perform.{Grows-to, Some-grown};
 use checking::Checked;
 use definitions::Answer;
 use definitions::Format;
@@ -69,7 +70,7 @@ pub fn infer(
     pool: &mut [u64],
     limits: Limits,
 ) -> Answer
-    requires { ⌜ Shape-document-slices (now shape) (now document) (now shapes) (now nodes) (now pool) limits ⌝ }
+    requires { ⌜ Grown-document-slices (now shape) (now document) (now shapes) (now nodes) (now pool) limits ⌝ }
     requires table { ⌜ length (now shapes) ≤ 65536 ⌝ }
     ensures answered { λ r. ⌜ r ≡
         finish (now (output .entry)) (infer-judged (source format) limits (now (shape .entry)) (now (document .entry))) .answer ⌝ }
@@ -103,7 +104,7 @@ pub fn join(
     pool: &mut [u64],
     limits: Limits,
 ) -> Answer
-    requires { ⌜ Two-shapes-slices (now first) (now second) (now shapes) (now others) (now pool) limits ⌝ }
+    requires { ⌜ Grown-shapes-slices (now first) (now second) (now shapes) (now others) (now pool) limits ⌝ }
     requires table { ⌜ length (now shapes) ≤ 65536 ⌝ }
     ensures answered { λ r. ⌜ r ≡ finish (now (output .entry)) (join-judged limits (now (first .entry)) (now (second .entry))) .answer ⌝ }
     ensures written { λ _. ⌜ now (output .exit) ≡

@@ -68,7 +68,7 @@ fn write_label(
 {
     let j = write_comma(out, at, later);
     if named {
-        let end = write_reference(out, j, pool, nodes::row_name(nodes, row));
+        let end = write_reference(out, j, pool, nodes[row + 2]);
         out[end] = b':';
         return end + 1;
     }
@@ -117,7 +117,7 @@ fn write_parts(
     while i < end {
         j = write_label(out, j, nodes, i, pool, row < i, named);
         j = write_at(out, j, nodes, i, pool);
-        i += nodes::row_size(nodes, i);
+        i += nodes::row_size_in(nodes, i);
     }
     j
 }

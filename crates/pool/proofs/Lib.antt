@@ -1,4 +1,5 @@
 pub mod Word
+pub mod EightBytes
 pub mod Store
 pub mod ByteOrder
 pub mod WordOrder

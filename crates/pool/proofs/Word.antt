@@ -2,7 +2,6 @@
 use Prim.Native.Nat.{ℕ, suc, _+_, _-_, _*_, _/_, _%_, _^_, _<_}
 use mathlib.Core.Path.{_≡_, sym, ap, _∙_, subst}
 use mathlib.Core.List.{_∷_, _++_}
-use native.Mathlib.Nat.{mul-assoc, mul-mod-left}
 use native.Mathlib.Decide.{decLt}
 use native.Mathlib.Omega.{arith}
 use lib.Arith.{digits-lt}
@@ -12,6 +11,7 @@ use lib.Seq.{length-take-le, getD-take, getD-append-add, getD-at, ext-getD}
 use Rattle.definitions.specs.Bytes.{Bytes}
 use Rattle.pool.specs.Pool.{unpacked}
 use Rattle.pool.specs.PoolLaws.{length-unpacked, getD-unpacked}
+use Rattle.pool.specs.LaneLaws.{moved}
 
 -- what stands above the byte, then the byte
 abbrev pub upper : ℕ → ℕ → ℕ → ℕ
@@ -36,16 +36,7 @@ here x s b h = ap (λ (y : ℕ). y % 256) (shl-shr (upper x s b) s) ∙ low (x /
 
 -- the bytes behind are 0
 behind : (x u t b : ℕ) → put-word x (u + 8 + t) b / 2 ^ t % 256 ≡ 0
-behind x u t b =
-    ap (λ (y : ℕ). y % 256)
-    (ap (λ (y : ℕ). y / 2 ^ t) (ap (λ (y : ℕ). v * y) (pow-add 2 (u + 8) t) ∙ sym (mul-assoc v (2 ^ (u + 8)) (2 ^ t)))
-    ∙ shl-shr (v * 2 ^ (u + 8)) t
-    ∙ ap (λ (y : ℕ). v * y) (pow-add 2 u 8)
-    ∙ sym (mul-assoc v (2 ^ u) 256))
-    ∙ mul-mod-left (v * 2 ^ u) 256
-  where
-    v : ℕ
-    v = upper x (u + 8 + t) b
+behind x u t b = moved (upper x (u + 8 + t) b) u t
 
 -- byte i of the new word, against byte j that is put: before it, at it, behind it
 module _ (x j b : ℕ) (hj : j < 8) (hb : b < 256) where

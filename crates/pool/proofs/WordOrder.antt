@@ -8,75 +8,45 @@ use native.Mathlib.Nat.{div-eq-of-lt}
 use native.Mathlib.Decide.{decLt}
 use native.Mathlib.Omega.{arith}
 use lib.ListN.{length, getD, drop}
-use lib.Pow.{shr-shr, split}
-use lib.Seq.{take-all, ext-getD}
+use lib.Seq.{ext-getD}
 use Rattle.definitions.specs.Bytes.{Bytes, order, same}
 use Rattle.pool.specs.Pool.{pool-bytes, text-in}
-use Rattle.pool.specs.PoolLaws.{getD-pool-word, length-text-in-min, getD-text-in, take-text-in}
+use Rattle.pool.specs.Lanes.{lane, top}
+use Rattle.pool.specs.LaneLaws.{lane-lt, lane-of-top, top-next, top-of-lanes}
+use Rattle.pool.specs.PoolLaws.{getD-pool-word, length-text-in-min, getD-text-in, text-in-held}
 use Rattle.pool.proofs.ByteOrder.{order-less, order-greater, order-next}
 
 -- ---- two words
 
--- byte j of a word
-abbrev byte : ℕ → ℕ → ℕ
-byte x j = x / 2 ^ (56 - 8 * j) % 256
-
--- the first k bytes of a word, as a number
-abbrev pub top : ℕ → ℕ → ℕ
-top x k = x / 2 ^ (64 - 8 * k)
-
-byte-of-top : (x y k j : ℕ) → k ≤ 8 → j < k → top x k ≡ top y k → byte x j ≡ byte y j
-byte-of-top x y k j hk hj e =
-    ap (λ (z : ℕ). z % 256) (from x ∙ ap (λ (z : ℕ). z / 2 ^ (8 * k - 8 - 8 * j)) e ∙ sym (from y))
-  where
-    from : (z : ℕ) → z / 2 ^ (56 - 8 * j) ≡ top z k / 2 ^ (8 * k - 8 - 8 * j)
-    from z =
-        ap (λ (s : ℕ). z / 2 ^ s) (let q : 56 - 8 * j ≡ 64 - 8 * k + (8 * k - 8 - 8 * j) = omega arith in q)
-        ∙ sym (shr-shr z (64 - 8 * k) (8 * k - 8 - 8 * j))
-
--- one byte more
-top-next : (x k : ℕ) → k < 8 → top x (suc k) ≡ top x k * 256 + byte x k
-top-next x k h =
-    ap (λ (s : ℕ). x / 2 ^ s) (let q : 64 - 8 * suc k ≡ 56 - 8 * k = omega arith in q)
-    ∙ sym (split (x / 2 ^ (56 - 8 * k)) 8)
-    ∙ ap (λ (z : ℕ). z * 256 + byte x k)
-    (shr-shr x (56 - 8 * k) 8 ∙ ap (λ (s : ℕ). x / 2 ^ s) (let q : 56 - 8 * k + 8 ≡ 64 - 8 * k = omega arith in q))
-
-top-of-bytes : (x y k : ℕ) → x < 2 ^ 64 → y < 2 ^ 64 → k ≤ 8 → ((j : ℕ) → j < k → byte x j ≡ byte y j) → top x k ≡ top y k
-top-of-bytes x y zero hx hy hk h = div-eq-of-lt hx ∙ sym (div-eq-of-lt hy)
-top-of-bytes x y (suc k) hx hy hk h =
-    top-next x k (omega arith)
-    ∙ ap₂ (λ (z b : ℕ). z * 256 + b) (top-of-bytes x y k hx hy (omega arith) (λ j l. h j (omega arith))) (h k (omega arith))
-    ∙ sym (top-next y k (omega arith))
-
 -- where the first k bytes of a word are lower, one of them is, and those before it are the same
 first-lower
     : (x y k : ℕ) → x < 2 ^ 64 → y < 2 ^ 64 → k ≤ 8 → top x k < top y k
-    → (j : ℕ) × (j < k) × (top x j ≡ top y j) × (byte x j < byte y j)
+    → (j : ℕ) × (j < k) × (top x j ≡ top y j) × (lane x j < lane y j)
 first-lower x y zero hx hy hk h = absurd (let z : ⊥ = omega (arith, div-eq-of-lt hx, div-eq-of-lt hy) in z)
 first-lower x y (suc k) hx hy hk h = go (decLt (top x k) (top y k)) (first-lower x y k hx hy (omega arith))
   where
     go
-        : Dec (top x k < top y k) → (top x k < top y k → (j : ℕ) × (j < k) × (top x j ≡ top y j) × (byte x j < byte y j))
-        → (j : ℕ) × (j < suc k) × (top x j ≡ top y j) × (byte x j < byte y j)
+        : Dec (top x k < top y k) → (top x k < top y k → (j : ℕ) × (j < k) × (top x j ≡ top y j) × (lane x j < lane y j))
+        → (j : ℕ) × (j < suc k) × (top x j ≡ top y j) × (lane x j < lane y j)
     go (yes l) before = let f = before l in (f .0, omega (arith, f .1), f .2, f .3)
     go (no l) before =
         let f = top-next x k (omega arith) in
         let g = top-next y k (omega arith) in
-        (k, omega arith, omega (arith, f, g), omega (arith, f, g))
+        (k, omega arith, omega (arith, f, g, lane-lt x k, lane-lt y k), omega (arith, f, g))
 
 -- ---- two texts
 
 module _ (p : List ℕ) where
   -- byte j of word i of a text
-  text-byte : (u n i j : ℕ) → j < 8 → 8 * i + j < n → getD (text-in p u n) (8 * i + j) 0 ≡ byte (getD p (u + i) 0) j
+  text-byte : (u n i j : ℕ) → j < 8 → 8 * i + j < n → getD (text-in p u n) (8 * i + j) 0 ≡ lane (getD p (u + i) 0) j
+  unfolding lane
   text-byte u n i j hj h =
       getD-text-in p u n (8 * i + j) h
       ∙ ap (λ (k : ℕ). getD (pool-bytes p) k 0) (let q : 8 * u + (8 * i + j) ≡ 8 * (u + i) + j = omega arith in q)
       ∙ getD-pool-word p (u + i) j hj
 
   -- the same of a text as far as the pool has it
-  held-byte : (u n i j : ℕ) → j < 8 → 8 * i + j < length (text-in p u n) → getD (text-in p u n) (8 * i + j) 0 ≡ byte (getD p (u + i) 0) j
+  held-byte : (u n i j : ℕ) → j < 8 → 8 * i + j < length (text-in p u n) → getD (text-in p u n) (8 * i + j) 0 ≡ lane (getD p (u + i) 0) j
   held-byte u n i j hj h = text-byte u n i j hj (omega (arith, length-text-in-min p u n))
 
   -- before the first word
@@ -97,8 +67,10 @@ module _ (p : List ℕ) where
     behind-tops (suc k) hk hs ht e =
         let f = top-next (getD p (w + i) 0) k (omega arith) in
         let g = top-next (getD p (v + i) 0) k (omega arith) in
-        let b : byte (getD p (w + i) 0) k ≡ byte (getD p (v + i) 0) k = omega (arith, f, g, e) in
-        behind-tops k (omega arith) (omega arith) (omega arith) (omega (arith, f, g, e))
+        let s = lane-lt (getD p (w + i) 0) k in
+        let t = lane-lt (getD p (v + i) 0) k in
+        let b : lane (getD p (w + i) 0) k ≡ lane (getD p (v + i) 0) k = omega (arith, f, g, s, t, e) in
+        behind-tops k (omega arith) (omega arith) (omega arith) (omega (arith, f, g, s, t, e))
         ∙ order-next (text-in p w n) (text-in p v m) (8 * i + k) (omega arith) (omega arith)
         (held-byte w n i k (omega arith) (omega arith) ∙ b ∙ sym (held-byte v m i k (omega arith) (omega arith)))
         ∙ ap (λ (j : ℕ). order (drop j (text-in p w n)) (drop j (text-in p v m))) (let q : 8 * i + k + 1 ≡ 8 * i + suc k = omega arith in q)
@@ -145,18 +117,10 @@ module _ (p : List ℕ) where
   pub word-inside : (u n i : ℕ) → length (text-in p u n) ≡ n → 8 * i < n → u + i < length p
   word-inside u n i e h = omega (arith, length-text-in-min p u n)
 
-  -- a text is that of as many bytes as the pool has of it
-  module _ (u n k : ℕ) (e : k ≡ length (text-in p u n)) where
-    text-in-held : text-in p u k ≡ text-in p u n
-    text-in-held = sym (take-text-in p u k n (omega (arith, length-text-in-min p u n))) ∙ take-all k (text-in p u n) (omega arith)
-
-    pub length-held : length (text-in p u k) ≡ k
-    length-held = ap length text-in-held ∙ sym e
-
   pub same-held
-      : (w n v m k : ℕ) {b : Bool} → k ≡ length (text-in p w n) → k ≡ length (text-in p v m)
-      → b ≡ same (text-in p w k) (text-in p v k) → b ≡ same (text-in p w n) (text-in p v m)
-  same-held w n v m k d e q = q ∙ ap₂ same (text-in-held w n k d) (text-in-held v m k e)
+      : (w n v m k l : ℕ) {b : Bool} → k ≡ length (text-in p w n) → l ≡ length (text-in p v m)
+      → b ≡ same (text-in p w k) (text-in p v l) → b ≡ same (text-in p w n) (text-in p v m)
+  same-held w n v m k l d e q = q ∙ ap₂ same (text-in-held p w n k d) (text-in-held p v m l e)
 
   -- the first k words from word w on are those from word v on
   abbrev pub Alike : ℕ → ℕ → ℕ → Type 0
@@ -177,7 +141,7 @@ module _ (p : List ℕ) where
         : (i k : ℕ) → k ≤ 8 → 8 * i + k ≤ n → getD p (w + i) 0 < 2 ^ 64 → getD p (v + i) 0 < 2 ^ 64
         → text-in p w n ≡ text-in p v n → top (getD p (w + i) 0) k ≡ top (getD p (v + i) 0) k
     top-of-texts i k hk h hw hv e =
-        top-of-bytes (getD p (w + i) 0) (getD p (v + i) 0) k hw hv hk
+        top-of-lanes (getD p (w + i) 0) (getD p (v + i) 0) k hw hv hk
         (λ j l.
         let hj : j < 8 = omega arith in
         let hn : 8 * i + j < n = omega arith in
@@ -200,10 +164,10 @@ module _ (p : List ℕ) where
         ∙ sym (text-byte v n (b / 8) (b % 8) (omega arith) h)
         ∙ ap (λ (k : ℕ). getD (text-in p v n) k 0) (sym q))
       where
-        go : (b : ℕ) → 8 * (b / 8) + b % 8 < n → Dec (b / 8 < n / 8) → byte (getD p (w + b / 8) 0) (b % 8) ≡ byte (getD p (v + b / 8) 0) (b % 8)
-        go b h (yes l) = ap (λ (x : ℕ). byte x (b % 8)) (words (b / 8) l)
+        go : (b : ℕ) → 8 * (b / 8) + b % 8 < n → Dec (b / 8 < n / 8) → lane (getD p (w + b / 8) 0) (b % 8) ≡ lane (getD p (v + b / 8) 0) (b % 8)
+        go b h (yes l) = ap (λ (x : ℕ). lane x (b % 8)) (words (b / 8) l)
         go b h (no l) =
             let q : b / 8 ≡ n / 8 = omega arith in
-            ap (λ (i : ℕ). byte (getD p (w + i) 0) (b % 8)) q
-            ∙ byte-of-top (getD p (w + n / 8) 0) (getD p (v + n / 8) 0) (n % 8) (b % 8) (omega arith) (omega arith) (rest (omega arith))
-            ∙ ap (λ (i : ℕ). byte (getD p (v + i) 0) (b % 8)) (sym q)
+            ap (λ (i : ℕ). lane (getD p (w + i) 0) (b % 8)) q
+            ∙ lane-of-top (getD p (w + n / 8) 0) (getD p (v + n / 8) 0) (n % 8) (b % 8) (omega arith) (omega arith) (rest (omega arith))
+            ∙ ap (λ (i : ℕ). lane (getD p (v + i) 0) (b % 8)) (sym q)

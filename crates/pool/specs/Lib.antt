@@ -1,2 +1,4 @@
 pub mod Pool
 pub mod PoolLaws
+pub mod Lanes
+pub mod LaneLaws

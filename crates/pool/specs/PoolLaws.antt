@@ -5,7 +5,7 @@ use mathlib.Core.List.{List, [], _∷_, _++_, append-assoc}
 use native.Mathlib.Nat.{div-one, zero-div, zero-mod, zero-add, suc-add}
 use native.Mathlib.Omega.{arith}
 use lib.ListN.{length, getD, take, drop, replicate, length-append, length-take, length-drop, length-replicate, List·getD-append}
-use lib.Seq.{take-nil, drop-nil, take-append-le, take-append-add, drop-append-add, getD-append-add}
+use lib.Seq.{take-nil, drop-nil, take-all, take-append-le, take-append-add, drop-append-add, getD-append-add}
 use lib.Seq.{getD-take, getD-drop, take-add, take-at, drop-at, length-take-le, take-take, drop-drop}
 use Rattle.definitions.specs.Bytes.{Bytes}
 use Rattle.pool.specs.Pool.{Put, unpacked, pool-bytes, text-in, words, put-at}
@@ -140,6 +140,14 @@ getD-text-in p w n i h = getD-take n (drop (8 * w) (pool-bytes p)) i 0 h ∙ get
 pub take-text-in : (p : List ℕ) (w m n : ℕ) → m ≤ n → take m (text-in p w n) ≡ text-in p w m
 unfolding text-in
 take-text-in p w m n h = take-take m n (drop (8 * w) (pool-bytes p)) h
+
+-- a text is that of as many bytes as the pool has of it
+module _ (p : List ℕ) (u n k : ℕ) (e : k ≡ length (text-in p u n)) where
+  pub text-in-held : text-in p u k ≡ text-in p u n
+  text-in-held = sym (take-text-in p u k n (omega (arith, length-text-in-min p u n))) ∙ take-all k (text-in p u n) (omega arith)
+
+  pub length-held : length (text-in p u k) ≡ k
+  length-held = ap length text-in-held ∙ sym e
 
 -- a text of a pool whose first u words are left out
 pub text-in-drop : (p : List ℕ) (u w n : ℕ) → text-in p (u + w) n ≡ text-in (drop u p) w n

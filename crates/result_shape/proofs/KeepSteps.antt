@@ -3,13 +3,13 @@ use Prim.Native.Nat.{ℕ, _+_, _*_, _%_, _^_, _≤_, _<_}
 use native.Mathlib.Omega.{arith}
 use native.Mathlib.Nat.{add-zero}
 use mathlib.Core.Path.{_≡_, refl, sym, ap, subst, _∙_}
-use mathlib.Core.Bool.{Bool, true, false, not, false≢true}
+use mathlib.Core.Bool.{Bool, true, false, not}
 use mathlib.Core.List.{List, _∷_, _++_}
 use lib.Bits.{bitOr}
 use lib.ListN.{length, getD, take, drop}
 use Rattle.definitions.specs.Shape.{Kind, Shape, shape, Element, no-list, list-of, Record, no-rec, element-of, record-of, has, has-list, ascending, forms}
 use Rattle.definitions.specs.Join.{join, join-element, join-record}
-use Rattle.laws.specs.Bools.{clash}
+use Rattle.laws.specs.Bools.{clash, not-true, not-fails}
 use Rattle.laws.specs.JoinLaws.{element-nothing, record-nothing}
 use Rattle.shapes.specs.Shapes.{kind-bit, kind-bits, has-bit, head-of, size-at, Shape-rows}
 use Rattle.shapes.specs.ShapesLaws.{has-kind, union-bits, stands-row}
@@ -42,15 +42,6 @@ kind-left
     → x ≡ b → has k t ≡ b
 kind-left {t = t} k h e f =
     sym (has-kind k t) ∙ ap (λ (n : ℕ). has-bit n (kind-bit k)) (h .left) ∙ sym e ∙ f
-
--- a test turned round
-pub not-taken : (x : Bool) → not x ≡ true → x ≡ false
-not-taken false d = refl
-not-taken true d = absurd (false≢true d)
-
-pub not-left : (x : Bool) → not x ≡ false → x ≡ true
-not-left true d = refl
-not-left false d = absurd (false≢true (sym d))
 
 -- ---- the parts of what is left
 
@@ -97,7 +88,7 @@ module _
     unfolding kind-bit
     members-none {x} e d =
         becomes-as result result p used dest name s (Grown 0)
-        (sym (records-left s t (rec-lacks t (kind-left Kind.rec (j .bound) e (not-taken x d)))))
+        (sym (records-left s t (rec-lacks t (kind-left Kind.rec (j .bound) e (not-true x d)))))
         (kept-put (j .stands) (j .within) (tables .enough))
 
     pub elements-none
@@ -105,7 +96,7 @@ module _
     unfolding kind-bit
     elements-none {x} e d =
         becomes-as result result p used dest name s (Grown 0)
-        (sym (elements-left s t (list-lacks t (kind-left Kind.list (j .bound) e (not-taken x d)))))
+        (sym (elements-left s t (list-lacks t (kind-left Kind.list (j .bound) e (not-true x d)))))
         (kept-put (j .stands) (j .within) (tables .enough))
 
     pub members-some
@@ -114,7 +105,7 @@ module _
         → Becomes result result′ p used dest name s (join-records s t) o
     unfolding kind-bit
     members-some {x} result′ o e d q =
-        let r = rec-there t (kind-left Kind.rec (j .bound) e (not-left x d)) in
+        let r = rec-there t (kind-left Kind.rec (j .bound) e (not-fails x d)) in
         becomes-as result result′ p used dest name s o
         (records-same s (j .bound .base) t (j .bound .members (r .0) (r .1) ∙ sym (r .1)))
         (q p name (j .bound .name) s (j .bound .base) joins)
@@ -125,7 +116,7 @@ module _
         → Becomes result result′ p used dest name s (join-elements s t) o
     unfolding kind-bit
     elements-some {x} result′ o e d q =
-        let r = list-there t (kind-left Kind.list (j .bound) e (not-left x d)) in
+        let r = list-there t (kind-left Kind.list (j .bound) e (not-fails x d)) in
         becomes-as result result′ p used dest name s o
         (elements-same s (j .bound .base) t (j .bound .element (r .0) (r .1) ∙ sym (r .1)))
         (q p name (j .bound .name) s (j .bound .base) joins)

@@ -18,7 +18,7 @@ use Rattle.forms.specs.Forms.{conversion-code, literal-code, form-code, test-co
 use Rattle.forms.specs.Forms.{number-payload, text-payload, Form-stands}
 use Rattle.forms.specs.PartsLaws.{after, keep-place, each-place, each-result, when-place, when-first, when-second, choose-second, choose-third}
 use Rattle.forms.specs.PartsLaws.{literal-stands, pack-stands}
-use Rattle.forms.specs.FormsLaws.{stands-operand}
+use Rattle.forms.specs.FormsLaws.{levels-some, stands-operand}
 use Rattle.checking.specs.CheckContracts.{Meets-place, Meets-form}
 use Rattle.result_shape.specs.Giving.{Meets-pairs}
 use Rattle.result_shape.specs.Results.{Bare, bare-convert, bare-count, bare-null, bare-bool, bare-number, bare-text}
@@ -43,17 +43,6 @@ no-literal (Value.number x) e h i = absurd (let j = i (omega arith) in let z : �
 no-literal (Value.text t) e h i = absurd (let j = i (omega arith) in let z : ⊥ = omega arith in z)
 no-literal (Value.list vs) e h i = absurd (let z : ⊥ = omega arith in z)
 no-literal (Value.rec ms) e h i = absurd (let z : ⊥ = omega arith in z)
-
-pub levels-some : (r : Result) → 1 ≤ result-levels r
-unfolding result-levels
-levels-some (Result.convert at c q) = omega arith
-levels-some (Result.keep at q) = omega arith
-levels-some (Result.count at q) = omega arith
-levels-some (Result.each at q r) = omega arith
-levels-some (Result.when at k q r₁ r₂) = omega arith
-levels-some (Result.choose at r₁ r₂ r₃) = omega arith
-levels-some (Result.literal at v) = omega arith
-levels-some (Result.pack at ps) = omega arith
 
 -- ---- the parts
 

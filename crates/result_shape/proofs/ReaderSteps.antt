@@ -13,10 +13,10 @@ use Rattle.join.specs.Replacing.{Becomes}
 use Rattle.join.specs.declared.Joined.{Joined}
 use Rattle.join.specs.declared.Joined.the-variants.{Grown, Full}
 use Rattle.growing.specs.GrowingForms.{forms-nothing, forms-some}
+use Rattle.forms.specs.FormsLaws.{levels-some}
 use Rattle.checking.specs.Bindings.{Bound, binding, Bindings}
 use Rattle.checking.specs.BindingsLaws.{bound-row, binds, bindings-more}
 use Rattle.result_shape.specs.Giving.{Tables, Meets-result, Result-asked, Gives-result, Meets-reader, Reader-asked, Holds-given, Gives-reader}
-use Rattle.result_shape.proofs.Parts.{levels-some}
 use Rattle.result_shape.proofs.Steps.{becomes-as, put-stands}
 
 -- ---- a table too short for one row

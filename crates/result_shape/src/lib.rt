@@ -1,5 +1,5 @@
 // The shape that a checked reader gives: each form joins what it gives into a row of the result's table, in place. Both branches of
-// `when` and `if` are joined into one row, and a condition makes no rows.
+// `when` and `if` are joined into one row, and a condition makes no rows. Where it walks `env` has the bindings, and `into` the result.
 ghost use Prim.Native.Nat.{_%_, _≤_};
 ghost use mathlib.Core.Path.{_≡_};
 ghost use lib.ListN.{length, getD};
@@ -22,24 +22,24 @@ fn result_keep(
     row: usize,
     shapes: &[u64],
     pool: &[u64],
-    bindings: &[u64],
+    env: &[u64],
     bound: usize,
-    result: &mut [u64],
+    into: &mut [u64],
     used: usize,
     dest: usize,
     deep: usize,
 ) -> Joined
-    requires { ⌜ Result-asked (now forms) (now shapes) (now pool) (now bindings) (now result) row bound used dest deep ⌝ }
-    requires tables { ⌜ Tables (now shapes) (now result) used ⌝ }
+    requires { ⌜ Result-asked (now forms) (now shapes) (now pool) (now env) (now into) row bound used dest deep ⌝ }
+    requires tables { ⌜ Tables (now shapes) (now into) used ⌝ }
     requires code { ⌜ getD (now forms) row 0 % 32 ≡ 7 ⌝ }
-    ensures given { λ r. ⌜ Gives-result (now (forms .entry)) (now (shapes .entry)) (now (pool .entry)) (now (bindings .entry)) (now (result .entry))
-        (now (result .exit)) row bound used dest deep r ⌝ }
+    ensures given { λ r. ⌜ Gives-result (now (forms .entry)) (now (shapes .entry)) (now (pool .entry)) (now (env .entry)) (now (into .entry))
+        (now (into .exit)) row bound used dest deep r ⌝ }
 {
-    let r = places::locate(forms, row + 3, shapes, pool, bindings);
+    let r = places::locate(forms, row + 3, shapes, pool, env);
     let Located::At { row: at, kinds } = r else {
         return Joined::Full; // the check has passed
     };
-    keeping::keep(shapes, at, kinds, pool, result, used, dest, deep)
+    keeping::keep(shapes, at, kinds, pool, into, used, dest, deep)
 }
 
 // Joins what an `each` gives: its result, into the element.
@@ -48,26 +48,26 @@ fn result_each(
     row: usize,
     shapes: &[u64],
     pool: &[u64],
-    bindings: &mut [u64],
+    env: &mut [u64],
     bound: usize,
-    result: &mut [u64],
+    into: &mut [u64],
     used: usize,
     dest: usize,
     deep: usize,
 ) -> Joined
-    requires { ⌜ Result-asked (now forms) (now shapes) (now pool) (now bindings) (now result) row bound used dest deep ⌝ }
-    requires tables { ⌜ Tables (now shapes) (now result) used ⌝ }
+    requires { ⌜ Result-asked (now forms) (now shapes) (now pool) (now env) (now into) row bound used dest deep ⌝ }
+    requires tables { ⌜ Tables (now shapes) (now into) used ⌝ }
     requires code { ⌜ getD (now forms) row 0 % 32 ≡ 9 ⌝ }
-    ensures given { λ r. ⌜ Gives-result (now (forms .entry)) (now (shapes .entry)) (now (pool .entry)) (now (bindings .entry)) (now (result .entry))
-        (now (result .exit)) row bound used dest deep r ⌝ }
-    ensures kept { λ _. ⌜ Kept (now (bindings .entry)) (now (bindings .exit)) bound ⌝ }
+    ensures given { λ r. ⌜ Gives-result (now (forms .entry)) (now (shapes .entry)) (now (pool .entry)) (now (env .entry)) (now (into .entry))
+        (now (into .exit)) row bound used dest deep r ⌝ }
+    ensures kept { λ _. ⌜ Kept (now (env .entry)) (now (env .exit)) bound ⌝ }
 {
-    let r = places::locate(forms, row + 3, shapes, pool, bindings);
+    let r = places::locate(forms, row + 3, shapes, pool, env);
     let Located::At { row: at, kinds } = r else {
         return Joined::Full; // the check has passed
     };
-    bindings::bind_element(bindings, bound, shapes, at, kinds);
-    let Joined::Grown { words: opened } = growing::ready_element(result, used, dest) else {
+    bindings::bind_element(env, bound, shapes, at, kinds);
+    let Joined::Grown { words: opened } = growing::ready_element(into, used, dest) else {
         return Joined::Full;
     };
     let part = row + 3 + forms::size(forms, row + 3);
@@ -76,9 +76,9 @@ fn result_each(
         part,
         shapes,
         pool,
-        bindings,
+        env,
         bound + 1,
-        result,
+        into,
         used + opened,
         dest + 2,
         deep,
@@ -86,7 +86,7 @@ fn result_each(
     let Joined::Grown { words } = r else {
         return Joined::Full;
     };
-    growing::raise(result, dest, Shape::LIST, opened + words);
+    growing::raise(into, dest, Shape::LIST, opened + words);
     Joined::Grown {
         words: opened + words,
     }
@@ -98,57 +98,54 @@ fn result_when(
     row: usize,
     shapes: &[u64],
     pool: &[u64],
-    bindings: &mut [u64],
+    env: &mut [u64],
     bound: usize,
-    result: &mut [u64],
+    into: &mut [u64],
     used: usize,
     dest: usize,
     deep: usize,
 ) -> Joined
-    requires { ⌜ Result-asked (now forms) (now shapes) (now pool) (now bindings) (now result) row bound used dest deep ⌝ }
-    requires tables { ⌜ Tables (now shapes) (now result) used ⌝ }
+    requires { ⌜ Result-asked (now forms) (now shapes) (now pool) (now env) (now into) row bound used dest deep ⌝ }
+    requires tables { ⌜ Tables (now shapes) (now into) used ⌝ }
     requires code { ⌜ getD (now forms) row 0 % 32 ≡ 10 ⌝ }
-    ensures given { λ r. ⌜ Gives-result (now (forms .entry)) (now (shapes .entry)) (now (pool .entry)) (now (bindings .entry)) (now (result .entry))
-        (now (result .exit)) row bound used dest deep r ⌝ }
-    ensures kept { λ _. ⌜ Kept (now (bindings .entry)) (now (bindings .exit)) bound ⌝ }
+    ensures given { λ r. ⌜ Gives-result (now (forms .entry)) (now (shapes .entry)) (now (pool .entry)) (now (env .entry)) (now (into .entry))
+        (now (into .exit)) row bound used dest deep r ⌝ }
+    ensures kept { λ _. ⌜ Kept (now (env .entry)) (now (env .exit)) bound ⌝ }
 {
-    let r = places::locate(forms, row + 3, shapes, pool, bindings);
-    let Located::At { row: at, kinds } = r else {
+    let Located::At { row: at, kinds } = places::locate(forms, row + 3, shapes, pool, env) else {
         return Joined::Full; // the check has passed
     };
     let test = forms::operand(forms, row);
     let first = row + 3 + forms::size(forms, row + 3);
     let second = first + forms::size(forms, first);
-    bindings::bind(bindings, bound, at, checking::kinds::cut(kinds, test));
-    let r = result_into(
+    bindings::bind(env, bound, at, checking::kinds::cut(kinds, test));
+    let Joined::Grown { words } = result_into(
         forms,
         first,
         shapes,
         pool,
-        bindings,
+        env,
         bound + 1,
-        result,
+        into,
         used,
         dest,
         deep,
-    );
-    let Joined::Grown { words } = r else {
+    ) else {
         return Joined::Full;
     };
-    bindings::bind(bindings, bound, at, checking::kinds::taken_out(kinds, test));
-    let r = result_into(
+    bindings::bind(env, bound, at, checking::kinds::taken_out(kinds, test));
+    let Joined::Grown { words: more } = result_into(
         forms,
         second,
         shapes,
         pool,
-        bindings,
+        env,
         bound + 1,
-        result,
+        into,
         used + words,
         dest,
         deep,
-    );
-    let Joined::Grown { words: more } = r else {
+    ) else {
         return Joined::Full;
     };
     Joined::Grown {
@@ -162,19 +159,19 @@ fn result_choose(
     row: usize,
     shapes: &[u64],
     pool: &[u64],
-    bindings: &mut [u64],
+    env: &mut [u64],
     bound: usize,
-    result: &mut [u64],
+    into: &mut [u64],
     used: usize,
     dest: usize,
     deep: usize,
 ) -> Joined
-    requires { ⌜ Result-asked (now forms) (now shapes) (now pool) (now bindings) (now result) row bound used dest deep ⌝ }
-    requires tables { ⌜ Tables (now shapes) (now result) used ⌝ }
+    requires { ⌜ Result-asked (now forms) (now shapes) (now pool) (now env) (now into) row bound used dest deep ⌝ }
+    requires tables { ⌜ Tables (now shapes) (now into) used ⌝ }
     requires code { ⌜ getD (now forms) row 0 % 32 ≡ 11 ⌝ }
-    ensures given { λ r. ⌜ Gives-result (now (forms .entry)) (now (shapes .entry)) (now (pool .entry)) (now (bindings .entry)) (now (result .entry))
-        (now (result .exit)) row bound used dest deep r ⌝ }
-    ensures kept { λ _. ⌜ Kept (now (bindings .entry)) (now (bindings .exit)) bound ⌝ }
+    ensures given { λ r. ⌜ Gives-result (now (forms .entry)) (now (shapes .entry)) (now (pool .entry)) (now (env .entry)) (now (into .entry))
+        (now (into .exit)) row bound used dest deep r ⌝ }
+    ensures kept { λ _. ⌜ Kept (now (env .entry)) (now (env .exit)) bound ⌝ }
 {
     let first = row + 3 + forms::size(forms, row + 3);
     let second = first + forms::size(forms, first);
@@ -183,9 +180,9 @@ fn result_choose(
         first,
         shapes,
         pool,
-        bindings,
+        env,
         bound,
-        result,
+        into,
         used,
         dest,
         deep,
@@ -198,9 +195,9 @@ fn result_choose(
         second,
         shapes,
         pool,
-        bindings,
+        env,
         bound,
-        result,
+        into,
         used + words,
         dest,
         deep,
@@ -220,38 +217,38 @@ fn result_pair(
     row: usize,
     shapes: &[u64],
     pool: &[u64],
-    bindings: &mut [u64],
+    env: &mut [u64],
     bound: usize,
-    result: &mut [u64],
+    into: &mut [u64],
     used: usize,
     first: usize,
     last: usize,
     deep: usize,
     had: bool,
 ) -> Joined
-    requires { ⌜ Pair-asked (now forms) (now shapes) (now pool) (now bindings) (now result) row bound used first last deep ⌝ }
-    requires tables { ⌜ Tables (now shapes) (now result) used ⌝ }
-    ensures given { λ r. ⌜ Gives-pair (now (forms .entry)) (now (shapes .entry)) (now (pool .entry)) (now (bindings .entry)) (now (result .entry))
-        (now (result .exit)) row bound used first last deep had r ⌝ }
-    ensures kept { λ _. ⌜ Kept (now (bindings .entry)) (now (bindings .exit)) bound ⌝ }
+    requires { ⌜ Pair-asked (now forms) (now shapes) (now pool) (now env) (now into) row bound used first last deep ⌝ }
+    requires tables { ⌜ Tables (now shapes) (now into) used ⌝ }
+    ensures given { λ r. ⌜ Gives-pair (now (forms .entry)) (now (shapes .entry)) (now (pool .entry)) (now (env .entry)) (now (into .entry))
+        (now (into .exit)) row bound used first last deep had r ⌝ }
+    ensures kept { λ _. ⌜ Kept (now (env .entry)) (now (env .exit)) bound ⌝ }
 {
     let name = forms::name(forms, row);
-    let place = growing::find_place(result, used, first, last, pool, name);
+    let place = growing::find_place(into, used, first, last, pool, name);
     if place.listed {
         return result_into(
             forms,
             row,
             shapes,
             pool,
-            bindings,
+            env,
             bound,
-            result,
+            into,
             used,
             place.row,
             deep,
         );
     }
-    let r = growing::open_row(result, used, place.row, growing::start_kinds(had), name);
+    let r = growing::open_row(into, used, place.row, growing::start_kinds(had), name);
     let Joined::Grown { words: opened } = r else {
         return Joined::Full;
     };
@@ -260,9 +257,9 @@ fn result_pair(
         row,
         shapes,
         pool,
-        bindings,
+        env,
         bound,
-        result,
+        into,
         used + opened,
         place.row,
         deep,
@@ -282,20 +279,20 @@ fn result_pairs(
     end: usize,
     shapes: &[u64],
     pool: &[u64],
-    bindings: &mut [u64],
+    env: &mut [u64],
     bound: usize,
-    result: &mut [u64],
+    into: &mut [u64],
     used: usize,
     first: usize,
     last: usize,
     deep: usize,
     had: bool,
 ) -> Joined
-    requires { ⌜ Pack-asked (now forms) (now shapes) (now pool) (now bindings) (now result) row end bound used first last deep ⌝ }
-    requires tables { ⌜ Tables (now shapes) (now result) used ⌝ }
-    ensures given { λ r. ⌜ Gives-pack (now (forms .entry)) (now (shapes .entry)) (now (pool .entry)) (now (bindings .entry)) (now (result .entry))
-        (now (result .exit)) row end bound used first last deep had r ⌝ }
-    ensures kept { λ _. ⌜ Kept (now (bindings .entry)) (now (bindings .exit)) bound ⌝ }
+    requires { ⌜ Pack-asked (now forms) (now shapes) (now pool) (now env) (now into) row end bound used first last deep ⌝ }
+    requires tables { ⌜ Tables (now shapes) (now into) used ⌝ }
+    ensures given { λ r. ⌜ Gives-pack (now (forms .entry)) (now (shapes .entry)) (now (pool .entry)) (now (env .entry)) (now (into .entry))
+        (now (into .exit)) row end bound used first last deep had r ⌝ }
+    ensures kept { λ _. ⌜ Kept (now (env .entry)) (now (env .exit)) bound ⌝ }
 {
     let mut i = row;
     let mut grown: usize = 0;
@@ -305,9 +302,9 @@ fn result_pairs(
             i,
             shapes,
             pool,
-            bindings,
+            env,
             bound,
-            result,
+            into,
             used + grown,
             first,
             last + grown,
@@ -329,33 +326,33 @@ fn result_pack(
     row: usize,
     shapes: &[u64],
     pool: &[u64],
-    bindings: &mut [u64],
+    env: &mut [u64],
     bound: usize,
-    result: &mut [u64],
+    into: &mut [u64],
     used: usize,
     dest: usize,
     deep: usize,
 ) -> Joined
-    requires { ⌜ Result-asked (now forms) (now shapes) (now pool) (now bindings) (now result) row bound used dest deep ⌝ }
-    requires tables { ⌜ Tables (now shapes) (now result) used ⌝ }
+    requires { ⌜ Result-asked (now forms) (now shapes) (now pool) (now env) (now into) row bound used dest deep ⌝ }
+    requires tables { ⌜ Tables (now shapes) (now into) used ⌝ }
     requires code { ⌜ getD (now forms) row 0 % 32 ≡ 17 ⌝ }
-    ensures given { λ r. ⌜ Gives-result (now (forms .entry)) (now (shapes .entry)) (now (pool .entry)) (now (bindings .entry)) (now (result .entry))
-        (now (result .exit)) row bound used dest deep r ⌝ }
-    ensures kept { λ _. ⌜ Kept (now (bindings .entry)) (now (bindings .exit)) bound ⌝ }
+    ensures given { λ r. ⌜ Gives-result (now (forms .entry)) (now (shapes .entry)) (now (pool .entry)) (now (env .entry)) (now (into .entry))
+        (now (into .exit)) row bound used dest deep r ⌝ }
+    ensures kept { λ _. ⌜ Kept (now (env .entry)) (now (env .exit)) bound ⌝ }
 {
     let end = row + forms::size(forms, row);
-    let had = shapes::has(shapes::kinds(result, dest), Shape::REC);
-    let first = shapes::members(result, dest);
-    let last = dest + shapes::size(result, dest);
+    let had = shapes::has(shapes::kinds(into, dest), Shape::REC);
+    let first = shapes::members(into, dest);
+    let last = dest + shapes::size(into, dest);
     let r = result_pairs(
         forms,
         row + 3,
         end,
         shapes,
         pool,
-        bindings,
+        env,
         bound,
-        result,
+        into,
         used,
         first,
         last,
@@ -366,7 +363,7 @@ fn result_pack(
         return Joined::Full;
     };
     lacked::null_others(
-        result,
+        into,
         used + words,
         first,
         last + words,
@@ -376,7 +373,7 @@ fn result_pack(
         pool,
         had,
     );
-    growing::raise(result, dest, Shape::REC, words);
+    growing::raise(into, dest, Shape::REC, words);
     Joined::Grown { words }
 }
 
@@ -386,92 +383,37 @@ fn result_into(
     row: usize,
     shapes: &[u64],
     pool: &[u64],
-    bindings: &mut [u64],
+    env: &mut [u64],
     bound: usize,
-    result: &mut [u64],
+    into: &mut [u64],
     used: usize,
     dest: usize,
     deep: usize,
 ) -> Joined
-    requires { ⌜ Result-asked (now forms) (now shapes) (now pool) (now bindings) (now result) row bound used dest deep ⌝ }
-    requires tables { ⌜ Tables (now shapes) (now result) used ⌝ }
-    ensures given { λ r. ⌜ Gives-result (now (forms .entry)) (now (shapes .entry)) (now (pool .entry)) (now (bindings .entry)) (now (result .entry))
-        (now (result .exit)) row bound used dest deep r ⌝ }
-    ensures kept { λ _. ⌜ Kept (now (bindings .entry)) (now (bindings .exit)) bound ⌝ }
+    requires { ⌜ Result-asked (now forms) (now shapes) (now pool) (now env) (now into) row bound used dest deep ⌝ }
+    requires tables { ⌜ Tables (now shapes) (now into) used ⌝ }
+    ensures given { λ r. ⌜ Gives-result (now (forms .entry)) (now (shapes .entry)) (now (pool .entry)) (now (env .entry)) (now (into .entry))
+        (now (into .exit)) row bound used dest deep r ⌝ }
+    ensures kept { λ _. ⌜ Kept (now (env .entry)) (now (env .exit)) bound ⌝ }
 {
     let code = forms::code(forms, row);
     if code == forms::KEEP {
-        return result_keep(
-            forms,
-            row,
-            shapes,
-            pool,
-            bindings,
-            bound,
-            result,
-            used,
-            dest,
-            deep,
-        );
+        return result_keep(forms, row, shapes, pool, env, bound, into, used, dest, deep);
     }
     if code == forms::EACH {
-        return result_each(
-            forms,
-            row,
-            shapes,
-            pool,
-            bindings,
-            bound,
-            result,
-            used,
-            dest,
-            deep,
-        );
+        return result_each(forms, row, shapes, pool, env, bound, into, used, dest, deep);
     }
     if code == forms::WHEN {
-        return result_when(
-            forms,
-            row,
-            shapes,
-            pool,
-            bindings,
-            bound,
-            result,
-            used,
-            dest,
-            deep,
-        );
+        return result_when(forms, row, shapes, pool, env, bound, into, used, dest, deep);
     }
     if code == forms::IF {
-        return result_choose(
-            forms,
-            row,
-            shapes,
-            pool,
-            bindings,
-            bound,
-            result,
-            used,
-            dest,
-            deep,
-        );
+        return result_choose(forms, row, shapes, pool, env, bound, into, used, dest, deep);
     }
     if code == forms::PACK {
-        return result_pack(
-            forms,
-            row,
-            shapes,
-            pool,
-            bindings,
-            bound,
-            result,
-            used,
-            dest,
-            deep,
-        );
+        return result_pack(forms, row, shapes, pool, env, bound, into, used, dest, deep);
     }
     let kinds = kinds::bare_kinds(code, forms::operand(forms, row));
-    growing::raise(result, dest, kinds, 0);
+    growing::raise(into, dest, kinds, 0);
     Joined::Grown { words: 0 }
 }
 

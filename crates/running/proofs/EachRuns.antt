@@ -19,7 +19,7 @@ use Rattle.nodes.specs.Standing.{Items-stand}
 use Rattle.nodes.specs.StandingLaws.{size-some, value-size, value-within, first-item, no-item-left}
 use Rattle.plain.specs.Table.{Bounded-numbers, Bounded-items}
 use Rattle.forms.specs.Forms.{Form-stands}
-use Rattle.forms.specs.FormsLaws.{stands-code, stands-within, forms-some}
+use Rattle.forms.specs.FormsLaws.{stands-code, stands-within, forms-some, levels-some}
 use Rattle.forms.specs.PartsLaws as parts
 use Rattle.running.specs.declared.going.Cursor.{Cursor}
 use Rattle.running.specs.declared.going.Part.{Part}
@@ -112,7 +112,7 @@ module _ {forms nodes pool bindings₀ results₀ : List ℕ} {limit : ℕ} {c :
           → (parts.after forms (c .row + 3) + 3 ≤ length forms) × (c .bound < length bindings₀) × (at ≤ 65536) × (c .begun + 1 ≤ 2 ^ 60)
       go (Result.each a q r) is-each m = (
         omega (arith, stands-within (parts.each-result (m .stands)), forms-some r),
-        omega (arith, m .room),
+        omega (arith, m .room, levels-some r),
         omega (arith, bound-within (f .bound), f .ready .small .rows),
         omega (arith, f .ready .paid, f .counted, f .left, f .ready .small .steps),
       )
@@ -197,7 +197,8 @@ module _ {forms nodes pool bindings₀ results₀ : List ℕ} {limit : ℕ} {c :
               (parts.each-result (n .stands))))
               (good-body (n .good))
               (omega (arith, n .counted))
-              (binds-more (c .bound) (n .counted) (omega (arith, n .room, w .same-bindings)) (standing (first-item (s .stand) going-on .stands) (bd .0))
+              (binds-more (c .bound) (n .counted) (omega (arith, n .room, w .same-bindings, levels-some (s .body)))
+              (standing (first-item (s .stand) going-on .stands) (bd .0))
               (binds-kept (c .bound) (w .bound-kept) (omega (arith, n .counted)) (n .binds)))
               (omega (arith, n .room, w .same-bindings, length-set bindings (c .bound) i))
             where

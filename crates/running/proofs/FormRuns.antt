@@ -15,7 +15,7 @@ use Rattle.laws.specs.Good.{Good-reader, good-literal}
 use Rattle.plain.specs.GoodBounded.{good-bounded}
 use Rattle.plain.specs.Table.{Bounded-numbers}
 use Rattle.forms.specs.Forms.{conversion-code, form-code, form-operand}
-use Rattle.forms.specs.FormsLaws.{stands-code, stands-operand, stands-at, stands-within, forms-some}
+use Rattle.forms.specs.FormsLaws.{stands-code, stands-operand, stands-at, stands-within, forms-some, levels-some}
 use Rattle.forms.specs.PartsLaws.{after, literal-stands}
 use Rattle.running.specs.declared.going.Cursor.{Cursor}
 use Rattle.running.specs.declared.going.Part.{Part}
@@ -273,5 +273,5 @@ module _ {forms nodes pool bindings results : List ℕ} {limit : ℕ} {c : Curso
   unfolding result-levels
   when-room f = go (f .ready .form) (when-of (f .ready .form) (omega (arith, f .late, f .early, stands-code (f .ready .meets .stands)))) (f .ready .meets .room)
     where
-      go : (r : Result) → Is-when r → c .bound + result-levels r ≤ length bindings → c .bound < length bindings
-      go (Result.when a k q r₁ r₂) is-when h = omega (arith, h)
+      go : (r : Result) → Is-when r → c .bound + result-levels r ≤ length bindings + 1 → c .bound < length bindings
+      go (Result.when a k q r₁ r₂) is-when h = omega (arith, h, levels-some r₁)

@@ -12,7 +12,7 @@ use Rattle.definitions.specs.Reader.{Place, Result}
 use Rattle.definitions.specs.Running.{run-place}
 use Rattle.forms.specs.Forms.{literal-code, form-code, Literal-payload, null-payload, yes-payload, no-payload, number-payload}
 use Rattle.forms.specs.Forms.{text-payload, Place-stands}
-use Rattle.forms.specs.FormsLaws.{stands-code, stands-at, place-stands-within, place-forms-some}
+use Rattle.forms.specs.FormsLaws.{stands-code, stands-at, place-stands-within, place-forms-some, levels-some}
 use Rattle.forms.specs.PartsLaws.{convert-place, keep-place, count-place, each-place, when-place, literal-stands}
 use Rattle.running.specs.declared.going.Seen.{Seen}
 use Rattle.running.specs.declared.going.Seen.the-variants as Seen-is
@@ -52,7 +52,7 @@ module _ {forms nodes pool bindings : List ℕ} {limit row bound : ℕ} {l : Lim
               stands = s;
               counted = m .counted;
               binds = m .binds;
-              room = omega (arith, m .room);
+              room = omega (arith, m .room, levels-some r);
             };
       }
 

@@ -44,7 +44,7 @@ pub record Pack-state
   pub left : Pairs
   pub stand : Pairs-stand forms p row end (c .bound) left
   pub good : Good-pairs left
-  pub levels : c .bound + pairs-levels left ≤ length bindings₀
+  pub levels : c .bound + pairs-levels left ≤ length bindings₀ + 1
   pub bounded-done : Bounded-members done
   pub whole : run form l env (c .steps) ≡ laws.members-behind done (run-pairs left l env steps)
   pub counted : begun ≡ suc (c .begun) + size-members done
@@ -147,7 +147,7 @@ module _ {forms nodes pool bindings₀ results₀ : List ℕ} {limit : ℕ} {c :
         meets : Meets forms nodes pool bindings limit row (c .bound) l p result env
         more : Pairs-stand forms p (parts.after forms row) end (c .bound) others
         good : Good-pairs others
-        levels : c .bound + pairs-levels others ≤ length bindings₀
+        levels : c .bound + pairs-levels others ≤ length bindings₀ + 1
 
       pair-meets
           : {name : ℕ} → name ≡ getD forms (row + 2) 0 → {l : Limits} {p : List ℕ} {form : Result} {env : List Value}
@@ -156,10 +156,10 @@ module _ {forms nodes pool bindings₀ results₀ : List ℕ} {limit : ℕ} {c :
       unfolding result-levels
       pair-meets {name} e {l} {p} {form} {env} m s =
           let g = parts.first-pair (s .stand) going-on in
-          go g (subst Good-pairs (g .same) (s .good)) (subst (λ (ps : Pairs). c .bound + pairs-levels ps ≤ length bindings₀) (g .same) (s .levels))
+          go g (subst Good-pairs (g .same) (s .good)) (subst (λ (ps : Pairs). c .bound + pairs-levels ps ≤ length bindings₀ + 1) (g .same) (s .levels))
         where
           go : (g : parts.First-pair forms p row end (c .bound) (s .left)) → Good-pairs (pair (g .name) (g .result) (g .others))
-              → c .bound + pairs-levels (pair (g .name) (g .result) (g .others)) ≤ length bindings₀ → Pair-meets name l p form env (s .left)
+              → c .bound + pairs-levels (pair (g .name) (g .result) (g .others)) ≤ length bindings₀ + 1 → Pair-meets name l p form env (s .left)
           go g (good-pair gn gr gs) h =
               record {
                 text = g .name;

@@ -13,6 +13,7 @@ use Rattle.definitions.specs.Value.{Value, size, nesting}
 use Rattle.definitions.specs.Reader.{Result}
 use Rattle.definitions.specs.Running.{run, run-reader}
 use Rattle.nodes.specs.Standing.{Value-stands}
+use Rattle.forms.specs.FormsLaws.{levels-some}
 use Rattle.running.specs.declared.going.Cursor.{Cursor}
 use Rattle.running.specs.declared.going.Part.{Part}
 use Rattle.running.specs.declared.going.Part.the-variants as Part-is
@@ -26,7 +27,13 @@ use Rattle.running.specs.Walk.{Meets, Ready, Made, Comes, Runs}
 abbrev pub start : Cursor
 start = record { row = 0; name = 0; bound = 1; begun = 0; steps = 0 }
 
-module _ {forms nodes pool : List ℕ} (bindings : List ℕ) {l : Limits} (room : l .nesting < length bindings) where
+module _ {forms nodes pool : List ℕ} (bindings : List ℕ) {l : Limits} (room : l .nesting ≤ length bindings) where
+  some-bindings : {p : List ℕ} {form : Result} {v : Value} → Reads-both forms nodes pool l p form v → 0 < length bindings
+  some-bindings {form = form} h = omega (arith, h .levels, room, levels-some form)
+
+  pub bound-within : {results : List ℕ} → Runnable forms nodes pool bindings results l → 0 < length bindings
+  bound-within r = some-bindings (r .held)
+
   meets
       : {p : List ℕ} {form : Result} {v : Value} → Reads-both forms nodes pool l p form v
       → Meets forms nodes pool (set bindings 0 0) (l .steps) 0 1 l p form (v ∷ [])
@@ -40,7 +47,7 @@ module _ {forms nodes pool : List ℕ} (bindings : List ℕ) {l : Limits} (room 
         counted = refl;
         binds =
             binding
-            (subst (λ (i : ℕ). Bound nodes p i v) (sym (getD-set-same bindings 0 0 0 (omega (arith, room)))) (standing (h .document) (h .bounded)))
+            (subst (λ (i : ℕ). Bound nodes p i v) (sym (getD-set-same bindings 0 0 0 (some-bindings h))) (standing (h .document) (h .bounded)))
             no-binding;
         room = omega (arith, h .levels, room, length-set bindings 0 0);
       }

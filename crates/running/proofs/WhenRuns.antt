@@ -18,7 +18,7 @@ use Rattle.definitions.specs.Running.{run}
 use Rattle.laws.specs.FormGrammar.{result-levels}
 use Rattle.laws.specs.Good.{Good-reader, good-when, good-choose}
 use Rattle.forms.specs.Forms.{form-operand, form-at, test-code, Form-stands, size-at}
-use Rattle.forms.specs.FormsLaws.{stands-code, stands-operand, stands-at, stands-within, forms-some}
+use Rattle.forms.specs.FormsLaws.{stands-code, stands-operand, stands-at, stands-within, forms-some, levels-some}
 use Rattle.forms.specs.PartsLaws as parts
 use Rattle.running.specs.declared.going.Cursor.{Cursor}
 use Rattle.running.specs.declared.going.Part.{Part}
@@ -34,7 +34,7 @@ use Rattle.running.proofs.FormRuns.{comes-on}
 pub part-meets
     : {forms nodes pool bindings bindings′ : List ℕ} {limit row row′ bound bound′ m : ℕ} {l : Limits} {p : List ℕ} {r s : Result} {env env′ : List Value}
     → Meets forms nodes pool bindings limit row bound l p r env → Form-stands forms p row′ bound′ m s → Good-reader s → length env′ ≡ bound′
-    → Binds nodes p bindings′ env′ → bound′ + result-levels s ≤ length bindings′
+    → Binds nodes p bindings′ env′ → bound′ + result-levels s ≤ length bindings′ + 1
     → Meets forms nodes pool bindings′ limit row′ bound′ l p s env′
 part-meets {m = m} w st g n b h =
     record { limited = w .limited; pooled = w .pooled; name = m; stands = st; good = g; counted = n; binds = b; room = h }
@@ -69,7 +69,7 @@ module _ {forms nodes pool bindings : List ℕ} {limit row bound at first second
       long = length-set bindings bound at
 
       more : Binds nodes p (set bindings bound at) (v ∷ env)
-      more = binds-more bound (m .counted) (omega (arith, m .room)) b (m .binds)
+      more = binds-more bound (m .counted) (omega (arith, m .room, levels-some r₁)) b (m .binds)
 
       go
           : Good-reader (Result.when a k q r₁ r₂)

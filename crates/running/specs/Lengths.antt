@@ -1,30 +1,20 @@
 -- No value of the tables is longer in plain JSON than its rows allow, so that lengths have room in a word. Assumes nothing.
 use Prim.Native.Nat.{ℕ, _+_, _*_, _≤_, _<_}
 use mathlib.Core.Bool.{true, false}
-use mathlib.Core.List.{List, [], _∷_}
+use mathlib.Core.List.{List}
 use native.Mathlib.Omega.{arith}
-use lib.ListN.{length, length-append}
+use lib.ListN.{length}
 use Rattle.definitions.specs.Bytes.{Bytes, bytes}
 use Rattle.definitions.specs.Value.{Value, Items, no-items, item, Members, no-members, member, size, size-items, size-members}
 use Rattle.definitions.specs.Json.{true-name, false-name, null-name}
-use Rattle.definitions.specs.Plain.{escaped, escaped-all, plain-text, plain-bool, plain}
-use Rattle.laws.specs.StringWritten.{written, written-length}
+use Rattle.definitions.specs.Plain.{plain-text, plain-bool, plain}
+use Rattle.laws.specs.StringWritten.{plain-most}
 use Rattle.pool.specs.Pool.{words}
 use Rattle.number.specs.DecimalLaws.{plain-short}
 use Rattle.nodes.specs.Nodes.{Refers, refers, Rows, null-row, bool-row, number-row, text-row, list-rows, rec-rows, Item-rows, no-item-rows, item-rows}
 use Rattle.nodes.specs.Nodes.{Member-rows, no-member-rows, member-rows}
 use Rattle.plain.specs.PlainLaws.{items-length, members-length, length-list, length-rec}
 use Rattle.plain.specs.Table.{Bounded-numbers, Bounded-items, Bounded-members}
-
--- no byte is written in more than six
-escaped-most : (t : Bytes) → length (escaped-all t) ≤ 6 * length t
-unfolding escaped-all
-escaped-most [] = omega arith
-escaped-most (b ∷ t) = omega (arith, length-append (escaped b) (escaped-all t), written-length (written b), escaped-most t)
-
-plain-most : (t : Bytes) → length (plain-text t) ≤ 2 + 6 * length t
-unfolding plain-text bytes
-plain-most t = omega (arith, length-append (escaped-all t) (0x22 ∷ []), escaped-most t)
 
 pub text-most : {p : List ℕ} {t : Bytes} {k : ℕ} → Refers p t k → length p < 65536 → length (plain-text t) ≤ 3145730
 unfolding words

@@ -13,4 +13,3 @@ pub mod Singles
 pub mod Depth
 pub mod Run
 pub mod RunEnds
-pub mod RunLaws

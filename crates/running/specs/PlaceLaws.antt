@@ -19,7 +19,8 @@ use Rattle.definitions.specs.Checking.{field-kinds}
 use Rattle.definitions.specs.Running.{Ran, gives, enter, stuck-unless, member-of, members-of, field-value, run-place}
 use Rattle.nodes.specs.Nodes.{kind-code}
 use Rattle.forms.specs.Forms.{place-at, Place-rows, it-row, field-rows, Place-stands}
-use Rattle.forms.specs.FormsLaws.{head-at, place-code-lt, getD-row}
+use Rattle.forms.specs.FormsLaws.{head-at, place-code-lt}
+use Rattle.nodes.specs.NodesLaws.{getD-row}
 
 -- ---- steps
 

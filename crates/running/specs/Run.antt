@@ -1,5 +1,5 @@
 -- What running a reader asks and answers, ready for the end of an operation. Assumes nothing.
-use Prim.Native.Nat.{ℕ, _*_, _≤_, _<_}
+use Prim.Native.Nat.{ℕ, _*_, _≤_}
 use mathlib.Core.Path.{_≡_}
 use mathlib.Core.Bool.{true, false}
 use mathlib.Core.List.{List}
@@ -34,8 +34,8 @@ pub record Runnable (forms nodes pool bindings results : List ℕ) (l : Limits) 
   pub form : Result
   pub value : Value
   pub held : Reads-both forms nodes pool l used form value
-  -- the document is bound, and each form binds one value at most
-  pub bound : l .nesting < length bindings
+  -- the document is bound, and each form with results inside binds one value at most
+  pub bound : l .nesting ≤ length bindings
   -- a result of as many values as 14 allows has room
   pub room : 3 * l .values ≤ length results
   pub small-nodes : length nodes ≤ 65536

@@ -64,8 +64,8 @@ pub record Meets (forms nodes pool bindings : List ℕ) (limit row bound : ℕ) 
   pub good : Good-reader r
   pub counted : length env ≡ bound
   pub binds : Binds nodes p bindings env
-  -- each form binds one value at most
-  pub room : bound + result-levels r ≤ length bindings
+  -- each form binds one value at most, and one without results inside binds none
+  pub room : bound + result-levels r ≤ length bindings + 1
 
 -- a place of the table, in the same way
 pub record Meets-place (forms nodes pool bindings : List ℕ) (limit row : ℕ) (l : Limits) (p : List ℕ) (q : Place) (env : List Value) : Type 0 where

@@ -5,24 +5,20 @@ use mathlib.Core.Bool.{Bool, true, false}
 use mathlib.Core.List.{List, [], _∷_}
 use mathlib.Core.Option.{Option, none, some}
 use native.Mathlib.Omega.{arith}
-use denote.Enum.Declared.{tagOf}
-use types.Run.{OneOf, miss}
 use lib.ListN.{length}
 use Rattle.definitions.specs.declared.Limits.{Limits}
 use Rattle.definitions.specs.Bytes.{Bytes}
 use Rattle.definitions.specs.Outcome.{refused}
 use Rattle.definitions.specs.Shape.{Kind, among, no-list, no-fields}
-use Rattle.definitions.specs.Tokens.{opening, closing, word, broken, misplaced, go, look-word, where-some, where-true, want-open}
+use Rattle.definitions.specs.Tokens.{Token, opening, closing, quoted, word, broken, misplaced, go, look-word, where-some, where-true, want-open}
 use Rattle.definitions.specs.ShapeText.{Parts, Around, kind-word, want, no-parts, with-kind, depth, kind-words}
 use Rattle.definitions.specs.ShapeText.{may-follow, want-step, kind-step, bracket-step, element-step, member-step}
 use Rattle.laws.specs.Bools.{clash}
 use Rattle.shapes.specs.Shapes.{kind-bit}
-use Rattle.tokens.specs.declared.Token.{Token}
-use Rattle.tokens.specs.declared.Token.the-variants.{Opening, Closing, Quoted, Word, Broken, End}
-use Rattle.tokens.specs.TokenRead.{Found, Next}
-use Rattle.tokens.proofs.Token as Token-type
+use Rattle.tokens.specs.Expecting.{a-word, sort, Lacks}
+use Rattle.tokens.specs.TokenRead.{Found}
 use Rattle.shape_reader.specs.ShapeParts.{reading, kind-code, Kinds-held, Follows, parts, behind, Kinds-read}
-use Rattle.shape_reader.proofs.Steps.{shown, goes-on, misplaced-found, same-read}
+use Rattle.shape_reader.proofs.Steps.{goes-on, misplaced-found, same-lacking}
 use Rattle.shape_reader.proofs.KindSets.{none-held, held-more}
 
 -- the kinds read up to a place, behind which one more may come
@@ -87,53 +83,43 @@ module _ {text : Bytes} {at kinds i place end : ℕ} {w : Bytes} (s : Kinds-so-f
 
 -- it does what it does behind the kinds
 kind-behind
-    : (text : Bytes) (p : List ℕ) (top : ℕ) (r : Token) (q : Parts) (o : Around)
-    → OneOf (0 ∷ 1 ∷ 2 ∷ 4 ∷ 5 ∷ []) (tagOf Token-type.the-type r)
-    → want-step (kind-word q o) (shown text p top r) ≡ want-step (behind (among Kind.list (q .kinds)) q o) (shown text p top r)
-unfolding shown want-step kind-step bracket-step element-step member-step want-open behind depth
-kind-behind text p top (Opening place) q o h = pick (among Kind.list (q .kinds))
+    : (q : Parts) (o : Around) (t : Token) → (sort t ≡ a-word → ⊥)
+    → want-step (kind-word q o) t ≡ want-step (behind (among Kind.list (q .kinds)) q o) t
+unfolding sort want-step kind-step bracket-step element-step member-step want-open behind depth
+kind-behind q o opening h = pick (among Kind.list (q .kinds))
   where
     pick
         : (b : Bool)
         → elim b [ true ↦ element-step q o opening | false ↦ member-step q o opening ] ≡ want-step (behind b q o) opening
     pick true = refl
     pick false = refl
-kind-behind text p top (Closing place) q o h = pick (among Kind.list (q .kinds))
+kind-behind q o closing h = pick (among Kind.list (q .kinds))
   where
     pick
         : (b : Bool)
         → elim b [ true ↦ element-step q o closing | false ↦ member-step q o closing ] ≡ want-step (behind b q o) closing
     pick true = refl
     pick false = refl
-kind-behind text p top (Quoted place end k) q o h = pick (among Kind.list (q .kinds))
+kind-behind q o (quoted u) h = pick (among Kind.list (q .kinds))
   where
-    pick : (b : Bool) → misplaced ≡ want-step (behind b q o) (shown text p top (Quoted place end k))
+    pick : (b : Bool) → misplaced ≡ want-step (behind b q o) (quoted u)
     pick true = refl
     pick false = refl
-kind-behind text p top (Word place end) q o h = absurd (miss (0 ∷ 1 ∷ 2 ∷ 4 ∷ 5 ∷ []) 3 tt h)
-kind-behind text p top (Broken place) q o h = pick (among Kind.list (q .kinds))
-  where
-    pick : (b : Bool) → misplaced ≡ want-step (behind b q o) broken
-    pick true = refl
-    pick false = refl
-kind-behind text p top End q o h = pick (among Kind.list (q .kinds))
+kind-behind q o (word w) h = absurd (h refl)
+kind-behind q o broken h = pick (among Kind.list (q .kinds))
   where
     pick : (b : Bool) → misplaced ≡ want-step (behind b q o) broken
     pick true = refl
     pick false = refl
 
-pub kinds-end
-    : {text : Bytes} {at kinds i : ℕ} {p₀ p : List ℕ} {top : ℕ} {r : Token} → Kinds-so-far text at kinds i → Next text i p₀ p top r
-    → OneOf (0 ∷ 1 ∷ 2 ∷ 4 ∷ 5 ∷ []) (tagOf Token-type.the-type r)
-    → Kinds-read text at kinds i
-kinds-end {text} {i} {p} {top} {r} s x h =
+pub kinds-end : {text : Bytes} {at kinds i place : ℕ} → Kinds-so-far text at kinds i → Lacks a-word text i place → Kinds-read text at kinds i
+kinds-end s x =
     record {
       listed = s .listed;
       held = s .held;
       run = λ l n o.
           let q = parts (s .listed) no-list no-fields in
-          s .run l n o
-          ∙ same-read l n (kind-word q o) (behind (among Kind.list (s .listed)) q o) x (kind-behind text p top r q o h);
+          s .run l n o ∙ same-lacking l n (kind-word q o) (behind (among Kind.list (s .listed)) q o) x (kind-behind q o);
       ahead = s .ahead;
       within = s .within;
     }

@@ -2,14 +2,11 @@
 use Prim.Native.Nat.{ℕ, _+_, _/_, _%_, _≤_, _<_, Ordering, Ordering·lt, Ordering·eq, Ordering·gt}
 use mathlib.Core.Path.{_≡_, refl, sym, ap, ap₂, _∙_, subst}
 use mathlib.Core.Bool.{Bool, true, false}
-use mathlib.Core.List.{List, [], _∷_}
+use mathlib.Core.List.{List}
 use native.Mathlib.Omega.{arith}
-use denote.Enum.Declared.{tagOf}
-use types.Run.{OneOf}
 use lib.ListN.{length, take}
 use Rattle.definitions.specs.declared.Limits.{Limits}
 use Rattle.definitions.specs.Bytes.{Bytes, order}
-use Rattle.definitions.specs.Outcome.{refused}
 use Rattle.definitions.specs.Shape.{Kind, Element, Fields, field, before}
 use Rattle.definitions.specs.Tokens.{opening, closing, word, want-close, want-text, where-true}
 use Rattle.definitions.specs.ShapeText.{Parts, Around, member-open, member-word, member-name, member-close, want, name-fits, want-step, member-step}
@@ -19,10 +16,13 @@ use Rattle.pool.specs.declared.Comparison.{Comparison}
 use Rattle.nodes.specs.Nodes.{reference, refers}
 use Rattle.nodes.specs.StandingLaws.{text-refers, text-referred-front}
 use Rattle.shapes.specs.Shapes.{has-bit}
-use Rattle.tokens.specs.declared.Token.{Token}
-use Rattle.tokens.specs.declared.Token.the-variants.{Opening, Closing, Quoted}
-use Rattle.tokens.specs.TokenRead.{Found, Found-text, Token-answer, Next, place-of}
-use Rattle.tokens.proofs.Token as Token-type
+use Rattle.tokens.specs.declared.expect.Bracket.{Bracket}
+use Rattle.tokens.specs.declared.expect.Bracket.the-variants as Bracket-is
+use Rattle.tokens.specs.declared.expect.Brackets.{Brackets}
+use Rattle.tokens.specs.declared.expect.Brackets.the-variants as Brackets-are
+use Rattle.tokens.specs.declared.expect.Quotation.{Quotation}
+use Rattle.tokens.specs.declared.expect.Quotation.the-variants as Quotation-is
+use Rattle.tokens.specs.TokenRead.{Found, Found-text}
 use Rattle.shape_reader.specs.declared.reading.Cursor.{Cursor}
 use Rattle.shape_reader.specs.declared.reading.FormRead.the-variants.{Done, Refused}
 use Rattle.shape_reader.specs.declared.opening.Expected.{Expected}
@@ -31,13 +31,13 @@ use Rattle.shape_reader.specs.declared.members.Named.{Named}
 use Rattle.shape_reader.specs.declared.members.Named.the-variants as Named-is
 use Rattle.shape_reader.specs.declared.members.Turn.{Turn}
 use Rattle.shape_reader.specs.declared.members.Turn.the-variants.{More, Stop}
-use Rattle.tokens.specs.Expecting.{Text-placed}
+use Rattle.tokens.specs.Expecting.{a-closing, a-text, Kept, Text-placed, Bracket-answer, Expects-closing, Brackets-answer}
+use Rattle.tokens.specs.Expecting.{Expects-bracket, Quoted-answer, Expects-text}
 use Rattle.shape_reader.specs.ShapeParts.{reading, Expected-answer, Expects, Kinds-held, parts, Latest, none-yet}
-use Rattle.shape_reader.specs.ShapeParts.{latest-is, Named-answer, Reads-name, Names-answer, Names-member, Turn-is, Turns}
-use Rattle.shape_reader.proofs.Steps.{goes-on, misplaced-found, misplaced-read, no-closing, no-bracket, no-text, member-bytes, only-member, member-goes}
+use Rattle.shape_reader.specs.ShapeParts.{latest-is, Named-answer, Reads-name, Names-answer, Names-member, Turn-is, Turns, Closes-member}
+use Rattle.shape_reader.proofs.Steps.{goes-on, misplaced-found, lacking, lacking-both, member-bytes, only-member, member-goes}
 use Rattle.shape_reader.proofs.KindSets.{has-rec-kind}
-use Rattle.tokens.specs.ReadingLaws.{kept-then, placed-further}
-use Rattle.shape_reader.proofs.Openings.{next-kept}
+use Rattle.tokens.specs.ReadingLaws.{no-closing, no-text, placed-on}
 
 -- ---- names in order
 
@@ -77,43 +77,39 @@ compared-fits pool w n {latest} {v} {m} x h l f a b e (field t s fs) (latest-is 
 
 -- ---- a name
 
-module _ {text : Bytes} {at top : ℕ} {p₀ p : List ℕ} {e : Expected} (x : Expects text p₀ p at top member-bytes e) where
-  pub no-member-word
-      : {place : ℕ} → e ≡ Expected-is.Missing place → Reads-name text p₀ p at top (Named-is.Refused place)
+module _ {text : Bytes} {at : ℕ} {e : Expected} (x : Expects text at member-bytes e) where
+  pub no-member-word : {top place : ℕ} {p : List ℕ} → e ≡ Expected-is.Missing place → Reads-name text p p at top (Named-is.Refused place)
   no-member-word f =
       let there = subst (Expected-answer text at member-bytes) f (x .answer) in
-      record { answer = λ l k q o. there l k (member-word q o) (only-member q o); kept = x .kept }
+      record { answer = λ l k q o. there l k (member-word q o) (only-member q o); kept = record { size = refl; front = refl } }
 
   module _ {behind : ℕ} (f : e ≡ Expected-is.At behind) where
     there : (place : ℕ) × Found text at (word member-bytes) place behind × (place + length member-bytes ≡ behind)
     there = subst (Expected-answer text at member-bytes) f (x .answer)
 
-    pub name-room : Text-placed text p₀ at top → Text-placed text p behind top
-    name-room r =
-        placed-further r (x .kept) (omega (arith, there .1 .from, there .1 .ahead)) (there .1 .within)
+    pub name-room : {p : List ℕ} {top : ℕ} → Text-placed text p at top → Text-placed text p behind top
+    name-room r = placed-on r (omega (arith, there .1 .from, there .1 .ahead)) (there .1 .within)
 
     to-name
         : (l : Limits) (k : ℕ) (q : Parts) (o : Around)
         → reading l k text (want (member-word q o)) at ≡ reading l k text (want (member-name q o)) behind
     to-name l k q o = goes-on l k (member-word q o) (there .1) (member-goes q o)
 
-    module _ {p′ : List ℕ} {r : Token} (y : Next text behind p p′ top r) where
-      pub no-name
-          : {place : ℕ} → OneOf (0 ∷ 1 ∷ 3 ∷ 4 ∷ 5 ∷ []) (tagOf Token-type.the-type r) → place ≡ place-of r (length text)
-          → Reads-name text p₀ p′ at top (Named-is.Refused place)
-      no-name h i =
+    module _ {top : ℕ} {p p′ : List ℕ} {r : Quotation} (y : Expects-text text behind p p′ top r) where
+      pub no-name : {place : ℕ} → r ≡ Quotation-is.Missing place → Reads-name text p p′ at top (Named-is.Refused place)
+      unfolding want-step
+      no-name i =
           record {
             answer = λ l k q o.
                 to-name l k q o
-                ∙ misplaced-read l k (member-name q o) y (no-text text p′ top r q o h)
-                ∙ ap (refused 7) (sym i);
-            kept = kept-then (x .kept) (next-kept y);
+                ∙ lacking l k (member-name q o) a-text (subst (Quoted-answer text behind p′ top) i (y .answer)) (λ t h. no-text t _ h);
+            kept = y .kept;
           }
 
-      pub a-name : {place end n : ℕ} → r ≡ Quoted place end n → Reads-name text p₀ p′ at top (Named-is.Name place end n)
+      pub a-name : {place end n : ℕ} → r ≡ Quotation-is.At place end n → Reads-name text p p′ at top (Named-is.Name place end n)
       unfolding want-step want-text where-true
       a-name {place} {end} {n} i =
-          let t : Found-text text behind p′ top place end n = subst (Token-answer text behind p′ top) i (y .answer) in
+          let t : Found-text text behind p′ top place end n = subst (Quoted-answer text behind p′ top) i (y .answer) in
           record {
             answer =
                 record {
@@ -126,7 +122,7 @@ module _ {text : Bytes} {at top : ℕ} {p₀ p : List ℕ} {e : Expected} (x : E
                       (arith, there .1 .from, there .2, t .found .from, t .shorter);
                   within = t .found .within;
                 };
-            kept = kept-then (x .kept) (next-kept y);
+            kept = y .kept;
           }
 
 -- ---- a member up to its shape
@@ -191,14 +187,17 @@ module _
 
 -- ---- a member, or the bracket that ends the shape
 
+pool-kept : {p : List ℕ} {w : ℕ} → Kept p p w
+pool-kept = record { size = refl; front = refl }
+
 module _
-    (first : Bool) (latest : ℕ) {text : Bytes} {p₀ p : List ℕ} (kinds : ℕ) (c : Cursor) {r : Token} (x : Next text (c .at) p₀ p (c .top) r) where
+    (first : Bool) (latest : ℕ) {text : Bytes} (p : List ℕ) (kinds : ℕ) (c : Cursor) {r : Brackets} (x : Expects-bracket text (c .at) r) where
   pub shape-closed
-      : {at : ℕ} → r ≡ Closing at
-      → Turns member-open first latest text p₀ p kinds c (Stop (Done (record { at = at + 1; begun = c .begun; top = c .top })))
+      : {at : ℕ} → r ≡ Brackets-are.Closing at
+      → Turns first latest text p p kinds c (Stop (Done (record { at = at + 1; begun = c .begun; top = c .top })))
   unfolding want-step member-step
   shape-closed {at} e =
-      let f : Found text (c .at) closing at (at + 1) = subst (Token-answer text (c .at) p (c .top)) e (x .answer) in
+      let f : Found text (c .at) closing at (at + 1) = subst (Brackets-answer text (c .at)) e (x .answer) in
       record {
         answer =
             record {
@@ -208,50 +207,42 @@ module _
               ahead = omega (arith, f .from);
               within = f .within;
             };
-        kept = next-kept x;
+        kept = pool-kept;
       }
 
   pub neither-bracket
-      : {place : ℕ} {t : Turn} → OneOf (0 ∷ 2 ∷ 3 ∷ 4 ∷ 5 ∷ []) (tagOf Token-type.the-type r)
-      → OneOf (1 ∷ 2 ∷ 3 ∷ 4 ∷ 5 ∷ []) (tagOf Token-type.the-type r) → place ≡ place-of r (length text) → t ≡ Stop (Refused 7 place)
-      → Turns member-open first latest text p₀ p kinds c t
-  neither-bracket h h′ e i =
-      subst (Turns member-open first latest text p₀ p kinds c) (sym i)
-      (record {
-        answer = λ ks el fs g m l n o.
-            misplaced-read l n (member-open (parts ks el fs) o) x (no-bracket text p (c .top) r (parts ks el fs) o h h′)
-            ∙ ap (refused 7) (sym e);
-        kept = next-kept x;
-      })
+      : {place : ℕ} {t : Turn} → r ≡ Brackets-are.Missing place → t ≡ Stop (Refused 7 place)
+      → Turns first latest text p p kinds c t
+  neither-bracket e i =
+      let (h, h′) = subst (Brackets-answer text (c .at)) e (x .answer) in
+      subst (Turns first latest text p p kinds c) (sym i)
+      (record { answer = λ ks el fs g m l n o. lacking-both l n (parts ks el fs) o h h′; kept = pool-kept })
 
-  module _ {at : ℕ} (e : r ≡ Opening at) where
+  module _ {at : ℕ} (e : r ≡ Brackets-are.Opening at) where
     opened : Found text (c .at) opening at (at + 1)
-    opened = subst (Token-answer text (c .at) p (c .top)) e (x .answer)
+    opened = subst (Brackets-answer text (c .at)) e (x .answer)
 
     pub no-record
         : {b : Bool} {t : Turn} → b ≡ has-bit kinds 64 → b ≡ false → t ≡ Stop (Refused 7 at)
-        → Turns member-open first latest text p₀ p kinds c t
+        → Turns first latest text p p kinds c t
     unfolding want-step member-step where-true
     no-record g h i =
-        subst (Turns member-open first latest text p₀ p kinds c) (sym i)
+        subst (Turns first latest text p p kinds c) (sym i)
         (record {
           answer = λ ks el fs k m l n o.
               misplaced-found l n (member-open (parts ks el fs) o) opened
               (rw (sym (has-rec-kind k) ∙ sym g ∙ h));
-          kept = next-kept x;
+          kept = pool-kept;
         })
 
-    pub member-room : Text-placed text p₀ (c .at) (c .top) → Text-placed text p (at + 1) (c .top) × (c .at < at + 1)
-    member-room r₀ = (
-      placed-further r₀ (next-kept x) (omega (arith, opened .from)) (opened .within),
-      omega (arith, opened .from),
-    )
+    pub member-room : Text-placed text p (c .at) (c .top) → Text-placed text p (at + 1) (c .top) × (c .at < at + 1)
+    member-room r₀ = (placed-on r₀ (omega (arith, opened .from)) (opened .within), omega (arith, opened .from))
 
     pub member-opened
         : {p′ : List ℕ} {b : Bool} {t : Turn} → b ≡ has-bit kinds 64 → b ≡ true → Names-member first latest text p p′ (at + 1) c t
-        → Turns member-open first latest text p₀ p′ kinds c t
+        → Turns first latest text p p′ kinds c t
     unfolding want-step member-step where-true
-    member-opened {p′} {t} g h y = record { answer = pick t (y .answer); kept = kept-then (next-kept x) (y .kept) }
+    member-opened {p′} {t} g h y = record { answer = pick t (y .answer); kept = y .kept }
       where
         to-word
             : (ks : List Kind) (el : Element) (fs : Fields) → Kinds-held ks kinds → (l : Limits) (n : ℕ) (o : Around)
@@ -260,14 +251,11 @@ module _
         to-word ks el fs k l n o =
             goes-on l n (member-open (parts ks el fs) o) opened (rw (sym (has-rec-kind k) ∙ sym g ∙ h))
 
-        kept-latest : {fs : Fields} → Latest (take (c .top) p₀) fs first latest → Latest (take (c .top) p) fs first latest
-        kept-latest {fs} m = subst (λ (q : List ℕ). Latest q fs first latest) (sym (x .front)) m
-
-        pick : (u : Turn) → Names-answer first latest text p p′ (at + 1) c u → Turn-is member-open first latest text p₀ p′ kinds c u
+        pick : (u : Turn) → Names-answer first latest text p p′ (at + 1) c u → Turn-is first latest text p p′ kinds c u
         pick (More to name) z =
             record {
               bytes = z .bytes;
-              run = λ ks el fs k m l n o. to-word ks el fs k l n o ∙ z .run (parts ks el fs) (kept-latest m) l n o;
+              run = λ ks el fs k m l n o. to-word ks el fs k l n o ∙ z .run (parts ks el fs) m l n o;
               refers = z .refers;
               has-rec = sym g ∙ h;
               begun = z .begun;
@@ -276,75 +264,33 @@ module _
             }
         pick (Stop (Done to)) z = absurd z
         pick (Stop (Refused number place)) z = λ ks el fs k m l n o.
-            to-word ks el fs k l n o ∙ z (parts ks el fs) (kept-latest m) l n o
+            to-word ks el fs k l n o ∙ z (parts ks el fs) m l n o
 
 -- ---- behind a member's shape
 
-module _
-    (latest : ℕ) {text : Bytes} {p₀ p : List ℕ} (kinds : ℕ) (c : Cursor) {r : Token} (x : Next text (c .at) p₀ p (c .top) r) where
-  pub member-unclosed
-      : {place : ℕ} {t : Turn} → OneOf (0 ∷ 2 ∷ 3 ∷ 4 ∷ 5 ∷ []) (tagOf Token-type.the-type r) → place ≡ place-of r (length text)
-      → t ≡ Stop (Refused 7 place)
-      → Turns member-close false latest text p₀ p kinds c t
-  member-unclosed h e i =
-      subst (Turns member-close false latest text p₀ p kinds c) (sym i)
-      (record {
-        answer = λ ks el fs g m l n o.
-            misplaced-read l n (member-close (parts ks el fs) o) x (no-closing text p (c .top) r (parts ks el fs) o h)
-            ∙ ap (refused 7) (sym e);
-        kept = next-kept x;
-      })
+module _ (c : Cursor) {text : Bytes} {r : Bracket} (x : Expects-closing text (c .at) r) where
+  pub member-unclosed : {place : ℕ} → r ≡ Bracket-is.Missing place → Closes-member text c (Refused 7 place)
+  unfolding want-step
+  member-unclosed e =
+      record {
+        answer = λ q l n o.
+            lacking l n (member-close q o) a-closing (subst (Bracket-answer a-closing closing text (c .at)) e (x .answer)) (λ t h. no-closing t _ h);
+      }
 
-  module _ {at : ℕ} (e : r ≡ Closing at) where
-    closed : Found text (c .at) closing at (at + 1)
-    closed = subst (Token-answer text (c .at) p (c .top)) e (x .answer)
+  module _ {at : ℕ} (e : r ≡ Bracket-is.At at) where
+    pub closed : Found text (c .at) closing at (at + 1)
+    closed = subst (Bracket-answer a-closing closing text (c .at)) e (x .answer)
 
-    pub behind-room : Text-placed text p₀ (c .at) (c .top) → Text-placed text p (at + 1) (c .top)
-    behind-room r₀ = placed-further r₀ (next-kept x) (omega (arith, closed .from)) (closed .within)
-
-    pub member-closed
-        : {p′ : List ℕ} {t : Turn}
-        → Turns member-open false latest text p p′ kinds (record { at = at + 1; begun = c .begun; top = c .top }) t
-        → Turns member-close false latest text p₀ p′ kinds c t
+    pub member-closed : Closes-member text c (Done (record { at = at + 1; begun = c .begun; top = c .top }))
     unfolding want-step want-close
-    member-closed {p′} {t} y = record { answer = pick t (y .answer); kept = kept-then (next-kept x) (y .kept) }
-      where
-        to-open
-            : (ks : List Kind) (el : Element) (fs : Fields) (l : Limits) (n : ℕ) (o : Around)
-            → reading l n text (want (member-close (parts ks el fs) o)) (c .at)
-            ≡ reading l n text (want (member-open (parts ks el fs) o)) (at + 1)
-        to-open ks el fs l n o = goes-on l n (member-close (parts ks el fs) o) closed refl
-
-        kept-latest : {fs : Fields} → Latest (take (c .top) p₀) fs false latest → Latest (take (c .top) p) fs false latest
-        kept-latest {fs} m = subst (λ (q : List ℕ). Latest q fs false latest) (sym (x .front)) m
-
-        pick
-            : (u : Turn)
-            → Turn-is member-open false latest text p p′ kinds (record { at = at + 1; begun = c .begun; top = c .top }) u
-            → Turn-is member-close false latest text p₀ p′ kinds c u
-        pick (More to name) z =
-            record {
-              bytes = z .bytes;
-              run = λ ks el fs k m l n o. to-open ks el fs l n o ∙ z .run ks el fs k (kept-latest m) l n o;
-              refers = z .refers;
-              has-rec = z .has-rec;
-              begun = z .begun;
-              moves =
-                  record {
-                    ahead = omega (arith, z .moves .ahead, closed .from);
-                    within = z .moves .within;
-                    grows = z .moves .grows;
-                    room = omega (arith, z .moves .room, closed .from);
-                  };
-              further = omega (arith, z .further, closed .from);
-            }
-        pick (Stop (Done to)) z =
-            record {
-              run = λ ks el fs k m l n o. to-open ks el fs l n o ∙ z .run ks el fs k (kept-latest m) l n o;
-              begun = z .begun;
-              top = z .top;
-              ahead = omega (arith, z .ahead, closed .from);
-              within = z .within;
-            }
-        pick (Stop (Refused number place)) z = λ ks el fs k m l n o.
-            to-open ks el fs l n o ∙ z ks el fs k (kept-latest m) l n o
+    member-closed =
+        record {
+          answer =
+              record {
+                run = λ q l n o. goes-on l n (member-close q o) closed refl;
+                begun = refl;
+                top = refl;
+                further = omega (arith, closed .from);
+                within = closed .within;
+              };
+        }

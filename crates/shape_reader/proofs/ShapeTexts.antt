@@ -1,30 +1,26 @@
 -- Answers for a whole shape text. Assumes nothing.
 use Prim.Native.Nat.{ℕ, _*_}
 use mathlib.Core.Path.{_≡_, refl, sym, ap, _∙_, subst}
-use mathlib.Core.List.{List, [], _∷_}
+use mathlib.Core.List.{List}
 use native.Mathlib.Omega.{arith}
-use denote.Enum.Declared.{tagOf}
-use types.Run.{OneOf}
 use lib.ListN.{length, take}
-use lib.Seq.{take-take}
 use Rattle.definitions.specs.declared.Limits.{Limits}
 use Rattle.definitions.specs.Bytes.{Bytes}
-use Rattle.definitions.specs.Outcome.{refused}
 use Rattle.definitions.specs.Tokens.{Placed, tokens, read-tokens, or-end}
 use Rattle.definitions.specs.ShapeText.{text-end, shape-open, want, whole, put, depth, step, finished, read-shape}
 use Rattle.shapes.specs.Shapes.{Shape-rows}
 use Rattle.shapes.specs.ShapesLaws.{length-shape-rows}
-use Rattle.tokens.specs.declared.Token.{Token}
-use Rattle.tokens.specs.declared.Token.the-variants.{End}
-use Rattle.tokens.specs.TokenRead.{tokens-from, Token-answer, Next, place-of}
-use Rattle.tokens.proofs.Token as Token-type
+use Rattle.tokens.specs.declared.expect.Ending.{Ending}
+use Rattle.tokens.specs.declared.expect.Ending.the-variants as Ending-is
+use Rattle.tokens.specs.Expecting.{End-answer, Expects-end}
+use Rattle.tokens.specs.TokenRead.{tokens-from}
 use Rattle.shape_reader.specs.declared.reading.Cursor.{Cursor}
 use Rattle.shape_reader.specs.declared.reading.FormRead.{FormRead}
 use Rattle.shape_reader.specs.declared.reading.FormRead.the-variants.{Done, Refused}
 use Rattle.shape_reader.specs.declared.ShapeRead.the-variants as Shape-is
 use Rattle.shape_reader.specs.ShapeParts.{reading, Limited, Ready, Form-done, Form-answer, Reads-form}
 use Rattle.shape_reader.specs.ShapeReads.{Tables, Reads-shape}
-use Rattle.shape_reader.proofs.Steps.{whole-read}
+use Rattle.shape_reader.proofs.Steps.{more-text}
 use Rattle.shape_reader.proofs.Going.{ready-then}
 
 -- where a text begins
@@ -74,18 +70,16 @@ module _
     unfolding put
     to-end = begins l text ∙ read-form .run l text-end (limits-at-start l)
 
-    module _ {p″ : List ℕ} {k : Token} (y : Next text (to .at) p′ p″ (to .top) k) where
-      pub more-text
-          : {place : ℕ} → OneOf (0 ∷ 1 ∷ 2 ∷ 3 ∷ 4 ∷ []) (tagOf Token-type.the-type k) → place ≡ place-of k (length text)
-          → Reads-shape l text s p s′ p″ top (Shape-is.Refused 7 place)
-      more-text h i =
+    module _ {k : Ending} (y : Expects-end text (to .at) k) where
+      pub more-behind : {place : ℕ} → k ≡ Ending-is.More place → Reads-shape l text s p s′ p′ top (Shape-is.Refused 7 place)
+      more-behind i =
           record {
-            answer = to-end ∙ whole-read l (to .begun) (read-form .form) h y ∙ ap (refused 7) (sym i);
+            answer = to-end ∙ more-text l (to .begun) (read-form .form) (subst (End-answer text (to .at)) i (y .answer));
             shapes-kept = x .sized .shapes-kept;
-            pool-kept = y .kept ∙ x .sized .pool-kept;
+            pool-kept = x .sized .pool-kept;
           }
 
-      pub whole-text : k ≡ End → Reads-shape l text s p s′ p″ top (Shape-is.Read (2 * to .begun) (to .top))
+      pub whole-text : k ≡ Ending-is.Whole → Reads-shape l text s p s′ p′ top (Shape-is.Read (2 * to .begun) (to .top))
       unfolding reading read-tokens or-end finished
       whole-text i =
           let done = read-form in
@@ -97,20 +91,14 @@ module _
                   read =
                       to-end
                       ∙ ap (λ (ts : List Placed). read-tokens step finished l (to .begun) (length text) (whole (done .form)) ts)
-                      (subst (Token-answer text (to .at) p″ (to .top)) i (y .answer));
-                  held =
-                      subst (λ (q : List ℕ). Shape-rows q 0 (done .form) (take (2 * to .begun) s′)) (sym (y .front))
-                      (subst (λ (q : List ℕ). Shape-rows (take (to .top) p′) 0 (done .form) q) (sym rows-are) (done .held));
+                      (subst (End-answer text (to .at)) i (y .answer));
+                  held = subst (λ (q : List ℕ). Shape-rows (take (to .top) p′) 0 (done .form) q) (sym rows-are) (done .held);
                   counted = omega (arith, done .goes .counted, length-shape-rows (done .held));
                   grows = done .goes .moves .grows;
-                  within = omega (arith, end-ready .placed .texts, end-ready .placed .within, y .kept);
+                  within = omega (arith, end-ready .placed .texts, end-ready .placed .within);
                   small = omega (arith, end-ready .placed .small, end-ready .placed .within);
-                  front =
-                      sym (take-take top (to .top) p″ (done .goes .moves .grows))
-                      ∙ ap (λ (q : List ℕ). take top q) (y .front)
-                      ∙ take-take top (to .top) p′ (done .goes .moves .grows)
-                      ∙ done .goes .front;
+                  front = done .goes .front;
                 };
             shapes-kept = x .sized .shapes-kept;
-            pool-kept = y .kept ∙ x .sized .pool-kept;
+            pool-kept = x .sized .pool-kept;
           }

@@ -22,7 +22,7 @@ use Rattle.shape_reader.specs.ShapeParts.{reading, Limited, Kinds-held, 
 use Rattle.shape_reader.specs.ShapeParts.{Ready, Goes, Reads-form, Element-done, Element-answer, Reads-element, Fields-before}
 use Rattle.shape_reader.specs.ShapeParts.{no-fields-before, field-before, Members-done, Members-answer, Reads-members}
 use Rattle.shape_reader.proofs.KindSets.{with-parts, has-list-kind, has-rec-kind, held-small}
-use Rattle.tokens.specs.ReadingLaws.{placed-further}
+use Rattle.tokens.specs.ReadingLaws.{placed-on}
 use Rattle.shape_reader.proofs.Table.{with-row, length-with-row, row-put}
 use Rattle.shape_reader.proofs.Going.{goes-then, ready-then, grown}
 use Rattle.shape_reader.proofs.MemberForms.{fields-read-rows}
@@ -71,15 +71,11 @@ nested-left : {l : Limits} {o : Around} {values left : ℕ} → 0 < left → Lim
 nested-left h a = record { most = a .most; nests = omega (arith, a .nests) }
 
 module _
-    {left values : ℕ} {text : Bytes} {s p₀ p : List ℕ} (name : ℕ) (c : Cursor) {x : ShapeHead} (r₀ : Ready text s p₀ values c)
-    (y : Opens-form text p₀ p values left c x) where
+    {left values : ℕ} {text : Bytes} {s p : List ℕ} (name : ℕ) (c : Cursor) {x : ShapeHead} (r₀ : Ready text s p values c)
+    (y : Opens-form text values left c x) where
   pub open-refused
-      : {number place : ℕ} → x ≡ Head-is.Refused number place → Reads-form left values text s p₀ s p name c (Refused number place)
-  open-refused e =
-      record {
-        answer = subst (Head-answer text values left c) e (y .answer);
-        sized = record { shapes-kept = refl; pool-kept = y .kept .size };
-      }
+      : {number place : ℕ} → x ≡ Head-is.Refused number place → Reads-form left values text s p s p name c (Refused number place)
+  open-refused e = record { answer = subst (Head-answer text values left c) e (y .answer); sized = record { shapes-kept = refl; pool-kept = refl } }
 
   module _ {set : Kind-set.Shape} {at : ℕ} (e : x ≡ Head-is.Form set at) where
     pub opens : Opens text values left c (set .kinds) at
@@ -88,7 +84,7 @@ module _
     pub inner-ready : Ready text s p values (record { at = at; begun = c .begun + 1; top = c .top })
     inner-ready =
         record {
-          placed = placed-further (r₀ .placed) (y .kept) (opens .ahead) (opens .within);
+          placed = placed-on (r₀ .placed) (opens .ahead) (opens .within);
           rows = r₀ .rows;
           few = r₀ .few;
           limit = omega (arith, opens .begun);
@@ -105,16 +101,16 @@ module _
 
     module _ {s′ p′ : List ℕ} {r : FormRead}
         (z : Reads-element (left - 1) values text s p s′ p′ (set .kinds) (record { at = at; begun = c .begun + 1; top = c .top }) r) where
-      pub element-refused : {number place : ℕ} → r ≡ Refused number place → Reads-form left values text s p₀ s′ p′ name c r
+      pub element-refused : {number place : ℕ} → r ≡ Refused number place → Reads-form left values text s p s′ p′ name c r
       element-refused {number} {place} i =
-          subst (Reads-form left values text s p₀ s′ p′ name c) (sym i)
+          subst (Reads-form left values text s p s′ p′ name c) (sym i)
           (record {
             answer = λ l o a.
                 to-inner l o a
                 ∙ subst (Element-answer (left - 1) values text s p s′ p′ (set .kinds)
                 (record { at = at; begun = c .begun + 1; top = c .top })) i (z .answer) l o
                 (nested-left (opens .nested) a) (opens .listed) (opens .held);
-            sized = record { shapes-kept = z .sized .shapes-kept; pool-kept = z .sized .pool-kept ∙ y .kept .size };
+            sized = z .sized;
           })
 
       module _ {mid : Cursor} (i : r ≡ Done mid) where
@@ -125,9 +121,9 @@ module _
         members-ready = ready-then inner-ready (element .goes) (z .sized)
 
         module _ {s″ p″ : List ℕ} {r′ : FormRead} (w : Reads-members (left - 1) values text s′ p′ s″ p″ (set .kinds) mid r′) where
-          pub members-refused : {number place : ℕ} → r′ ≡ Refused number place → Reads-form left values text s p₀ s″ p″ name c r′
+          pub members-refused : {number place : ℕ} → r′ ≡ Refused number place → Reads-form left values text s p s″ p″ name c r′
           members-refused {number} {place} j =
-              subst (Reads-form left values text s p₀ s″ p″ name c) (sym j)
+              subst (Reads-form left values text s p s″ p″ name c) (sym j)
               (record {
                 answer = λ l o a.
                     to-inner l o a
@@ -137,7 +133,7 @@ module _
                 sized =
                     record {
                       shapes-kept = w .sized .shapes-kept ∙ z .sized .shapes-kept;
-                      pool-kept = w .sized .pool-kept ∙ z .sized .pool-kept ∙ y .kept .size;
+                      pool-kept = w .sized .pool-kept ∙ z .sized .pool-kept;
                     };
               })
 
@@ -178,7 +174,7 @@ module _
 
             pub form-read
                 : {s‴ : List ℕ} → s‴ ≡ with-row s″ (c .begun) (head-of (set .kinds) (2 * (to .begun - c .begun))) name
-                → Reads-form left values text s p₀ s‴ p″ name c (Done to)
+                → Reads-form left values text s p s‴ p″ name c (Done to)
             form-read {s‴} g =
                 let room : 2 * c .begun + 2 ≤ length s″ = row-bounds .3 in
                 record {
@@ -205,7 +201,7 @@ module _
                                   ∙ ap (λ (h : ℕ). take (2 * c .begun) s ++ (h ∷ name ∷ (element .rows ++ members .read .rows))) (sym head-is);
                               counted = omega (arith, both .counted);
                               limit = both .limit;
-                              front = both .front ∙ y .kept .front;
+                              front = both .front;
                               moves =
                                   record {
                                     ahead = omega (arith, opens .ahead, both .moves .ahead);
@@ -222,6 +218,6 @@ module _
                             ∙ length-with-row s″ (c .begun) (head-of (set .kinds) (2 * (to .begun - c .begun))) name room
                             ∙ w .sized .shapes-kept
                             ∙ z .sized .shapes-kept;
-                        pool-kept = w .sized .pool-kept ∙ z .sized .pool-kept ∙ y .kept .size;
+                        pool-kept = w .sized .pool-kept ∙ z .sized .pool-kept;
                       };
                 }

@@ -13,7 +13,7 @@ use Rattle.definitions.specs.Outcome.{Outcome, refused}
 use Rattle.definitions.specs.Shape.{Kind, among, Shape, Element, no-list, Fields, no-fields, field, has-list}
 use Rattle.definitions.specs.Tokens.{read-tokens, misplaced}
 use Rattle.definitions.specs.Tokens as Tokens
-use Rattle.definitions.specs.ShapeText.{Parts, Around, as-element, as-member, Want, shape-open, kind-word, member-open, member-word, State, want}
+use Rattle.definitions.specs.ShapeText.{Parts, Around, as-element, as-member, Want, shape-open, kind-word, member-open, member-word, member-close, State, want}
 use Rattle.definitions.specs.ShapeText.{no-parts, put, depth, build, numeric-from, in-order, may-follow, name-fits, want-step, step, finished}
 use Rattle.pool.specs.Pool.{words, text-in}
 use Rattle.nodes.specs.Nodes.{Refers}
@@ -60,10 +60,9 @@ Expected-answer text at w (Expected-is.At end) =
 Expected-answer text at w (Expected-is.Missing place) =
     (l : Limits) (n : ℕ) (q : Want) → Only q (Tokens.word w) → reading l n text (want q) at ≡ refused 7 place
 
--- the answer r where the word w must come, and the pool p′ that was p
-pub record Expects (text : Bytes) (p p′ : List ℕ) (at top : ℕ) (w : Bytes) (r : Expected) : Type 0 where
+-- the answer r where the word w must come
+pub record Expects (text : Bytes) (at : ℕ) (w : Bytes) (r : Expected) : Type 0 where
   pub answer : Expected-answer text at w r
-  pub kept : Kept p p′ top
 
 -- ---- the bracket and the word of a shape
 
@@ -88,10 +87,9 @@ abbrev pub Opening-answer : Bytes → (values left : ℕ) → Cursor → ShapeOp
 Opening-answer text values left c (Opening-is.Behind at) = Shape-begun text values left c at
 Opening-answer text values left c (Opening-is.Refused number place) = Form-refused text values left c number place
 
--- the answer r where a shape must begin, and the pool p′ that was p
-pub record Begins-shape (text : Bytes) (p p′ : List ℕ) (values left : ℕ) (c : Cursor) (r : ShapeOpening) : Type 0 where
+-- the answer r where a shape must begin
+pub record Begins-shape (text : Bytes) (values left : ℕ) (c : Cursor) (r : ShapeOpening) : Type 0 where
   pub answer : Opening-answer text values left c r
-  pub kept : Kept p p′ (c .top)
 
 -- ---- kinds
 
@@ -150,10 +148,9 @@ Kinds-answer text at (Kinds-are.Read kinds to) = Kinds-read text at (kinds .kind
 Kinds-answer text at (Kinds-are.Refused place) =
     (l : Limits) (n : ℕ) (o : Around) → reading l n text (want (kind-word no-parts o)) at ≡ refused 7 place
 
--- the answer r behind the word `shape`, and the pool p′ that was p
-pub record Reads-kinds (text : Bytes) (p p′ : List ℕ) (at top : ℕ) (r : Kinds) : Type 0 where
+-- the answer r behind the word `shape`
+pub record Reads-kinds (text : Bytes) (at : ℕ) (r : Kinds) : Type 0 where
   pub answer : Kinds-answer text at r
-  pub kept : Kept p p′ top
 
 -- ---- a shape up to its kinds
 
@@ -175,10 +172,9 @@ abbrev pub Head-answer : Bytes → (values left : ℕ) → Cursor → ShapeHead 
 Head-answer text values left c (Head-is.Form kinds at) = Opens text values left c (kinds .kinds) at
 Head-answer text values left c (Head-is.Refused number place) = Form-refused text values left c number place
 
--- the answer r where a shape must begin, and the pool p′ that was p
-pub record Opens-form (text : Bytes) (p p′ : List ℕ) (values left : ℕ) (c : Cursor) (r : ShapeHead) : Type 0 where
+-- the answer r where a shape must begin
+pub record Opens-form (text : Bytes) (values left : ℕ) (c : Cursor) (r : ShapeHead) : Type 0 where
   pub answer : Head-answer text values left c r
-  pub kept : Kept p p′ (c .top)
 
 -- ---- names
 
@@ -247,15 +243,15 @@ pub record Names-member
   pub answer : Names-answer first latest text p p′ at c r
   pub kept : Kept p p′ (c .top)
 
--- a member's shape comes, where the state w was
+-- a member's shape comes
 pub record Member-next
-    (w : Parts → Around → Want) (first : Bool) (latest : ℕ) (text : Bytes) (p p′ : List ℕ) (kinds : ℕ) (c to : Cursor) (name : ℕ)
+    (first : Bool) (latest : ℕ) (text : Bytes) (p p′ : List ℕ) (kinds : ℕ) (c to : Cursor) (name : ℕ)
     : Type 0 where
   pub bytes : Bytes
   pub run
       : (ks : List Kind) (e : Element) (fs : Fields) → Kinds-held ks kinds → Latest (take (c .top) p) fs first latest
       → (l : Limits) (n : ℕ) (o : Around)
-      → reading l n text (want (w (parts ks e fs) o)) (c .at)
+      → reading l n text (want (member-open (parts ks e fs) o)) (c .at)
       ≡ reading l n text (want (shape-open (as-member (parts ks e fs) bytes o))) (to .at)
   pub refers : Refers (take (to .top) p′) bytes name
   pub has-rec : has-bit kinds 64 ≡ true
@@ -265,11 +261,11 @@ pub record Member-next
 
 -- the members end
 pub record Members-end
-    (w : Parts → Around → Want) (first : Bool) (latest : ℕ) (text : Bytes) (p : List ℕ) (kinds : ℕ) (c to : Cursor) : Type 0 where
+    (first : Bool) (latest : ℕ) (text : Bytes) (p : List ℕ) (kinds : ℕ) (c to : Cursor) : Type 0 where
   pub run
       : (ks : List Kind) (e : Element) (fs : Fields) → Kinds-held ks kinds → Latest (take (c .top) p) fs first latest
       → (l : Limits) (n : ℕ) (o : Around)
-      → reading l n text (want (w (parts ks e fs) o)) (c .at) ≡ reading l n text (put (build (parts ks e fs)) o) (to .at)
+      → reading l n text (want (member-open (parts ks e fs) o)) (c .at) ≡ reading l n text (put (build (parts ks e fs)) o) (to .at)
   pub begun : to .begun ≡ c .begun
   pub top : to .top ≡ c .top
   pub ahead : c .at ≤ to .at
@@ -277,24 +273,43 @@ pub record Members-end
 
 -- the bracket that ends the shape, or a refusal
 abbrev pub Stopped
-    : (w : Parts → Around → Want) (first : Bool) (latest : ℕ) (text : Bytes) (p : List ℕ) (kinds : ℕ) (c : Cursor) → FormRead → Type 0
-Stopped w first latest text p kinds c (Done to) = Members-end w first latest text p kinds c to
-Stopped w first latest text p kinds c (Refused number place) =
+    : (first : Bool) (latest : ℕ) (text : Bytes) (p : List ℕ) (kinds : ℕ) (c : Cursor) → FormRead → Type 0
+Stopped first latest text p kinds c (Done to) = Members-end first latest text p kinds c to
+Stopped first latest text p kinds c (Refused number place) =
     (ks : List Kind) (e : Element) (fs : Fields) → Kinds-held ks kinds → Latest (take (c .top) p) fs first latest
     → (l : Limits) (n : ℕ) (o : Around)
-    → reading l n text (want (w (parts ks e fs) o)) (c .at) ≡ refused number place
+    → reading l n text (want (member-open (parts ks e fs) o)) (c .at) ≡ refused number place
 
 -- a member, or the answer
 abbrev pub Turn-is
-    : (w : Parts → Around → Want) (first : Bool) (latest : ℕ) (text : Bytes) (p p′ : List ℕ) (kinds : ℕ) (c : Cursor) → Turn → Type 0
-Turn-is w first latest text p p′ kinds c (More to name) = Member-next w first latest text p p′ kinds c to name
-Turn-is w first latest text p p′ kinds c (Stop r) = Stopped w first latest text p kinds c r
+    : (first : Bool) (latest : ℕ) (text : Bytes) (p p′ : List ℕ) (kinds : ℕ) (c : Cursor) → Turn → Type 0
+Turn-is first latest text p p′ kinds c (More to name) = Member-next first latest text p p′ kinds c to name
+Turn-is first latest text p p′ kinds c (Stop r) = Stopped first latest text p kinds c r
 
--- the answer where a member or the end must come, as w says
+-- the answer where a member or the end must come
 pub record Turns
-    (w : Parts → Around → Want) (first : Bool) (latest : ℕ) (text : Bytes) (p p′ : List ℕ) (kinds : ℕ) (c : Cursor) (r : Turn) : Type 0 where
-  pub answer : Turn-is w first latest text p p′ kinds c r
+    (first : Bool) (latest : ℕ) (text : Bytes) (p p′ : List ℕ) (kinds : ℕ) (c : Cursor) (r : Turn) : Type 0 where
+  pub answer : Turn-is first latest text p p′ kinds c r
   pub kept : Kept p p′ (c .top)
+
+-- the bracket of a member, behind its shape
+pub record Member-closed (text : Bytes) (c to : Cursor) : Type 0 where
+  pub run
+      : (q : Parts) (l : Limits) (n : ℕ) (o : Around)
+      → reading l n text (want (member-close q o)) (c .at) ≡ reading l n text (want (member-open q o)) (to .at)
+  pub begun : to .begun ≡ c .begun
+  pub top : to .top ≡ c .top
+  pub further : c .at < to .at
+  pub within : to .at ≤ length text
+
+abbrev pub Close-answer : Bytes → Cursor → FormRead → Type 0
+Close-answer text c (Done to) = Member-closed text c to
+Close-answer text c (Refused number place) =
+    (q : Parts) (l : Limits) (n : ℕ) (o : Around) → reading l n text (want (member-close q o)) (c .at) ≡ refused number place
+
+-- the answer r behind the shape of a member
+pub record Closes-member (text : Bytes) (c : Cursor) (r : FormRead) : Type 0 where
+  pub answer : Close-answer text c r
 
 -- ---- shapes
 

@@ -1,7 +1,7 @@
 // Shapes, their elements and their members: the shape reader calls the readers of its parts, which call it back; the nesting left falls.
 ghost use Rattle.shape_reader.specs.ShapeParts.{Ready, Reads-form, Reads-element, Reads-members};
 use crate::members::Turn;
-use crate::members::behind_member;
+use crate::members::close_member;
 use crate::members::next_member;
 use crate::opening::ShapeHead;
 use crate::opening::open_form;
@@ -44,15 +44,23 @@ fn read_members(
     ensures read { λ r. ⌜ Reads-members left values (now (text .entry)) (now (shapes .entry)) (now (pool .entry)) (now (shapes .exit))
         (now (pool .exit)) (kinds .kinds) c r ⌝ }
 {
-    let mut turn = next_member(text, pool, kinds, true, 0, c);
+    let mut first = true;
+    let mut latest: u64 = 0;
+    let mut here = c;
     loop {
-        match turn {
+        match next_member(text, pool, kinds, first, latest, here) {
             Turn::More { from, name } => {
                 let r = read_form(text, shapes, pool, values, left, from, name);
                 let FormRead::Done { to } = r else {
                     return r;
                 };
-                turn = behind_member(text, pool, kinds, name, to);
+                let e = close_member(text, to);
+                let FormRead::Done { to: behind } = e else {
+                    return e;
+                };
+                first = false;
+                latest = name;
+                here = behind;
             }
             Turn::Stop { answer } => {
                 return answer;
@@ -75,7 +83,7 @@ pub fn read_form(
     ensures read { λ r. ⌜ Reads-form left values (now (text .entry)) (now (shapes .entry)) (now (pool .entry)) (now (shapes .exit))
         (now (pool .exit)) name c r ⌝ }
 {
-    match open_form(text, pool, values, left, c) {
+    match open_form(text, values, left, c) {
         ShapeHead::Form { kinds, at } => {
             let inner = Cursor {
                 at,

@@ -5,38 +5,25 @@ ghost use lib.ListN.{length};
 ghost use Rattle.definitions.specs.ShapeText.{kind-words};
 ghost use Rattle.definitions.specs.Tokens.{look-word};
 ghost use Rattle.tokens.specs.TokenRead.{word-in};
-ghost use Rattle.tokens.specs.Expecting.{Text-placed};
 ghost use Rattle.shape_reader.specs.ShapeParts.{kind-code, Follows, Reads-kinds};
 use shapes::Shape;
-use tokens::Token;
+use tokens::expect::Spelled;
 
 // The bit of the kind whose word stands from one place to another; of another word, nothing.
 fn kind_of(text: &[u8], at: usize, end: usize) -> Shape
     requires { ⌜ (at ≤ end) × (end ≤ length (now text)) ⌝ }
     ensures told { λ r. ⌜ r .kinds ≡ kind-code (look-word kind-words (word-in (now (text .entry)) at end)) ⌝ }
 {
-    if tokens::is_word(text, at, end, b"null") {
-        return Shape::NULL;
+    match tokens::word_value(text, at, end) {
+        0x6E756C6C04 => Shape::NULL, // null
+        0x626F6F6C04 => Shape::BOOL, // bool
+        0x696E7403 => Shape::INT, // int
+        0x64656303 => Shape::DEC, // dec
+        0x7465787404 => Shape::TEXT, // text
+        0x6C69737404 => Shape::LIST, // list
+        0x72656303 => Shape::REC, // rec
+        _ => Shape::NOTHING,
     }
-    if tokens::is_word(text, at, end, b"bool") {
-        return Shape::BOOL;
-    }
-    if tokens::is_word(text, at, end, b"int") {
-        return Shape::INT;
-    }
-    if tokens::is_word(text, at, end, b"dec") {
-        return Shape::DEC;
-    }
-    if tokens::is_word(text, at, end, b"text") {
-        return Shape::TEXT;
-    }
-    if tokens::is_word(text, at, end, b"list") {
-        return Shape::LIST;
-    }
-    if tokens::is_word(text, at, end, b"rec") {
-        return Shape::REC;
-    }
-    Shape::NOTHING
 }
 
 // Whether a kind may follow these: a later kind has a higher bit, and dec comes only behind int.
@@ -59,15 +46,15 @@ pub enum Kinds {
 }
 
 // Reads the kind words behind the word `shape`.
-pub fn read_kinds(text: &[u8], pool: &mut [u64], at: usize, top: usize) -> Kinds
-    requires { ⌜ Text-placed (now text) (now pool) at top ⌝ }
-    ensures read { λ r. ⌜ Reads-kinds (now (text .entry)) (now (pool .entry)) (now (pool .exit)) at top r ⌝ }
+pub fn read_kinds(text: &[u8], at: usize) -> Kinds
+    requires { ⌜ at ≤ length (now text) ⌝ }
+    ensures read { λ r. ⌜ Reads-kinds (now (text .entry)) at r ⌝ }
 {
     let mut kinds = Shape::NOTHING;
     let mut i = at;
     loop {
-        let t = tokens::next(text, i, pool, top);
-        let Token::Word { at: place, end } = t else {
+        let w = tokens::expect::next_word(text, i);
+        let Spelled::At { place, end } = w else {
             return Kinds::Read { kinds, at: i };
         };
         let kind = kind_of(text, place, end);

@@ -10,7 +10,7 @@ mod reading; // where reading stands, and what it comes to
 use definitions::Limits;
 use reading::Cursor;
 use reading::FormRead;
-use tokens::Token;
+use tokens::expect::Ending;
 
 // What reading a shape text comes to.
 pub enum ShapeRead {
@@ -37,19 +37,13 @@ pub fn read_shape(
         top,
     };
     match forms::read_form(text, shapes, pool, limits.values, limits.nesting, start, 0) {
-        FormRead::Done { to } => {
-            let t = tokens::next(text, to.at, pool, to.top);
-            let Token::End = t else {
-                return ShapeRead::Refused {
-                    number: 7,
-                    place: tokens::place(t, text.len()),
-                };
-            };
-            ShapeRead::Read {
+        FormRead::Done { to } => match tokens::expect::next_end(text, to.at) {
+            Ending::Whole => ShapeRead::Read {
                 words: 2 * to.begun,
                 top: to.top,
-            }
-        }
+            },
+            Ending::More { place } => ShapeRead::Refused { number: 7, place },
+        },
         FormRead::Refused { number, place } => ShapeRead::Refused { number, place },
     }
 }

@@ -1,20 +1,21 @@
 // The members of a shape: what comes behind its kinds and its element, and behind each member's shape.
 ghost use mathlib.Core.Path.{_≡_};
-ghost use mathlib.Core.Bool.{true, false};
 ghost use Prim.Native.Nat.{_≤_, _<_};
 ghost use lib.ListN.{length, take};
 ghost use Rattle.definitions.specs.Shape.{Fields};
-ghost use Rattle.definitions.specs.ShapeText.{member-open, member-close, name-fits};
+ghost use Rattle.definitions.specs.ShapeText.{name-fits};
 ghost use Rattle.pool.specs.Pool.{text-in};
 ghost use Rattle.tokens.specs.Expecting.{Text-placed};
-ghost use Rattle.shape_reader.specs.ShapeParts.{Latest, Reads-name, Names-member, Turns};
+ghost use Rattle.shape_reader.specs.ShapeParts.{Latest, Reads-name, Names-member, Turns, Closes-member};
 use crate::opening::Expected;
 use crate::opening::expect;
 use crate::reading::Cursor;
 use crate::reading::FormRead;
 use pool::Comparison;
 use shapes::Shape;
-use tokens::Token;
+use tokens::expect::Bracket;
+use tokens::expect::Brackets;
+use tokens::expect::Quotation;
 
 // Whether the name of n bytes at word w stands behind that of the latest member, if there is one.
 fn ascends(pool: &[u64], first: bool, latest: u64, w: usize, n: usize) -> bool
@@ -48,16 +49,16 @@ fn read_name(text: &[u8], pool: &mut [u64], at: usize, top: usize) -> Named
     requires { ⌜ Text-placed (now text) (now pool) at top ⌝ }
     ensures read { λ r. ⌜ Reads-name (now (text .entry)) (now (pool .entry)) (now (pool .exit)) at top r ⌝ }
 {
-    match expect(text, pool, at, top, b"member") {
-        Expected::At { end: behind } => {
-            let t = tokens::next(text, behind, pool, top);
-            let Token::Quoted { at, end, bytes } = t else {
-                return Named::Refused {
-                    place: tokens::place(t, text.len()),
-                };
-            };
-            Named::Name { at, end, bytes }
-        }
+    // member
+    match expect(text, at, 0x6D656D62657206) {
+        Expected::At { end: behind } => match tokens::expect::next_text(text, behind, pool, top) {
+            Quotation::At { place, end, bytes } => Named::Name {
+                at: place,
+                end,
+                bytes,
+            },
+            Quotation::Missing { place } => Named::Refused { place },
+        },
         Expected::Missing { place } => Named::Refused { place },
     }
 }
@@ -121,42 +122,44 @@ pub fn next_member(
     c: Cursor,
 ) -> Turn
     requires { ⌜ Text-placed (now text) (now pool) (c .at) (c .top) ⌝ }
-    ensures read { λ r. ⌜ Turns member-open first latest (now (text .entry)) (now (pool .entry)) (now (pool .exit)) (kinds .kinds) c r ⌝ }
+    ensures read { λ r. ⌜ Turns first latest (now (text .entry)) (now (pool .entry)) (now (pool .exit)) (kinds .kinds) c r ⌝ }
 {
-    let t = tokens::next(text, c.at, pool, c.top);
-    if let Token::Closing { at } = t {
-        let to = Cursor {
-            at: at + 1,
-            begun: c.begun,
-            top: c.top,
-        };
-        return Turn::Stop {
-            answer: FormRead::Done { to },
-        };
-    }
-    let Token::Opening { at } = t else {
-        return refuse(tokens::place(t, text.len()));
-    };
-    if shapes::has(kinds, Shape::REC) {
-        member_shape(text, pool, first, latest, at + 1, c)
-    } else {
-        refuse(at)
+    match tokens::expect::next_bracket(text, c.at) {
+        Brackets::Opening { place } => {
+            if shapes::has(kinds, Shape::REC) {
+                member_shape(text, pool, first, latest, place + 1, c)
+            } else {
+                refuse(place)
+            }
+        }
+        Brackets::Closing { place } => {
+            let to = Cursor {
+                at: place + 1,
+                begun: c.begun,
+                top: c.top,
+            };
+            Turn::Stop {
+                answer: FormRead::Done { to },
+            }
+        }
+        Brackets::Missing { place } => refuse(place),
     }
 }
 
-// Goes on behind the shape of the member of the name `latest`.
-pub fn behind_member(text: &[u8], pool: &mut [u64], kinds: Shape, latest: u64, c: Cursor) -> Turn
-    requires { ⌜ Text-placed (now text) (now pool) (c .at) (c .top) ⌝ }
-    ensures read { λ r. ⌜ Turns member-close false latest (now (text .entry)) (now (pool .entry)) (now (pool .exit)) (kinds .kinds) c r ⌝ }
+// Reads the bracket that ends a member, behind its shape.
+pub fn close_member(text: &[u8], c: Cursor) -> FormRead
+    requires { ⌜ c .at ≤ length (now text) ⌝ }
+    ensures read { λ r. ⌜ Closes-member (now (text .entry)) c r ⌝ }
 {
-    let t = tokens::next(text, c.at, pool, c.top);
-    let Token::Closing { at } = t else {
-        return refuse(tokens::place(t, text.len()));
-    };
-    let from = Cursor {
-        at: at + 1,
-        begun: c.begun,
-        top: c.top,
-    };
-    next_member(text, pool, kinds, false, latest, from)
+    match tokens::expect::next_closing(text, c.at) {
+        Bracket::At { place } => {
+            let to = Cursor {
+                at: place + 1,
+                begun: c.begun,
+                top: c.top,
+            };
+            FormRead::Done { to }
+        }
+        Bracket::Missing { place } => FormRead::Refused { number: 7, place },
+    }
 }

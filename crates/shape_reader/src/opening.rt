@@ -1,11 +1,17 @@
 // How a shape begins: its bracket, the word `shape` and its kinds.
-ghost use Rattle.tokens.specs.Expecting.{Text-placed};
+ghost use mathlib.Core.Path.{_≡_};
+ghost use mathlib.Core.Bool.{true};
+ghost use Prim.Native.Nat.{_≤_};
+ghost use lib.ListN.{length};
+ghost use Rattle.definitions.specs.Bytes.{Bytes};
+ghost use Rattle.tokens.specs.WordValues.{word-value, fits};
 ghost use Rattle.shape_reader.specs.ShapeParts.{Expects, Begins-shape, Opens-form};
 use crate::kinds::Kinds;
 use crate::kinds::read_kinds;
 use crate::reading::Cursor;
 use shapes::Shape;
-use tokens::Token;
+use tokens::expect::Bracket;
+use tokens::expect::Spelled;
 
 pub enum Expected {
     // up to a place
@@ -13,21 +19,20 @@ pub enum Expected {
     Missing { place: usize },
 }
 
-// Reads a word that must come.
-pub fn expect(text: &[u8], pool: &mut [u64], at: usize, top: usize, word: &[u8]) -> Expected
-    requires { ⌜ Text-placed (now text) (now pool) at top ⌝ }
-    ensures read { λ r. ⌜ Expects (now (text .entry)) (now (pool .entry)) (now (pool .exit)) at top (now (word .entry)) r ⌝ }
+// Reads a word that must come, by its number.
+pub fn expect(text: &[u8], at: usize, word: u64) -> Expected
+    requires { ⌜ at ≤ length (now text) ⌝ }
+    ensures read { λ r. ⌜ ((w : Bytes) → fits 7 w ≡ true → word ≡ word-value w → Expects (now (text .entry)) at w r) ⌝ }
 {
-    let t = tokens::next(text, at, pool, top);
-    let Token::Word { at: place, end } = t else {
-        return Expected::Missing {
-            place: tokens::place(t, text.len()),
-        };
-    };
-    if tokens::is_word(text, place, end, word) {
-        Expected::At { end }
-    } else {
-        Expected::Missing { place }
+    match tokens::expect::next_word(text, at) {
+        Spelled::At { place, end } => {
+            if tokens::word_value(text, place, end) == word {
+                Expected::At { end }
+            } else {
+                Expected::Missing { place }
+            }
+        }
+        Spelled::Missing { place } => Expected::Missing { place },
     }
 }
 
@@ -38,26 +43,25 @@ pub enum ShapeOpening {
 }
 
 // Reads the bracket and the word of a shape.
-fn begin(text: &[u8], pool: &mut [u64], values: usize, left: usize, c: Cursor) -> ShapeOpening
-    requires { ⌜ Text-placed (now text) (now pool) (c .at) (c .top) ⌝ }
-    ensures read { λ r. ⌜ Begins-shape (now (text .entry)) (now (pool .entry)) (now (pool .exit)) values left c r ⌝ }
+fn begin(text: &[u8], values: usize, left: usize, c: Cursor) -> ShapeOpening
+    requires { ⌜ c .at ≤ length (now text) ⌝ }
+    ensures read { λ r. ⌜ Begins-shape (now (text .entry)) values left c r ⌝ }
 {
-    let t = tokens::next(text, c.at, pool, c.top);
-    let Token::Opening { at } = t else {
-        return ShapeOpening::Refused {
-            number: 7,
-            place: tokens::place(t, text.len()),
-        };
-    };
-    if tokens::expect::is_full(values, left, c.begun) {
-        return ShapeOpening::Refused {
-            number: 8,
-            place: at,
-        };
-    }
-    match expect(text, pool, at + 1, c.top, b"shape") {
-        Expected::At { end } => ShapeOpening::Behind { at: end },
-        Expected::Missing { place } => ShapeOpening::Refused { number: 7, place },
+    match tokens::expect::next_opening(text, c.at) {
+        Bracket::At { place } => {
+            if tokens::expect::is_full(values, left, c.begun) {
+                return ShapeOpening::Refused { number: 8, place };
+            }
+            // shape
+            match expect(text, place + 1, 0x736861706505) {
+                Expected::At { end } => ShapeOpening::Behind { at: end },
+                Expected::Missing { place: at } => ShapeOpening::Refused {
+                    number: 7,
+                    place: at,
+                },
+            }
+        }
+        Bracket::Missing { place } => ShapeOpening::Refused { number: 7, place },
     }
 }
 
@@ -68,12 +72,12 @@ pub enum ShapeHead {
 }
 
 // Reads a shape up to its kinds.
-pub fn open_form(text: &[u8], pool: &mut [u64], values: usize, left: usize, c: Cursor) -> ShapeHead
-    requires { ⌜ Text-placed (now text) (now pool) (c .at) (c .top) ⌝ }
-    ensures read { λ r. ⌜ Opens-form (now (text .entry)) (now (pool .entry)) (now (pool .exit)) values left c r ⌝ }
+pub fn open_form(text: &[u8], values: usize, left: usize, c: Cursor) -> ShapeHead
+    requires { ⌜ c .at ≤ length (now text) ⌝ }
+    ensures read { λ r. ⌜ Opens-form (now (text .entry)) values left c r ⌝ }
 {
-    match begin(text, pool, values, left, c) {
-        ShapeOpening::Behind { at } => match read_kinds(text, pool, at, c.top) {
+    match begin(text, values, left, c) {
+        ShapeOpening::Behind { at } => match read_kinds(text, at) {
             Kinds::Read { kinds, at: to } => ShapeHead::Form { kinds, at: to },
             Kinds::Refused { place } => ShapeHead::Refused { number: 7, place },
         },

@@ -10,6 +10,7 @@ use Rattle.definitions.specs.Shape.{all-kinds, Shape, shape, Element, no-list, 
 use Rattle.definitions.specs.Shape.{Fields, no-fields, field, forms, forms-element, forms-record, forms-fields}
 use Rattle.definitions.specs.Plain.{plain-text}
 use Rattle.definitions.specs.ShapeText.{write, write-element, write-record, write-fields, write-kinds, new-line}
+use Rattle.laws.specs.StringWritten.{plain-most}
 use Rattle.pool.specs.Pool.{words}
 use Rattle.nodes.specs.Nodes.{Refers, refers}
 use Rattle.shapes.specs.Shapes.{kind-bits, has-bit, Shape-rows, shape-rows, Element-rows, no-element-rows, element-rows}
@@ -17,7 +18,7 @@ use Rattle.shapes.specs.Shapes.{Record-rows, no-record-rows, record-rows, Field
 use Rattle.shape_writer.specs.Layout.{word-of, head-text, label-text}
 use Rattle.shape_writer.specs.Writing.{Deliverable, Printable}
 use Rattle.shape_writer.proofs.Lines.{length-new-line}
-use Rattle.shape_writer.proofs.Names.{length-label, plain-most}
+use Rattle.shape_writer.proofs.Names.{length-label}
 use Rattle.shape_writer.proofs.Heads.{length-head, head-of-kinds}
 use Rattle.shape_writer.proofs.Forms.{holds-within}
 

@@ -2,12 +2,12 @@
 use Prim.Native.Nat.{ℕ, suc, _+_, _*_, _/_, _%_, _≤_}
 use native.Mathlib.Omega.{arith}
 use mathlib.Core.Path.{_≡_, sym, ap, ap₂, subst₂, _∙_}
-use mathlib.Core.List.{List, [], _∷_, _++_}
+use mathlib.Core.List.{List, _++_}
 use lib.ListN.{length, length-append}
 use Rattle.definitions.specs.Bytes.{Bytes, bytes}
-use Rattle.definitions.specs.Plain.{escaped, escaped-all, plain-text}
+use Rattle.definitions.specs.Plain.{plain-text}
 use Rattle.definitions.specs.ShapeText.{new-line}
-use Rattle.laws.specs.StringWritten.{written, written-length}
+use Rattle.laws.specs.StringWritten.{plain-most}
 use Rattle.pool.specs.Pool.{words, text-in}
 use Rattle.pool.specs.PoolLaws.{length-text-in}
 use Rattle.plain.specs.Parts.{Holds-text}
@@ -21,16 +21,6 @@ module _ {pool : List ℕ} {k : ℕ} {t : Bytes} {w n : ℕ} (h : Holds-text poo
 
   pub name-plain : plain-text (text-in pool w n) ≡ plain-text t
   name-plain = ap₂ (λ (x y : ℕ). plain-text (text-in pool x y)) e f ∙ ap plain-text (found (h .pooled) (h .refers) .text)
-
--- no byte is written in more than six
-escaped-most : (t : Bytes) → length (escaped-all t) ≤ 6 * length t
-unfolding escaped-all
-escaped-most [] = omega arith
-escaped-most (b ∷ t) = omega (arith, length-append (escaped b) (escaped-all t), written-length (written b), escaped-most t)
-
-pub plain-most : (t : Bytes) → length (plain-text t) ≤ 2 + 6 * length t
-unfolding plain-text bytes
-plain-most t = omega (arith, length-append (escaped-all t) (0x22 ∷ []), escaped-most t)
 
 pub name-most
     : (pool : List ℕ) (w n at size : ℕ) → w + words n ≤ length pool → at + (2 + 6 * n) ≤ size

@@ -1,21 +1,20 @@
 -- The search for a member, row by row. Assumes nothing.
 use Prim.Native.Nat.{ℕ, _+_, _/_, _%_, _≤_, _<_}
-use mathlib.Core.Path.{_≡_, refl, sym, ap, ap₂, _∙_, subst}
+use mathlib.Core.Path.{_≡_, refl, sym, ap, _∙_, subst}
 use mathlib.Core.Bool.{Bool, true, false}
 use mathlib.Core.List.{List}
 use mathlib.Core.Option.{none}
 use native.Mathlib.Omega.{arith}
-use lib.ListN.{getD}
+use lib.ListN.{length, getD}
 use Rattle.definitions.specs.Bytes.{Bytes, same}
 use Rattle.definitions.specs.Shape.{Shape, Fields, no-fields, field, find}
 use Rattle.laws.specs.Fields.{find-here, find-there, find-none}
 use Rattle.pool.specs.Pool.{text-in}
-use Rattle.shapes.specs.Shapes.{size-at}
-use Rattle.shapes.specs.ShapesLaws.{forms-some, stands-size, stands-name, Some-fields, some-fields}
+use Rattle.shapes.specs.Shapes.{Fields-stand, size-at}
+use Rattle.shapes.specs.ShapesLaws.{forms-some, stands-size, stands-name, stands-row, Some-fields, some-fields}
 use Rattle.shapes.specs.ShapesLaws.{fields-left, fields-some, fields-first, fields-rest, fields-end}
-use Rattle.shapes.specs.Members.{Listed, Some-listed, Found-at, Tells, Names}
-use Rattle.shapes.specs.declared.Member.{Member}
-use Rattle.nodes.specs.StandingLaws.{text-referred}
+use Rattle.shapes.specs.Members.{Listed, Some-listed, Found-at}
+use Rattle.nodes.specs.StandingLaws.{text-referred, referred-whole, compared-parts}
 
 -- what is left to search at a row: the name of n bytes at word w is none of those before
 pub record Left (shapes pool : List ℕ) (end w n : ℕ) (p : List ℕ) (fs : Fields) (row : ℕ) : Type 0 where
@@ -31,19 +30,29 @@ pub record Asked (shapes pool : List ℕ) (row : ℕ) (t : Bytes) (b : Bool) : T
   pub told : b ≡ same t (text-in pool (getD shapes (row + 1) 0 % 65536) (getD shapes (row + 1) 0 / 65536))
 
 pub asked
-    : {shapes pool : List ℕ} {row : ℕ} {t : Bytes} {x y z : ℕ} {b : Bool} → x ≡ getD shapes (row + 1) 0 → y ≡ x % 65536
-    → z ≡ x / 65536
-    → b ≡ same t (text-in pool y z)
-    → Asked shapes pool row t b
-asked {pool} {t} e f g h =
-    record {
-      told =
-          h
-          ∙ ap₂ (λ (i j : ℕ). same t (text-in pool i j)) f g
-          ∙ ap (λ (i : ℕ). same t (text-in pool (i % 65536) (i / 65536))) e;
-    }
+    : {shapes pool : List ℕ} {row : ℕ} (a : ℕ) {w s n x y : ℕ} {b : Bool} → w ≡ a % 65536 → s ≡ a / 65536 → n ≡ length (text-in pool w s)
+    → x ≡ getD shapes (row + 1) 0 % 65536
+    → y ≡ getD shapes (row + 1) 0 / 65536
+    → b ≡ same (text-in pool w n) (text-in pool x y)
+    → Asked shapes pool row (text-in pool (a % 65536) (a / 65536)) b
+asked {shapes} {pool} {row} a e f g h i q = record { told = compared-parts pool a (getD shapes (row + 1) 0) e f g h i q }
 
 -- ---- one member
+
+-- the row of the first member is there
+pub fields-step
+    : {shapes p : List ℕ} {row end : ℕ} {fs : Fields} → Fields-stand shapes p row end fs → row < end
+    → (2 ≤ size-at shapes row) × (row + size-at shapes row ≤ end) × (row + 2 ≤ length shapes)
+fields-step {shapes} {p} {row} {end} h more = go h (fields-left h more)
+  where
+    go
+        : {gs : Fields} → Fields-stand shapes p row end gs → Some-fields gs
+        → (2 ≤ size-at shapes row) × (row + size-at shapes row ≤ end) × (row + 2 ≤ length shapes)
+    go k (some-fields {s}) = (
+      omega (arith, forms-some s, stands-size (fields-first k .2)),
+      omega (arith, fields-end (fields-rest k)),
+      stands-row (fields-first k .2),
+    )
 
 module _ {shapes pool p : List ℕ} {row end : ℕ} where
   asked-first
@@ -57,11 +66,14 @@ module _ {shapes pool p : List ℕ} {row end : ℕ} where
       ∙ ap (λ (y : ℕ). same t (text-in pool (y % 65536) (y / 65536))) (stands-name (f .2))
       ∙ ap (λ (u : Bytes). same t u) (text-referred pool (l .front) (l .small) (f .1)))
 
-  step-by
+  -- its name is whole in the pool
+  whole-by
       : {fs : Fields} → Listed shapes pool row end p fs → Some-fields fs
-      → (2 ≤ size-at shapes row) × (row + size-at shapes row ≤ end)
-  step-by l (some-fields {s}) =
-      (omega (arith, forms-some s, stands-size (fields-first (l .stand) .2)), omega (arith, fields-end (fields-rest (l .stand))))
+      → length (text-in pool (getD shapes (row + 1) 0 % 65536) (getD shapes (row + 1) 0 / 65536)) ≡ getD shapes (row + 1) 0 / 65536
+  whole-by l some-fields =
+      let f = fields-first (l .stand) in
+      subst (λ (x : ℕ). length (text-in pool (x % 65536) (x / 65536)) ≡ x / 65536) (sym (stands-name (f .2)))
+      (referred-whole pool (l .front) (l .small) (f .1))
 
   found-by
       : {fs : Fields} (t : Bytes) → Listed shapes pool row end p fs → Some-fields fs → Asked shapes pool row t true
@@ -99,9 +111,13 @@ module _ {shapes pool : List ℕ} {from end w n : ℕ} where
   module _ {row : ℕ} where
     pub step-sizes
         : Some-listed shapes pool from end → Searching shapes pool from end w n row → row < end
-        → (2 ≤ size-at shapes row) × (row + size-at shapes row ≤ end)
-    step-sizes k v h =
-        let l = v .left (k .used) (k .fields) (k .listed) .listed in step-by l (fields-left (l .stand) h)
+        → (2 ≤ size-at shapes row) × (row + size-at shapes row ≤ end) × (row + 2 ≤ length shapes)
+    step-sizes k v h = fields-step (v .left (k .used) (k .fields) (k .listed) .listed .stand) h
+
+    pub step-whole
+        : Some-listed shapes pool from end → Searching shapes pool from end w n row → row < end
+        → length (text-in pool (getD shapes (row + 1) 0 % 65536) (getD shapes (row + 1) 0 / 65536)) ≡ getD shapes (row + 1) 0 / 65536
+    step-whole k v h = let l = v .left (k .used) (k .fields) (k .listed) .listed in whole-by l (fields-left (l .stand) h)
 
     pub found-here
         : Searching shapes pool from end w n row → row < end → {b : Bool} → Asked shapes pool row (text-in pool w n) b → b ≡ true
@@ -143,10 +159,3 @@ module _ {shapes pool : List ℕ} {from end w n : ℕ} where
         : Searching shapes pool from end w n row → end ≤ row → (p : List ℕ) (fs : Fields) → Listed shapes pool from end p fs
         → find (text-in pool w n) fs ≡ none
     not-found v h p fs r = let here = v .left p fs r in here .alike ∙ none-by (text-in pool w n) (here .listed) h
-
-  -- a search by the text of a reference is one by the reference
-  pub as-named
-      : (k : ℕ) (r : Member) → w ≡ k % 65536 → n ≡ k / 65536
-      → ((p : List ℕ) (fs : Fields) → Listed shapes pool from end p fs → Tells shapes p end (text-in pool w n) fs r)
-      → Names shapes from end pool k r
-  as-named k r e f h p fs l = subst (λ (t : Bytes). Tells shapes p end t fs r) (ap₂ (λ (i j : ℕ). text-in pool i j) e f) (h p fs l)

@@ -1,11 +1,11 @@
 -- Looking a member of a shape up by its name. Assumes nothing.
-use Prim.Native.Nat.{ℕ, _/_, _%_, _<_}
+use Prim.Native.Nat.{ℕ, _+_, _/_, _%_, _<_}
 use mathlib.Core.Path.{_≡_}
 use mathlib.Core.List.{List}
 use mathlib.Core.Option.{none, some}
 use lib.ListN.{length, take}
 use Rattle.definitions.specs.Bytes.{Bytes}
-use Rattle.definitions.specs.Shape.{Shape, Fields, find}
+use Rattle.definitions.specs.Shape.{Shape, Fields, no-fields, field, find}
 use Rattle.pool.specs.Pool.{text-in}
 use Rattle.shapes.specs.Shapes.{Stands, Fields-stand}
 use Rattle.shapes.specs.declared.Member.{Member}
@@ -41,3 +41,16 @@ Tells shapes p end t fs Missing = find t fs ≡ none
 abbrev pub Names : (shapes : List ℕ) (from end : ℕ) (pool : List ℕ) (k : ℕ) → Member → Type 0
 Names shapes from end pool k r =
     (p : List ℕ) (fs : Fields) → Listed shapes pool from end p fs → Tells shapes p end (text-in pool (k % 65536) (k / 65536)) fs r
+
+-- ---- how many
+
+-- some members stand in the table from a row up to an end
+pub record Some-stand (shapes : List ℕ) (row end : ℕ) : Type 0 where
+  pub used : List ℕ
+  pub fields : Fields
+  pub stand : Fields-stand shapes used row end fields
+
+-- how many members there are
+unfoldable pub field-count : Fields → ℕ
+field-count no-fields = 0
+field-count (field n s fs) = field-count fs + 1

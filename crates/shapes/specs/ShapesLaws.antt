@@ -10,13 +10,13 @@ use lib.Bits.{bitAnd, bitOr, and-block, or-block, and-mask, and-zero-r}
 use lib.Dec.{eqb}
 use lib.Pow.{pow-pos}
 use lib.ListN.{length, drop, getD, length-append, length-drop}
-use lib.Seq.{drop-at, drop-append-seam, drop-drop, getD-drop}
+use lib.Seq.{drop-at, drop-append-seam}
 use Rattle.definitions.specs.Bytes.{Bytes}
 use Rattle.definitions.specs.Shape.{Kind, Numeric, no-number, int-only, int-and-dec, Shape, shape, Element, no-list, list-of, Record, no-rec, rec-of}
 use Rattle.definitions.specs.Shape.{Fields, no-fields, field, has, has-int, has-dec, has-list, has-rec, forms, forms-element, forms-record, forms-fields}
 use Rattle.definitions.specs.Join.{join-numeric, join, join-element, join-record}
 use Rattle.nodes.specs.Nodes.{Refers}
-use Rattle.nodes.specs.NodesLaws.{refers-grow}
+use Rattle.nodes.specs.NodesLaws.{refers-grow, getD-row, drop-row}
 use Rattle.shapes.specs.Shapes.{kind-bit, bit, numeric-bits, kind-bits, has-bit, head-word, Shape-rows, shape-rows}
 use Rattle.shapes.specs.Shapes.{Element-rows, no-element-rows, element-rows, Record-rows, no-record-rows, record-rows}
 use Rattle.shapes.specs.Shapes.{Field-rows, no-field-rows, field-rows, Stands, Fields-stand, size-at, members-at}
@@ -367,13 +367,6 @@ pub length-field-rows : {p : List ℕ} {fs : Fields} {rs : List ℕ} → Field-r
 length-field-rows {fs} rs = length-field-rows-at fs rs
 
 -- ---- what stands in a table
-
--- the words of a table from a row on
-getD-row : (t : List ℕ) (row i : ℕ) {xs : List ℕ} → drop row t ≡ xs → getD t (row + i) 0 ≡ getD xs i 0
-getD-row t row i e = sym (getD-drop row t i 0) ∙ ap (λ (l : List ℕ). getD l i 0) e
-
-drop-row : (t : List ℕ) (row i : ℕ) {xs : List ℕ} → drop row t ≡ xs → drop (row + i) t ≡ drop i xs
-drop-row t row i e = sym (drop-drop i row t) ∙ ap (λ (l : List ℕ). drop i l) e
 
 pub forms-some : (s : Shape) → 0 < forms s
 unfolding forms

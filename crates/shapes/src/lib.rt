@@ -1,12 +1,13 @@
 // The table of a shape: two words a form, in preorder. The functions that read it are total: past its end stands 0.
 ghost use mathlib.Core.Path.{_≡_};
-ghost use mathlib.Core.List.{_++_, _∷_};
-ghost use Prim.Native.Nat.{_+_, _%_, _^_, _≤_, _<_};
+ghost use mathlib.Core.List.{List, _++_, _∷_};
+ghost use Prim.Native.Nat.{ℕ, _+_, _%_, _^_, _≤_, _<_};
 ghost use lib.Bits.{bitOr};
 ghost use lib.Dec.{eqb};
 ghost use lib.ListN.{length, getD, take, drop};
-ghost use Rattle.shapes.specs.Shapes.{has-bit, head-of, size-at, members-at};
-ghost use Rattle.shapes.specs.Members.{Some-listed, Names};
+ghost use Rattle.definitions.specs.Shape.{Fields};
+ghost use Rattle.shapes.specs.Shapes.{has-bit, head-of, size-at, members-at, Fields-stand};
+ghost use Rattle.shapes.specs.Members.{Some-listed, Names, Some-stand, field-count};
 
 // The kinds of a shape, a set that is the sum of the kinds' bits.
 pub struct Shape {
@@ -133,14 +134,28 @@ pub fn find_named(shapes: &[u64], from: usize, end: usize, pool: &[u64], k: u64)
     ensures told { λ r. ⌜ Names (now (shapes .entry)) from end (now (pool .entry)) k r ⌝ }
 {
     let w = nodes::text_word(k);
-    let n = nodes::text_bytes(k);
+    let n = pool::held(pool, w, nodes::text_bytes(k));
     let mut row = from;
     while row < end {
-        let m = name(shapes, row);
-        if pool::same_text(pool, w, n, nodes::text_word(m), nodes::text_bytes(m)) {
+        let m = shapes[row + 1];
+        if pool::same_held(pool, w, n, nodes::text_word(m), nodes::text_bytes(m)) {
             return Member::Found { row };
         }
-        row += size(shapes, row);
+        row += (shapes[row] / 128) as usize;
     }
     Member::Missing
+}
+
+// How many members stand from one row up to another.
+pub fn member_count(shapes: &[u64], from: usize, end: usize) -> usize
+    requires { ⌜ Some-stand (now shapes) from end ⌝ }
+    ensures counted { λ r. ⌜ ((p : List ℕ) (fs : Fields) → Fields-stand (now (shapes .entry)) p from end fs → r ≡ field-count fs) ⌝ }
+{
+    let mut row = from;
+    let mut count: usize = 0;
+    while row < end {
+        count += 1;
+        row += (shapes[row] / 128) as usize;
+    }
+    count
 }

@@ -1,2 +1,3 @@
 pub mod Small
+pub mod Fewer
 pub mod Long

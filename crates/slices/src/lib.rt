@@ -3,9 +3,10 @@ ghost use mathlib.Core.Path.{_≡_};
 ghost use mathlib.Core.List.{[], _∷_};
 ghost use Prim.Native.Nat.{min};
 ghost use Rattle.definitions.specs.Operations.{slices-short};
-ghost use Rattle.definitions.specs.WorkSlices.{name-words, value-words, text-words, reader-texts};
+ghost use Rattle.definitions.specs.WorkSlices.{shape-words, name-words, most-values, text-words, most-reader-forms, reader-texts};
 ghost use Rattle.definitions.specs.WorkSlices.{plain-slices, infer-slices, join-slices, check-slices, run-slices};
 ghost use Rattle.slices.specs.Small.{Small};
+ghost use Rattle.slices.specs.Fewer.{with-values};
 use definitions::Limits;
 
 // The paper's limits, `standard` of the definitions.
@@ -17,10 +18,22 @@ pub const STANDARD: Limits = Limits {
 };
 
 // The smaller of two numbers.
-pub fn least(a: usize, b: usize) -> usize
+fn least(a: usize, b: usize) -> usize
     ensures chosen { λ r. ⌜ r ≡ min a b ⌝ }
 {
     if a < b { a } else { b }
+}
+
+// Limits for a text that can begin no more than so many values or forms.
+pub fn fewer(limits: Limits, most: usize) -> Limits
+    ensures made { λ r. ⌜ r ≡ with-values limits (min (limits .values) most) ⌝ }
+{
+    Limits {
+        bytes: limits.bytes,
+        values: least(limits.values, most),
+        nesting: limits.nesting,
+        steps: limits.steps,
+    }
 }
 
 // The words that the names of a shape text of so many bytes can take.
@@ -31,12 +44,20 @@ pub fn name_words(limits: Limits, bytes: usize) -> usize
     (least(limits.bytes, bytes) + 6) / 8
 }
 
-// The words that the values of the longest document can take.
-fn value_words(limits: Limits) -> usize
+// The words that the forms of the longest shape text can take.
+fn shape_words(limits: Limits) -> usize
     requires { ⌜ Small limits ⌝ }
-    ensures counted { λ r. ⌜ r ≡ value-words limits (limits .bytes) ⌝ }
+    ensures counted { λ r. ⌜ r ≡ shape-words limits (limits .bytes) ⌝ }
 {
-    3 * least(limits.values, limits.bytes + 1)
+    2 * least(limits.values, (limits.bytes + 6) / 7)
+}
+
+// The most values that are read of the longest document.
+fn most_values(limits: Limits) -> usize
+    requires { ⌜ Small limits ⌝ }
+    ensures counted { λ r. ⌜ r ≡ most-values limits (limits .bytes) ⌝ }
+{
+    least(limits.values, (limits.bytes + limits.nesting) / 2)
 }
 
 // The words that the texts and names of the longest document can take.
@@ -44,11 +65,19 @@ fn text_words(limits: Limits) -> usize
     requires { ⌜ Small limits ⌝ }
     ensures counted { λ r. ⌜ r ≡ text-words limits (limits .bytes) ⌝ }
 {
-    let eighths = limits.bytes + 8 * least(limits.values, limits.bytes + 1);
+    let eighths = limits.bytes + 8 * most_values(limits);
     if eighths < 2 {
         return 0;
     }
     (eighths - 2) / 8
+}
+
+// The most forms that are read of the longest reader.
+fn most_reader_forms(limits: Limits) -> usize
+    requires { ⌜ Small limits ⌝ }
+    ensures counted { λ r. ⌜ r ≡ most-reader-forms limits (limits .bytes) ⌝ }
+{
+    least(limits.values, (limits.bytes + 2) / 3)
 }
 
 // The words that the names and texts of the longest reader can take.
@@ -56,7 +85,7 @@ fn reader_texts(limits: Limits) -> usize
     requires { ⌜ Small limits ⌝ }
     ensures counted { λ r. ⌜ r ≡ reader-texts limits (limits .bytes) ⌝ }
 {
-    (limits.bytes + 5 * limits.values + 6) / 8
+    (limits.bytes + 5 * most_reader_forms(limits) + 6) / 8
 }
 
 // Whether one of two slices is shorter than published.
@@ -108,7 +137,7 @@ pub fn document_short(limits: Limits, nodes: usize, pool: usize) -> bool
     requires { ⌜ Small limits ⌝ }
     ensures told { λ r. ⌜ r ≡ slices-short (plain-slices limits) (nodes ∷ pool ∷ []) ⌝ }
 {
-    two_short(value_words(limits), nodes, text_words(limits), pool)
+    two_short(3 * most_values(limits), nodes, text_words(limits), pool)
 }
 
 // Whether a slice for a shape and a document is short.
@@ -120,7 +149,7 @@ pub fn shape_document_short(limits: Limits, shapes: usize, nodes: usize, pool: u
     three_short(
         2 * limits.values,
         shapes,
-        value_words(limits),
+        3 * most_values(limits),
         nodes,
         texts,
         pool,
@@ -133,8 +162,14 @@ pub fn two_shapes_short(limits: Limits, shapes: usize, others: usize, pool: usiz
     ensures told { λ r. ⌜ r ≡ slices-short (join-slices limits) (shapes ∷ others ∷ pool ∷ []) ⌝ }
 {
     let names = name_words(limits, limits.bytes);
-    let rows = 2 * limits.values;
-    three_short(rows, shapes, rows, others, names + names, pool)
+    three_short(
+        2 * limits.values,
+        shapes,
+        shape_words(limits),
+        others,
+        names + names,
+        pool,
+    )
 }
 
 // Whether a slice for a reader and a shape is short.
@@ -149,14 +184,13 @@ pub fn reader_shape_short(
     requires { ⌜ Small limits ⌝ }
     ensures told { λ r. ⌜ r ≡ slices-short (check-slices limits) (forms ∷ shapes ∷ results ∷ bindings ∷ pool ∷ []) ⌝ }
 {
-    let rows = 2 * limits.values;
     let texts = reader_texts(limits) + name_words(limits, limits.bytes);
     five_short(
-        3 * limits.values,
+        3 * most_reader_forms(limits),
         forms,
-        rows,
+        shape_words(limits),
         shapes,
-        rows,
+        2 * limits.values,
         results,
         limits.nesting,
         bindings,
@@ -177,16 +211,15 @@ pub fn reader_document_short(
     requires { ⌜ Small limits ⌝ }
     ensures told { λ r. ⌜ r ≡ slices-short (run-slices limits) (forms ∷ nodes ∷ results ∷ bindings ∷ pool ∷ []) ⌝ }
 {
-    let rows = 3 * limits.values;
     let texts = reader_texts(limits) + text_words(limits);
     five_short(
-        rows,
+        3 * most_reader_forms(limits),
         forms,
-        value_words(limits),
+        3 * most_values(limits),
         nodes,
-        rows,
+        3 * limits.values,
         results,
-        limits.nesting + 1,
+        limits.nesting,
         bindings,
         texts,
         pool,

@@ -1,146 +1,32 @@
--- Eight bytes of a text at a time: the word that they make, that word put, and how reading goes over them. Assumes nothing.
-use Prim.Native.Nat.{ℕ, zero, suc, _+_, _-_, _*_, _/_, _%_, _≤_, _<_}
-use mathlib.Core.Path.{_≡_, refl, sym, ap, ap₂, _∙_, subst}
-use mathlib.Core.Bool.{Bool, true, _&&_}
-use mathlib.Core.List.{List, [], _∷_, _++_, append-nil, reverseAux}
+-- Plain ASCII bytes put eight at a time, from a border on or behind any text, and how reading goes over them. Assumes nothing.
+use Prim.Native.Nat.{ℕ, zero, suc, _+_, _-_, _/_, _%_, _≤_, _<_}
+use mathlib.Core.Path.{_≡_, sym, ap, _∙_, subst}
+use mathlib.Core.Bool.{true}
+use mathlib.Core.List.{List, _∷_, _++_, reverseAux}
+use native.Mathlib.Nat.{add-assoc}
 use native.Mathlib.Decide.{decLt}
 use native.Mathlib.Omega.{arith}
-use lib.ListN.{length, take, drop, getD, set, replicate, length-set, length-drop}
-use lib.Seq.{drop-cons, take-suc-set, drop-set-add, take-set-le, length-take-le}
+use lib.ListN.{length, take, drop, getD, set, replicate, length-drop}
+use lib.Seq.{take-add, drop-drop, length-take-le}
 use Rattle.definitions.specs.Bytes.{Bytes}
 use Rattle.definitions.specs.Text.{Inside}
 use Rattle.definitions.specs.Plain.{escaped-all}
-use Rattle.pool.specs.Pool.{unpacked, pool-bytes, words, text-in}
-use Rattle.pool.specs.PoolLaws.{pool-bytes-append, take-pool-bytes, drop-pool-bytes}
+use Rattle.pool.specs.Pool.{unpacked, words}
+use Rattle.pool.specs.LaneLaws.{part}
+use Rattle.pool.specs.PoolLaws.{words-mono}
 use Rattle.text.specs.TextRun.{text-run}
-use Rattle.text.specs.TextRead.{Padded}
-use Rattle.text.specs.TextParts.{plain-ascii, Stand, Word-ahead, Puts, Piece-read}
+use Rattle.text.specs.TextRead.{Reads-text}
+use Rattle.text.specs.TextParts.{plain-ascii, Stand, Keeps, Puts, Read-on, Piece-read, Stood, Reading}
+use Rattle.text.specs.declared.TextRead.{TextRead}
 use Rattle.text.proofs.Tables.{plain-ascii-itself}
 use Rattle.text.proofs.Escaped.{escaped-none, one-plain, itself-cons}
-use Rattle.text.proofs.Reading.{itself-run, piece-wide}
-use Rattle.laws.specs.Bools.{and-two}
+use Rattle.text.proofs.Places.{part-none}
+use Rattle.text.proofs.Puts.{keeps-none, puts-none, puts-then, puts-same}
+use Rattle.text.proofs.Reading.{itself-run, read-on, reading-start, reading-next}
+use Rattle.text.proofs.Odd.{Word-stands, word-stand}
+use Rattle.text.proofs.PutWords.{puts-word, front-size, front-whole, front-part}
 
--- ---- the word
-
--- the bytes from place i on, one by one
-pub part : (doc : Bytes) (i k : ℕ) → i < length doc → take (suc k) (drop i doc) ≡ getD doc i 0 ∷ take k (drop (i + 1) doc)
-part doc i k h =
-    ap (take (suc k)) (drop-cons doc i 0 h) ∙ ap (λ (j : ℕ). getD doc i 0 ∷ take k (drop j doc)) (let e : suc i ≡ i + 1 = omega arith in e)
-
-part-on
-    : (doc : Bytes) (i j k : ℕ) → i + j < length doc
-    → take (suc k) (drop (i + j) doc) ≡ getD doc (i + j) 0 ∷ take k (drop (i + (j + 1)) doc)
-part-on doc i j k h =
-    part doc (i + j) k h ∙ ap (λ (x : ℕ). getD doc (i + j) 0 ∷ take k (drop x doc)) (let e : i + j + 1 ≡ i + (j + 1) = omega arith in e)
-
-pub eight-bytes
-    : (doc : Bytes) (i : ℕ) → i + 8 ≤ length doc
-    → take 8 (drop i doc)
-    ≡ getD doc i 0
-    ∷ getD doc (i + 1) 0
-    ∷ getD doc (i + 2) 0
-    ∷ getD doc (i + 3) 0
-    ∷ getD doc (i + 4) 0
-    ∷ getD doc (i + 5) 0
-    ∷ getD doc (i + 6) 0
-    ∷ getD doc (i + 7) 0
-    ∷ []
-eight-bytes doc i h =
-    part doc i 7 (omega arith)
-    ∙ ap (λ (s : Bytes). getD doc i 0 ∷ s)
-    (part-on doc i 1 6 (omega arith)
-    ∙ ap (λ (s : Bytes). getD doc (i + 1) 0 ∷ s)
-    (part-on doc i 2 5 (omega arith)
-    ∙ ap (λ (s : Bytes). getD doc (i + 2) 0 ∷ s)
-    (part-on doc i 3 4 (omega arith)
-    ∙ ap (λ (s : Bytes). getD doc (i + 3) 0 ∷ s)
-    (part-on doc i 4 3 (omega arith)
-    ∙ ap (λ (s : Bytes). getD doc (i + 4) 0 ∷ s)
-    (part-on doc i 5 2 (omega arith)
-    ∙ ap (λ (s : Bytes). getD doc (i + 5) 0 ∷ s)
-    (part-on doc i 6 1 (omega arith)
-    ∙ ap (λ (s : Bytes). getD doc (i + 6) 0 ∷ s)
-    (part-on doc i 7 0 (omega arith))))))))
-
-pub unpacked-sum
-    : (a b c d e f g h : ℕ) → a < 256 → b < 256 → c < 256 → d < 256 → e < 256 → f < 256 → g < 256 → h < 256
-    → unpacked (a * 0x100000000000000 + b * 0x1000000000000 + c * 0x10000000000 + d * 0x100000000 + e * 0x1000000 + f * 0x10000 + g * 0x100 + h)
-    ≡ a ∷ b ∷ c ∷ d ∷ e ∷ f ∷ g ∷ h ∷ []
-unfolding unpacked
-unpacked-sum a b c d e f g h ha hb hc hd he hf hg hh =
-    ap₂ _∷_ (omega arith)
-    (ap₂ _∷_ (omega arith)
-    (ap₂ _∷_ (omega arith)
-    (ap₂ _∷_ (omega arith)
-    (ap₂ _∷_ (omega arith) (ap₂ _∷_ (omega arith) (ap₂ _∷_ (omega arith) (ap₂ _∷_ (omega arith) refl)))))))
-
--- ---- the word put
-
-pub room-word : (w n : ℕ) {l : ℕ} → w + words (n + 8) ≤ l → w + n / 8 < l
-unfolding words
-room-word w n h = omega arith
-
-pub length-eight : (doc : Bytes) (i : ℕ) → i + 8 ≤ length doc → length (take 8 (drop i doc)) ≡ 8
-length-eight doc i h = length-take-le 8 (drop i doc) (omega (arith, length-drop i doc))
-
-text-words : (p : List ℕ) (w m : ℕ) → text-in p w (8 * m) ≡ pool-bytes (take m (drop w p))
-unfolding text-in
-text-words p w m = ap (take (8 * m)) (drop-pool-bytes w p) ∙ take-pool-bytes m (drop w p)
-
-pub puts-word
-    : (p : List ℕ) (w n x : ℕ) (s : Bytes) → n % 8 ≡ 0 → w + words (n + 8) ≤ length p → unpacked x ≡ s → length s ≡ 8
-    → Puts p (set p (w + n / 8) x) w n s
-unfolding Padded words pool-bytes
-puts-word p w n x s z room e l =
-    record {
-      text = ap (text-in q w) (let f : n + length s ≡ 8 * suc m = omega arith in f)
-          ∙ text-words q w (suc m)
-          ∙ ap (λ (y : List ℕ). pool-bytes (take (suc m) y)) (drop-set-add w p m x)
-          ∙ ap pool-bytes (take-suc-set (drop w p) m x (omega (arith, length-drop w p)))
-          ∙ pool-bytes-append (take m (drop w p)) (x ∷ [])
-          ∙ ap (λ (y : Bytes). pool-bytes (take m (drop w p)) ++ y) (append-nil (unpacked x) ∙ e)
-          ∙ ap (λ (y : Bytes). y ++ s) (sym (text-words p w m) ∙ ap (text-in p w) (let f : 8 * m ≡ n = omega arith in f));
-      padded = λ _.
-          ap (text-in q w) whole
-          ∙ sym (append-nil (text-in q w (n + length s)))
-          ∙ ap (λ (k : ℕ). text-in q w (n + length s) ++ replicate k 0) (let f : 0 ≡ 8 * ((n + length s + 7) / 8) - (n + length s) = omega arith in f);
-      keeps = record { kept = length-set p (w + m) x; front = take-set-le w p (w + m) x (omega arith) };
-    }
-  where
-    m : ℕ
-    m = n / 8
-
-    q : List ℕ
-    q = set p (w + m) x
-
-    whole : 8 * ((n + length s + 7) / 8) ≡ n + length s
-    whole = omega arith
-
--- ---- that they stand for themselves
-
-pub stand-four
-    : (doc : Bytes) (i : ℕ) (a b c d : Bool) → a ≡ plain-ascii (getD doc i 0) → b ≡ plain-ascii (getD doc (i + 1) 0)
-    → c ≡ plain-ascii (getD doc (i + 2) 0)
-    → d ≡ plain-ascii (getD doc (i + 3) 0)
-    → ((a && b) && c) && d ≡ true
-    → Stand doc i 4
-stand-four doc i a b c d x y z w e zero h =
-    subst (λ (k : ℕ). plain-ascii (getD doc k 0) ≡ true) (let f : i ≡ i + 0 = omega arith in f)
-    (sym x ∙ and-two a b (and-two (a && b) c (and-two ((a && b) && c) d e .0) .0) .0)
-stand-four doc i a b c d x y z w e (suc zero) h = sym y ∙ and-two a b (and-two (a && b) c (and-two ((a && b) && c) d e .0) .0) .1
-stand-four doc i a b c d x y z w e (suc (suc zero)) h = sym z ∙ and-two (a && b) c (and-two ((a && b) && c) d e .0) .1
-stand-four doc i a b c d x y z w e (suc (suc (suc zero))) h = sym w ∙ and-two ((a && b) && c) d e .1
-stand-four doc i a b c d x y z w e (suc (suc (suc (suc j)))) h = absurd (let f : ⊥ = omega arith in f)
-
-pub stand-eight : (doc : Bytes) (i : ℕ) → Stand doc i 4 → Stand doc (i + 4) 4 → Stand doc i 8
-stand-eight doc i f g j h = split (decLt j 4)
-  where
-    split : Dec (j < 4) → plain-ascii (getD doc (i + j) 0) ≡ true
-    split (yes k) = f j k
-    split (no k) =
-        subst (λ (x : ℕ). plain-ascii (getD doc x 0) ≡ true) (let e : i + 4 + (j - 4) ≡ i + j = omega arith in e) (g (j - 4) (omega arith))
-
--- ---- reading over them
+-- ---- a run of plain bytes
 
 module _ (doc : Bytes) where
   stand-later : (i k : ℕ) → Stand doc i (suc k) → Stand doc (i + 1) k
@@ -168,19 +54,135 @@ module _ (doc : Bytes) where
       (let s = plain-ascii-itself (getD doc i 0) (stand-first i k t) in one-plain (getD doc i 0) (s .from) (s .no-quote) (s .no-backslash))
       ∙ omega arith
 
-  pub piece-eight
-      : (i : ℕ) (p p′ : List ℕ) (w n : ℕ) → Word-ahead doc i n → Puts p p′ w n (take 8 (drop i doc))
-      → Piece-read doc i p p′ w n (i + 8) (n + 8) 8
-  piece-eight i p p′ w n h k =
-      let e : i + 8 - i ≡ 8 = omega arith in
-      subst (λ (x : ℕ). Piece-read doc i p p′ w n (i + 8) (n + x) x) e
-      (piece-wide doc i p p′ w n (i + 8)
-      (record {
-        run = λ acc.
-            stand-run 8 i (h .stand) (h .within) acc
-            ∙ ap (λ (x : ℕ). text-run Inside.chars (reverseAux (take x (drop i doc)) acc) (drop (i + 8) doc)) (sym e);
-        itself = subst (λ (x : ℕ). length (escaped-all (take x (drop i doc))) ≡ x) (sym e) (stand-cost 8 i (h .stand) (h .within));
+  pub stood-start : (i : ℕ) (p : List ℕ) (w n : ℕ) → i ≤ length doc → Stood doc i p p w n i
+  stood-start i p w n h =
+      record {
+        stand = λ j l. absurd (let z : ⊥ = omega arith in z);
+        puts = puts-same (puts-none p w n) (part-none doc i);
         ahead = omega arith;
-        within = h .within;
-      })
-      (subst (λ (x : ℕ). Puts p p′ w n (take x (drop i doc))) (sym e) k))
+        within = h;
+      }
+
+  pub stood-next
+      : {i : ℕ} {p₀ p p′ : List ℕ} {w n j : ℕ} (m : ℕ) → Stood doc i p₀ p w n j → Stand doc j m → j + m ≤ length doc
+      → Puts p p′ w (n + (j - i)) (take m (drop j doc))
+      → Stood doc i p₀ p′ w n (j + m)
+  stood-next {i} {p₀} {p} {p′} {w} {n} {j} m h t b k =
+      record {
+        stand = λ l q. stands l q (decLt l (j - i));
+        puts = puts-same (puts-then (h .puts) (ap (λ (x : ℕ). n + x) (sym size)) k) joined;
+        ahead = omega (arith, h .ahead);
+        within = b;
+      }
+    where
+      size : length (take (j - i) (drop i doc)) ≡ j - i
+      size = length-take-le (j - i) (drop i doc) (omega (arith, length-drop i doc, h .ahead, h .within))
+
+      stands : (l : ℕ) → l < j + m - i → Dec (l < j - i) → plain-ascii (getD doc (i + l) 0) ≡ true
+      stands l q (yes a) = h .stand l a
+      stands l q (no a) =
+          subst (λ (x : ℕ). plain-ascii (getD doc x 0) ≡ true) (let e : j + (l - (j - i)) ≡ i + l = omega (arith, h .ahead) in e)
+          (t (l - (j - i)) (omega (arith, h .ahead)))
+
+      joined : take (j - i) (drop i doc) ++ take m (drop j doc) ≡ take (j + m - i) (drop i doc)
+      joined =
+          ap (λ (x : ℕ). take (j - i) (drop i doc) ++ take m (drop x doc)) (let e : j ≡ i + (j - i) = omega (arith, h .ahead) in e)
+          ∙ ap (λ (s : Bytes). take (j - i) (drop i doc) ++ take m s) (sym (drop-drop (j - i) i doc))
+          ∙ sym (take-add (j - i) m (drop i doc))
+          ∙ ap (λ (x : ℕ). take x (drop i doc)) (let e : j - i + m ≡ j + m - i = omega (arith, h .ahead) in e)
+
+  pub stood-read
+      : {i : ℕ} {p p′ : List ℕ} {w n next : ℕ} → Stood doc i p p′ w n next → Read-on doc i p p′ w n next (n + (next - i)) (next - i)
+  stood-read {i} {p} {p′} {w} {n} {next} h =
+      read-on doc i p p′ w n next (n + (next - i)) (next - i) (take (next - i) (drop i doc)) (h .puts)
+      (λ acc.
+      stand-run (next - i) i (h .stand) (omega (arith, h .ahead, h .within)) acc
+      ∙ ap (λ (x : ℕ). text-run Inside.chars (reverseAux (take (next - i) (drop i doc)) acc) (drop x doc))
+      (let e : i + (next - i) ≡ next = omega (arith, h .ahead) in e))
+      (ap (λ (x : ℕ). n + x) (sym size)) (stand-cost (next - i) i (h .stand) (omega (arith, h .ahead, h .within)))
+      (h .within) (omega (arith, size, h .ahead)) (omega (arith, h .ahead))
+    where
+      size : length (take (next - i) (drop i doc)) ≡ next - i
+      size = length-take-le (next - i) (drop i doc) (omega (arith, length-drop i doc, h .ahead, h .within))
+
+  -- room for eight bytes more
+  pub stood-room
+      : {i : ℕ} {p₀ p : List ℕ} {w n j : ℕ} → Stood doc i p₀ p w n j → w + words (n + (length doc - i)) ≤ length p₀ → j + 8 ≤ length doc
+      → w + words (n + (j - i) + 8) ≤ length p
+  stood-room {i} {p₀} {p} {w} {n} {j} h room b =
+      let o : words (n + (j - i) + 8) ≤ words (n + (length doc - i)) = words-mono (omega (arith, h .ahead)) in
+      omega (arith, h .puts .keeps .kept)
+
+-- ---- a run from a border on
+
+-- up to place i, where word k is next
+pub record By-words (doc : Bytes) (at : ℕ) (p₀ : List ℕ) (w : ℕ) (p : List ℕ) (i k : ℕ) : Type 0 where
+  pub stood : Stood doc at p₀ p w 0 i
+  pub border : (i - at) % 8 ≡ 0
+  pub word : k ≡ w + (i - at) / 8
+
+module _ (doc : Bytes) (at : ℕ) (p₀ : List ℕ) (w : ℕ) where
+  pub by-words-start : at ≤ length doc → By-words doc at p₀ w p₀ at w
+  by-words-start h = record { stood = stood-start doc at p₀ w 0 h; border = omega arith; word = omega arith }
+
+  module _ (p : List ℕ) (i k : ℕ) (h : By-words doc at p₀ w p i k) (room : w + words (length doc - at) ≤ length p₀) (b : i + 8 ≤ length doc) where
+    pub by-words-room : k < length p
+    unfolding words
+    by-words-room = omega (arith, h .word, h .stood .puts .keeps .kept, h .stood .ahead, h .border)
+
+    -- the first m bytes of the next word put
+    pub by-words-last
+        : (x y m : ℕ) → unpacked x ≡ take 8 (drop i doc) → Word-stands x m → unpacked y ≡ take m (unpacked x) ++ replicate (8 - m) 0
+        → Stood doc at p₀ (set p k y) w 0 (i + m)
+    by-words-last x y m e s f =
+        let hm = s .within in
+        stood-next doc m (h .stood) (word-stand doc i e s) (omega arith)
+        (subst (λ (j : ℕ). Puts p (set p k y) w j (take m (drop i doc))) (let q : i - at ≡ 0 + (i - at) = omega arith in q)
+        (subst (λ (j : ℕ). Puts p (set p j y) w (i - at) (take m (drop i doc))) (sym (h .word))
+        (puts-word p w (i - at) y m (take m (drop i doc)) (h .border) (omega (arith, by-words-room, h .word)) hm
+        (ap length (sym (front-part x m doc i hm e)) ∙ front-size x m hm)
+        (f ∙ ap (λ (t : Bytes). t ++ replicate (8 - m) 0) (front-part x m doc i hm e)))))
+
+    pub by-words-next
+        : (x : ℕ) → unpacked x ≡ take 8 (drop i doc) → Word-stands x 8 → By-words doc at p₀ w (set p k x) (i + 8) (k + 1)
+    by-words-next x e s =
+        record {
+          stood = by-words-last x x 8 e s (front-whole x);
+          border = omega (arith, h .border, h .stood .ahead);
+          word = omega (arith, h .word, h .border, h .stood .ahead);
+        }
+
+-- ---- what is read with them
+
+-- a text up to the first byte that is not plain ASCII
+pub reading-standing
+    : {doc : Bytes} {at : ℕ} {p p′ : List ℕ} {w i : ℕ} → Stood doc at p p′ w 0 i → Reading doc at p w i (i - at) (i - at + 2) p′
+reading-standing {doc} {at} {p} {p′} {w} {i} h =
+    subst (λ (n : ℕ). Reading doc at p w i n (i - at + 2) p′) (let e : 0 + (i - at) ≡ i - at = omega arith in e)
+    (subst (λ (m : ℕ). Reading doc at p w i (0 + (i - at)) m p′) (let e : 2 + (i - at) ≡ i - at + 2 = omega arith in e)
+    (reading-next (reading-start doc at p w (omega (arith, h .ahead, h .within))) (stood-read doc h)))
+
+-- a piece, and the plain bytes behind it
+pub reading-run
+    : {doc : Bytes} {at : ℕ} {p₀ p p′ p″ : List ℕ} {w i n m next k cost j : ℕ} → Reading doc at p₀ w i n m p
+    → Piece-read doc i p p′ w n next k cost → Stood doc next p′ p″ w k j
+    → Reading doc at p₀ w j (k + (j - next)) (m + (cost + (j - next))) p″
+reading-run {doc} {at} {p₀} {p} {p′} {p″} {w} {i} {n} {m} {next} {k} {cost} {j} h r s =
+    subst (λ (x : ℕ). Reading doc at p₀ w j (k + (j - next)) x p″) (add-assoc m cost (j - next)) (reading-next (reading-next h (r .read)) (stood-read doc s))
+
+-- from where it is read so far
+pub reading-here : {doc : Bytes} {at : ℕ} {p₀ p : List ℕ} {w i n m : ℕ} → Reading doc at p₀ w i n m p → Reading doc at p w i n m p
+reading-here {p = p} {w = w} h =
+    record {
+      run = h .run;
+      written = h .written;
+      shorter = h .shorter;
+      bounded = h .bounded;
+      within = h .within;
+      padded = h .padded;
+      keeps = keeps-none p w;
+    }
+
+pub reads-behind
+    : {doc : Bytes} {at : ℕ} {p p′ p″ : List ℕ} {w : ℕ} {r : TextRead} → Keeps p p′ w → Reads-text doc at p′ p″ w r → Reads-text doc at p p″ w r
+reads-behind k h = record { answer = h .answer; kept = h .kept ∙ k .kept; front = h .front ∙ k .front }

@@ -6,6 +6,11 @@ pub mod Escaped
 pub mod Characters
 pub mod Puts
 pub mod Reading
+pub mod Odd
+pub mod PutWords
 pub mod EightBytes
 pub mod Writing
 pub mod Words
+pub mod Onward
+pub mod Stores
+pub mod BareWords

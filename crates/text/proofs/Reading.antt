@@ -14,10 +14,10 @@ use Rattle.definitions.specs.Text.{Inside, more, char-step, escape-step, escape
 use Rattle.definitions.specs.Plain.{escaped, escaped-all}
 use Rattle.laws.specs.Ranges.{in-between, ne-is}
 use Rattle.pool.specs.Pool.{words, text-in, Put}
-use Rattle.pool.specs.PoolLaws.{words-mono, words-room, words-bytes, text-in-zero, length-text-in}
+use Rattle.pool.specs.PoolLaws.{words-mono, words-room, text-in-zero, length-text-in}
 use Rattle.text.specs.TextRun.{ended, text-run}
 use Rattle.text.specs.TextRead.{Padded, Reads-text}
-use Rattle.text.specs.TextParts.{plain-ascii, escape-value, Breaks, Code-read, Wide-read, Keeps, Puts, Piece-read, Piece-broken}
+use Rattle.text.specs.TextParts.{plain-ascii, escape-value, Breaks, Code-read, Wide-read, Puts, Read-on, Piece-read, Piece-broken, Reading}
 use Rattle.text.specs.declared.TextRead.the-variants.{Closed, Broken}
 use Rattle.text.proofs.Tables.{Escape, no-escape, by-number, by-letter, escape-of, Itself, plain-ascii-itself}
 use Rattle.text.proofs.Places.{getD-within, byte-within, more-at, wrong-at, closed-at, end-at}
@@ -27,15 +27,15 @@ use Rattle.text.proofs.Puts.{keeps-none, keeps-then, puts-one}
 
 -- ---- a piece
 
--- a piece that decodes to u, put behind the text
-pub piece-read
+-- bytes that decode to u, put behind the text
+pub read-on
     : (doc : Bytes) (i : ℕ) (p p′ : List ℕ) (w n next m cost : ℕ) (u : Bytes) → Puts p p′ w n u
     → ((acc : Bytes) → text-run Inside.chars acc (drop i doc) ≡ text-run Inside.chars (reverseAux u acc) (drop next doc))
     → m ≡ n + length u
     → length (escaped-all u) ≡ cost
-    → i < next → next ≤ length doc → i + length u ≤ next → i + cost ≤ next
-    → Piece-read doc i p p′ w n next m cost
-piece-read doc i p p′ w n next m cost u h run e k a b s c =
+    → next ≤ length doc → i + length u ≤ next → i + cost ≤ next
+    → Read-on doc i p p′ w n next m cost
+read-on doc i p p′ w n next m cost u h run e k b s c =
     record {
       run = run (reverse (text-in p w n))
           ∙ ap (λ (x : Bytes). text-run Inside.chars x (drop next doc)) (sym (reverseAux-append (text-in p w n) u []) ∙ ap reverse (sym text));
@@ -43,7 +43,6 @@ piece-read doc i p p′ w n next m cost u h run e k a b s c =
           ∙ ap length (escaped-append (text-in p w n) u)
           ∙ length-append (escaped-all (text-in p w n)) (escaped-all u)
           ∙ ap (λ (x : ℕ). length (escaped-all (text-in p w n)) + x) k;
-      ahead = a;
       within = b;
       shorter = omega arith;
       bounded = c;
@@ -53,6 +52,16 @@ piece-read doc i p p′ w n next m cost u h run e k a b s c =
   where
     text : text-in p′ w m ≡ text-in p w n ++ u
     text = ap (text-in p′ w) e ∙ h .text
+
+-- a piece that decodes to u
+pub piece-read
+    : (doc : Bytes) (i : ℕ) (p p′ : List ℕ) (w n next m cost : ℕ) (u : Bytes) → Puts p p′ w n u
+    → ((acc : Bytes) → text-run Inside.chars acc (drop i doc) ≡ text-run Inside.chars (reverseAux u acc) (drop next doc))
+    → m ≡ n + length u
+    → length (escaped-all u) ≡ cost
+    → i < next → next ≤ length doc → i + length u ≤ next → i + cost ≤ next
+    → Piece-read doc i p p′ w n next m cost
+piece-read doc i p p′ w n next m cost u h run e k a b s c = record { read = read-on doc i p p′ w n next m cost u h run e k b s c; ahead = a }
 
 -- a byte put behind the text
 pub piece-byte
@@ -210,16 +219,6 @@ piece-itself doc i p p′ w n b l e t h r =
 
 -- ---- the loop
 
--- up to place i: n bytes are in the pool, which make m bytes of plain JSON with the quotes
-pub record Reading (doc : Bytes) (at : ℕ) (p₀ : List ℕ) (w i n m : ℕ) (p : List ℕ) : Type 0 where
-  pub run : text-run Inside.chars [] (drop at doc) ≡ text-run Inside.chars (reverse (text-in p w n)) (drop i doc)
-  pub written : m ≡ 2 + length (escaped-all (text-in p w n))
-  pub shorter : at + n ≤ i
-  pub bounded : at + m ≤ i + 2
-  pub within : i ≤ length doc
-  pub padded : Padded p w n
-  pub keeps : Keeps p₀ p w
-
 pub reading-start : (doc : Bytes) (at : ℕ) (p : List ℕ) (w : ℕ) → at ≤ length doc → Reading doc at p w at 0 2 p
 unfolding Padded words
 reading-start doc at p w h =
@@ -235,7 +234,7 @@ reading-start doc at p w h =
 
 pub reading-next
     : {doc : Bytes} {at : ℕ} {p₀ p p′ : List ℕ} {w i n m next k cost : ℕ} → Reading doc at p₀ w i n m p
-    → Piece-read doc i p p′ w n next k cost
+    → Read-on doc i p p′ w n next k cost
     → Reading doc at p₀ w next k (m + cost) p′
 reading-next h r =
     record {
@@ -265,25 +264,6 @@ module _ {doc : Bytes} {at : ℕ} {p₀ p : List ℕ} {w i n m : ℕ} (h : Readi
       let l = h .within in
       let o : words n ≤ words (length doc - at) = words-mono (omega arith) in
       omega arith
-
-  -- room for eight bytes that are there
-  pub room-eight : i + 8 ≤ length doc → w + words (n + 8) ≤ length p
-  room-eight l =
-      let k = h .keeps .kept in
-      let s = h .shorter in
-      let o : words (n + 8) ≤ words (length doc - at) = words-mono (omega arith) in
-      omega arith
-
-  -- room for a byte
-  pub room-byte : i < length doc → (8 * w + n) / 8 < length p
-  room-byte l =
-      let k = h .keeps .kept in
-      let s = h .shorter in
-      let o : words (n + 1) ≤ words (length doc - at) = words-mono (omega arith) in
-      words-room w n (length p) (omega arith)
-
-  pub room-place : 8 * w + n ≤ 8 * length p
-  room-place = words-bytes w n (length p) room-so-far
 
   pub reading-closed : i < length doc → getD doc i 0 ≡ 0x22 → Reads-text doc at p₀ p w (Closed (i + 1) n m)
   unfolding text-step char-step is

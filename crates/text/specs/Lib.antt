@@ -4,3 +4,4 @@ pub mod TextRead
 pub mod TextParts
 pub mod Writes
 pub mod WritesLaws
+pub mod Bare

@@ -32,12 +32,6 @@ plain-ascii b = between 0x20 0x7F b && not (eqb b 0x22) && not (eqb b 0x5C)
 abbrev pub Stand : Bytes → (i k : ℕ) → Type 0
 Stand doc i k = (j : ℕ) → j < k → plain-ascii (getD doc (i + j) 0) ≡ true
 
--- behind n bytes, which fill whole words, the next eight stand for themselves
-pub record Word-ahead (doc : Bytes) (i n : ℕ) : Type 0 where
-  pub border : n % 8 ≡ 0
-  pub within : i + 8 ≤ length doc
-  pub stand : Stand doc i 8
-
 -- the value of a hexadecimal digit; of anything else, 16
 unfoldable pub hex-value : ℕ → ℕ
 hex-value b = elim (look hex-table b) [ none ↦ 16 | some k ↦ b - k ]
@@ -134,17 +128,21 @@ pub record Puts (p p′ : List ℕ) (w n : ℕ) (s : Bytes) : Type 0 where
   pub keeps : Keeps p p′ w
 
 -- what stands from place i up to place next, behind the text of n bytes: now it has m, and is longer by cost in plain JSON
-pub record Piece-read (doc : Bytes) (i : ℕ) (p p′ : List ℕ) (w n next m cost : ℕ) : Type 0 where
+pub record Read-on (doc : Bytes) (i : ℕ) (p p′ : List ℕ) (w n next m cost : ℕ) : Type 0 where
   pub run
       : text-run Inside.chars (reverse (text-in p w n)) (drop i doc)
       ≡ text-run Inside.chars (reverse (text-in p′ w m)) (drop next doc)
   pub costs : length (escaped-all (text-in p′ w m)) ≡ length (escaped-all (text-in p w n)) + cost
-  pub ahead : i < next
   pub within : next ≤ length doc
   pub shorter : i + m ≤ next + n
   pub bounded : i + cost ≤ next
   pub padded : Padded p w n → Padded p′ w m
   pub keeps : Keeps p p′ w
+
+-- a piece of it
+pub record Piece-read (doc : Bytes) (i : ℕ) (p p′ : List ℕ) (w n next m cost : ℕ) : Type 0 where
+  pub read : Read-on doc i p p′ w n next m cost
+  pub ahead : i < next
 
 pub record Piece-broken (doc : Bytes) (i : ℕ) (p p′ : List ℕ) (w place : ℕ) : Type 0 where
   pub breaks : Breaks doc Inside.chars i place
@@ -153,6 +151,23 @@ pub record Piece-broken (doc : Bytes) (i : ℕ) (p p′ : List ℕ) (w place : �
 abbrev pub Reads-piece : Bytes → ℕ → List ℕ → List ℕ → ℕ → ℕ → Piece → Type 0
 Reads-piece doc i p p′ w n (Went next m cost) = Piece-read doc i p p′ w n next m cost
 Reads-piece doc i p p′ w n (Stopped place) = Piece-broken doc i p p′ w place
+
+-- the bytes from place i up to place next stand for themselves, and are put behind the text of n bytes
+pub record Stood (doc : Bytes) (i : ℕ) (p p′ : List ℕ) (w n next : ℕ) : Type 0 where
+  pub stand : Stand doc i (next - i)
+  pub puts : Puts p p′ w n (take (next - i) (drop i doc))
+  pub ahead : i ≤ next
+  pub within : next ≤ length doc
+
+-- up to place i the text behind place at is read: n bytes are in the pool, which make m bytes of plain JSON with the quotes
+pub record Reading (doc : Bytes) (at : ℕ) (p₀ : List ℕ) (w i n m : ℕ) (p : List ℕ) : Type 0 where
+  pub run : text-run Inside.chars [] (drop at doc) ≡ text-run Inside.chars (reverse (text-in p w n)) (drop i doc)
+  pub written : m ≡ 2 + length (escaped-all (text-in p w n))
+  pub shorter : at + n ≤ i
+  pub bounded : at + m ≤ i + 2
+  pub within : i ≤ length doc
+  pub padded : Padded p w n
+  pub keeps : Keeps p₀ p w
 
 -- room for what may come from place i on
 abbrev pub Room : Bytes → ℕ → List ℕ → (w n : ℕ) → Type 0

@@ -6,7 +6,7 @@ use native.Mathlib.Omega.{arith}
 use mathlib.Core.Path.{_≡_, refl, sym, ap, ap₂, _∙_, subst, subst₂}
 use mathlib.Core.List.{[], _∷_, _++_, append-assoc, append-nil}
 use lib.ListN.{length, take, drop, set, length-append, length-drop, take-append-drop}
-use lib.Seq.{length-take-le, take-at, drop-at, drop-drop, set-split, append-snoc}
+use lib.Seq.{length-take-le, take-at, drop-at, take-take, drop-drop, take-append-le, set-split, append-snoc}
 use Rattle.definitions.specs.Bytes.{Bytes}
 use Rattle.text.specs.Writes.{Writes}
 
@@ -54,6 +54,34 @@ writes-then {o} {o₁} {o₂} {at} {j} {r} {s} {t} h w x =
         ∙ drop-drop (length t) j o
         ∙ ap (λ (n : ℕ). drop n o) (sym (x .end))
 
+-- and then more before it
+pub writes-before
+    : {o o₁ o₂ : Bytes} {at j r : ℕ} {s t : Bytes} → j ≤ length o → Writes o o₁ j t r → Writes o₁ o₂ at s j
+    → Writes o o₂ at (s ++ t) r
+writes-before {o} {o₁} {o₂} {at} {j} {r} {s} {t} h w x =
+    record {
+      bytes = x .bytes
+          ∙ ap₂ (λ (a b : Bytes). a ++ s ++ b) before behind
+          ∙ sym (append-assoc (take at o ++ s) t (drop r o))
+          ∙ ap (λ (a : Bytes). a ++ drop r o) (append-assoc (take at o) s t);
+      end = omega (arith, w .end, x .end, length-append s t);
+    }
+  where
+    size : length (take j o) ≡ j
+    size = length-take-le j o h
+
+    parts : o₁ ≡ take j o ++ (t ++ drop r o)
+    parts = w .bytes ∙ append-assoc (take j o) t (drop r o)
+
+    before : take at o₁ ≡ take at o
+    before =
+        ap (take at) parts
+        ∙ take-append-le at (take j o) (t ++ drop r o) (omega (arith, x .end, size))
+        ∙ take-take at j o (omega (arith, x .end))
+
+    behind : drop j o₁ ≡ t ++ drop r o
+    behind = ap (drop j) parts ∙ drop-at (take j o) (t ++ drop r o) j size
+
 -- the same bytes under another name
 pub writes-as : {o o₁ : Bytes} {at r : ℕ} {s t : Bytes} → s ≡ t → Writes o o₁ at s r → Writes o o₁ at t r
 writes-as {o} {o₁} {at} {r} e w =
@@ -61,6 +89,10 @@ writes-as {o} {o₁} {at} {r} e w =
       bytes = w .bytes ∙ ap (λ (s : Bytes). take at o ++ s ++ drop r o) e;
       end = w .end ∙ ap (λ (s : Bytes). at + length s) e;
     }
+
+-- the same place under another name
+pub writes-from : {o o₁ : Bytes} {at j r : ℕ} {s : Bytes} → at ≡ j → Writes o o₁ at s r → Writes o o₁ j s r
+writes-from {o} {o₁} {r = r} {s} e w = subst (λ (k : ℕ). Writes o o₁ k s r) e w
 
 -- the same bytes and the same end under other names
 pub writes-same
@@ -83,3 +115,11 @@ writes-next {out} {out′} {at} {r} {s} k b h e l =
     subst (λ (x : ℕ). Writes out (set out′ x b) at (s ++ (b ∷ [])) (x + 1)) (sym e)
     (writes-then (omega (arith, h .end)) h
     (writes-byte out′ r b (omega (arith, writes-length out out′ at s r (omega arith) h))))
+
+-- a byte before it
+pub writes-first
+    : {out out′ : Bytes} {at r : ℕ} {s : Bytes} (k b : ℕ) → Writes out out′ at s r → k + 1 ≡ at → r ≤ length out
+    → Writes out (set out′ k b) k (b ∷ s) r
+writes-first {out} {out′} {at} {r} {s} k b h e l =
+    writes-before (omega (arith, h .end)) h
+    (writes-same (b ∷ []) at (writes-byte out′ k b (omega (arith, h .end, writes-length out out′ at s r l h))) refl e)

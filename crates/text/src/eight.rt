@@ -1,81 +1,86 @@
-// Eight bytes of a text at a time, where they stand for themselves and make one word of the pool.
+// Eight bytes of a text at a time, looked at as one word and put as one, up to the first that is no plain ASCII byte.
 ghost use mathlib.Core.Path.{_≡_};
-ghost use mathlib.Core.Bool.{true};
-ghost use mathlib.Core.List.{[], _∷_};
-ghost use Prim.Native.Nat.{_+_, _%_, _≤_};
-ghost use lib.ListN.{length, take, drop};
+ghost use mathlib.Core.List.{_++_};
+ghost use Prim.Native.Nat.{_+_, _-_, _/_, _≤_};
+ghost use lib.Count.{leadingZeros};
+ghost use lib.ListN.{length, take, replicate};
 ghost use Rattle.pool.specs.Pool.{unpacked, words};
-ghost use Rattle.text.specs.TextParts.{Puts, Stand, Word-ahead};
-use super::escape::is_plain_ascii;
+ghost use Rattle.pool.specs.Lanes.{Marks};
+ghost use Rattle.text.specs.TextParts.{plain-ascii, Puts, Stood};
 
-// Whether four bytes stand for themselves. No test waits for another, so that they are made at once.
-fn four_stand(doc: &[u8], i: usize) -> bool
-    requires { ⌜ i + 4 ≤ length (now doc) ⌝ }
-    ensures told { λ r. ⌜ (r ≡ true → Stand (now (doc .entry)) i 4) ⌝ }
+// The highest bit of each byte that is not plain ASCII. A byte is below 0x20 where 0x60 more leaves its highest bit clear, and a
+// quote or a backslash where 0x7F more does, once it is taken from it by `^`.
+fn odd(x: u64) -> u64
+    ensures marked { λ r. ⌜ Marks plain-ascii x r ⌝ }
 {
-    is_plain_ascii(doc[i])
-        & is_plain_ascii(doc[i + 1])
-        & is_plain_ascii(doc[i + 2])
-        & is_plain_ascii(doc[i + 3])
+    let v = x & 0x7F7F7F7F7F7F7F7F;
+    let above = v + 0x6060606060606060;
+    let quotes = (v ^ 0x2222222222222222) + 0x7F7F7F7F7F7F7F7F;
+    let backslashes = (v ^ 0x5C5C5C5C5C5C5C5C) + 0x7F7F7F7F7F7F7F7F;
+    (!(above & quotes & backslashes) | x) & 0x8080808080808080
 }
 
-// Whether eight do.
-fn eight_stand(doc: &[u8], i: usize) -> bool
-    requires { ⌜ i + 8 ≤ length (now doc) ⌝ }
-    ensures told { λ r. ⌜ (r ≡ true → Stand (now (doc .entry)) i 8) ⌝ }
+// The first byte of a word that has a mark.
+fn first(marks: u64) -> usize
+    ensures counted { λ r. ⌜ r ≡ leadingZeros 64 marks / 8 ⌝ }
 {
-    four_stand(doc, i) & four_stand(doc, i + 4)
+    u64::leading_zeros(marks) as usize / 8
 }
 
-// Whether the eight bytes at place i can be put as one word behind n bytes.
-pub fn word_ahead(doc: &[u8], i: usize, n: usize) -> bool
-    requires { ⌜ i ≤ length (now doc) ⌝ }
-    ensures told { λ r. ⌜ (r ≡ true → Word-ahead (now (doc .entry)) i n) ⌝ }
+// Puts the first m bytes of a word, behind which it has zeros, behind the n bytes at word w, where eight have room.
+fn put_part(pool: &mut [u64], w: usize, n: usize, x: u64, m: usize)
+    requires { ⌜ (m ≤ 8) × (w + words (n + 8) ≤ length (now pool)) × (unpacked x ≡ take m (unpacked x) ++ replicate (8 - m) 0) ⌝ }
+    ensures put { λ r. ⌜ Puts (now (pool .entry)) (now (pool .exit)) w n (take m (unpacked x)) ⌝ }
 {
-    if n % 8 != 0 {
-        return false;
+    let k = w + n / 8;
+    let r = n % 8;
+    if r == 0 {
+        pool[k] = x;
+        return;
     }
-    if doc.len() - i < 8 {
-        return false;
+    pool[k] = pool::front(pool[k], r) | (x >> (8 * r));
+    pool[k + 1] = x << (64 - 8 * r);
+}
+
+// Puts the plain ASCII bytes from place at on into the pool from word w on. Answers the place of the first that is none, or of the
+// document's last seven bytes.
+pub fn put_standing(doc: &[u8], at: usize, pool: &mut [u64], w: usize) -> usize
+    requires { ⌜ (at ≤ length (now doc)) × (w + words (length (now doc) - at) ≤ length (now pool)) ⌝ }
+    ensures put { λ r. ⌜ Stood (now (doc .entry)) at (now (pool .entry)) (now (pool .exit)) w 0 r ⌝ }
+{
+    let mut i = at;
+    let mut k = w;
+    while 8 <= doc.len() - i {
+        let x = pool::word_at(doc, i);
+        let marks = odd(x);
+        if marks != 0 {
+            let m = first(marks);
+            pool[k] = pool::front(x, m);
+            return i + m;
+        }
+        pool[k] = x;
+        i += 8;
+        k += 1;
     }
-    eight_stand(doc, i)
+    i
 }
 
-// Eight bytes as a word of the pool.
-fn packed(a: u8, b: u8, c: u8, d: u8, e: u8, f: u8, g: u8, h: u8) -> u64
-    ensures packed { λ r. ⌜ unpacked r ≡ a ∷ b ∷ c ∷ d ∷ e ∷ f ∷ g ∷ h ∷ [] ⌝ }
+// The same behind the n bytes at word w, which may end within a word.
+pub fn put_run(doc: &[u8], at: usize, pool: &mut [u64], w: usize, n: usize) -> usize
+    requires { ⌜ (at ≤ length (now doc)) × (w + words (n + (length (now doc) - at)) ≤ length (now pool)) ⌝ }
+    ensures put { λ r. ⌜ Stood (now (doc .entry)) at (now (pool .entry)) (now (pool .exit)) w n r ⌝ }
 {
-    (a as u64) * 0x100000000000000
-        + (b as u64) * 0x1000000000000
-        + (c as u64) * 0x10000000000
-        + (d as u64) * 0x100000000
-        + (e as u64) * 0x1000000
-        + (f as u64) * 0x10000
-        + (g as u64) * 0x100
-        + (h as u64)
-}
-
-// The eight bytes from place i on.
-fn word_at(doc: &[u8], i: usize) -> u64
-    requires { ⌜ i + 8 ≤ length (now doc) ⌝ }
-    ensures packed { λ r. ⌜ unpacked r ≡ take 8 (drop i (now (doc .entry))) ⌝ }
-{
-    packed(
-        doc[i],
-        doc[i + 1],
-        doc[i + 2],
-        doc[i + 3],
-        doc[i + 4],
-        doc[i + 5],
-        doc[i + 6],
-        doc[i + 7],
-    )
-}
-
-// Puts the eight bytes at place i behind the n bytes at word w, which fill whole words.
-pub fn put_word(doc: &[u8], i: usize, pool: &mut [u64], w: usize, n: usize)
-    requires { ⌜ (i + 8 ≤ length (now doc)) × (n % 8 ≡ 0) × (w + words (n + 8) ≤ length (now pool)) ⌝ }
-    ensures put { λ r. ⌜ Puts (now (pool .entry)) (now (pool .exit)) w n (take 8 (drop i (now (doc .entry)))) ⌝ }
-{
-    pool[w + n / 8] = word_at(doc, i);
+    let mut i = at;
+    while 8 <= doc.len() - i {
+        let x = pool::word_at(doc, i);
+        let marks = odd(x);
+        if marks != 0 {
+            let m = first(marks);
+            put_part(pool, w, n + (i - at), pool::front(x, m), m);
+            return i + m;
+        }
+        put_part(pool, w, n + (i - at), x, 8);
+        i += 8;
+    }
+    i
 }

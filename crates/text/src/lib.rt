@@ -1,17 +1,21 @@
 // JSON texts (RFC 8259 section 7): read from a document, decoded into the pool, and written from the pool as plain JSON.
 ghost use mathlib.Core.Path.{_≡_};
 ghost use Prim.Native.Nat.{_+_, _-_, _^_, _≤_, _<_};
-ghost use lib.ListN.{length, take};
-ghost use Rattle.definitions.specs.Plain.{escaped-all, plain-text};
-ghost use Rattle.pool.specs.Pool.{unpacked, words, text-in};
+ghost use lib.ListN.{length};
+ghost use Rattle.definitions.specs.Plain.{plain-text};
+ghost use Rattle.pool.specs.Pool.{words, text-in};
 ghost use Rattle.text.specs.TextRead.{Reads-text};
+ghost use Rattle.text.specs.TextParts.{Reading};
 ghost use Rattle.text.specs.Writes.{Writes};
 
 mod unicode; // escapes by hexadecimal digits
 mod wide; // characters of several bytes
-mod pieces; // what is no plain ASCII byte, put into the pool
+mod pieces; // what stands in a text, put into the pool piece by piece
 mod escape; // a byte as plain JSON has it
 mod eight; // eight bytes at a time
+mod store; // bytes of a word, stored
+mod bare; // words that are written as they are
+mod write; // what stands between the quotes, written and measured
 
 use pieces::Piece;
 
@@ -29,65 +33,53 @@ pub enum TextRead {
     },
 }
 
-// Reads a text from behind its opening quote; what it decodes to goes into the pool from word w on.
-pub fn read_text(doc: &[u8], at: usize, pool: &mut [u64], w: usize) -> TextRead
-    requires { ⌜ (at ≤ length (now doc)) × (w + words (length (now doc) - at) ≤ length (now pool)) ⌝ }
+// Reads on from a place up to which all bytes behind place at are plain ASCII, and in the pool from word w on.
+fn read_rest(doc: &[u8], at: usize, from: usize, pool: &mut [u64], w: usize) -> TextRead
+    requires { ⌜ Reading (now doc) at (now pool) w from (from - at) (from - at + 2) (now pool) × (w + words (length (now doc) - at) ≤ length (now pool)) ⌝ }
     ensures read { λ r. ⌜ Reads-text (now (doc .entry)) at (now (pool .entry)) (now (pool .exit)) w r ⌝ }
 {
-    let mut i = at;
-    let mut n: usize = 0;
-    let mut written: usize = 2;
+    let mut i = from;
+    let mut n = from - at;
+    let mut written = n + 2;
     while i < doc.len() {
-        if eight::word_ahead(doc, i, n) {
-            eight::put_word(doc, i, pool, w, n);
-            i += 8;
-            n += 8;
-            written += 8;
-            continue;
-        }
-        let b = doc[i];
-        if b == b'"' {
+        if doc[i] == b'"' {
             return TextRead::Closed {
                 end: i + 1,
                 length: n,
                 written,
             };
         }
-        if escape::is_plain_ascii(b) {
-            pool::put_byte(pool, 8 * w + n, b);
-            i += 1;
-            n += 1;
-            written += 1;
-        } else {
-            match pieces::read_piece(doc, i, pool, w, n) {
-                Piece::Went { next, length, cost } => {
-                    i = next;
-                    n = length;
-                    written += cost;
-                }
-                Piece::Stopped { place } => {
-                    return TextRead::Broken { place };
-                }
+        match pieces::read_piece(doc, i, pool, w, n) {
+            Piece::Went { next, length, cost } => {
+                i = eight::put_run(doc, next, pool, w, length);
+                n = length + (i - next);
+                written += cost + (i - next);
+            }
+            Piece::Stopped { place } => {
+                return TextRead::Broken { place };
             }
         }
     }
     TextRead::Broken { place: i }
 }
 
-// How long the first n bytes of a word are in plain JSON.
-fn word_length(word: u64, n: usize) -> usize
-    requires { ⌜ (n ≤ 8) × (length (escaped-all (take n (unpacked word))) < 2 ^ 64) ⌝ }
-    ensures counted { λ r. ⌜ r ≡ length (escaped-all (take n (unpacked word))) ⌝ }
+// Reads a text from behind its opening quote; what it decodes to goes into the pool from word w on.
+pub fn read_text(doc: &[u8], at: usize, pool: &mut [u64], w: usize) -> TextRead
+    requires { ⌜ (at ≤ length (now doc)) × (w + words (length (now doc) - at) ≤ length (now pool)) ⌝ }
+    ensures read { λ r. ⌜ Reads-text (now (doc .entry)) at (now (pool .entry)) (now (pool .exit)) w r ⌝ }
 {
-    let mut x = word;
-    let mut written: usize = 0;
-    let mut i: usize = 0;
-    while i < n {
-        written += escape::cost((x >> 56) as u8);
-        x = x << 8;
-        i += 1;
+    let i = eight::put_standing(doc, at, pool, w);
+    if i < doc.len() {
+        // most texts close behind their plain bytes
+        if doc[i] == b'"' {
+            return TextRead::Closed {
+                end: i + 1,
+                length: i - at,
+                written: i - at + 2,
+            };
+        }
     }
-    written
+    read_rest(doc, at, i, pool, w)
 }
 
 // How long a text of the pool is in plain JSON.
@@ -96,28 +88,17 @@ pub fn text_length(pool: &[u64], w: usize, n: usize) -> usize
     ensures counted { λ r. ⌜ r ≡ length (plain-text (text-in (now (pool .entry)) w n)) ⌝ }
 {
     let mut written: usize = 2;
-    let mut i: usize = 0;
-    while 8 * i < n {
-        written += word_length(pool[w + i], pool::least(8, n - 8 * i));
-        i += 1;
+    let mut k = w;
+    let mut left = n;
+    while 8 <= left {
+        written += write::whole_length(pool[k]);
+        k += 1;
+        left -= 8;
     }
-    written
-}
-
-// Writes the first n bytes of a word as plain JSON has them, and answers the place behind them.
-fn write_word(out: &mut [u8], at: usize, word: u64, n: usize) -> usize
-    requires { ⌜ (n ≤ 8) × (at + length (escaped-all (take n (unpacked word))) ≤ length (now out)) ⌝ }
-    ensures written { λ r. ⌜ Writes (now (out .entry)) (now (out .exit)) at (escaped-all (take n (unpacked word))) r ⌝ }
-{
-    let mut x = word;
-    let mut j = at;
-    let mut i: usize = 0;
-    while i < n {
-        j = escape::write_byte(out, j, (x >> 56) as u8);
-        x = x << 8;
-        i += 1;
+    if left == 0 {
+        return written;
     }
-    j
+    written + write::front_length(pool[k], left)
 }
 
 // Writes a text of the pool as plain JSON, and answers the place behind it.
@@ -126,12 +107,7 @@ pub fn write_text(out: &mut [u8], at: usize, pool: &[u64], w: usize, n: usize) -
     ensures written { λ r. ⌜ Writes (now (out .entry)) (now (out .exit)) at (plain-text (text-in (now (pool .entry)) w n)) r ⌝ }
 {
     out[at] = b'"';
-    let mut j = at + 1;
-    let mut k: usize = 0;
-    while 8 * k < n {
-        j = write_word(out, j, pool[w + k], pool::least(8, n - 8 * k));
-        k += 1;
-    }
+    let j = write::write_inside(out, at + 1, pool, w, n);
     out[j] = b'"';
     j + 1
 }

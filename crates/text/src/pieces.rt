@@ -1,4 +1,4 @@
-// What is no plain ASCII byte in a text: escapes and characters of several bytes, put into the pool.
+// What stands in a text, piece by piece: a plain ASCII byte, an escape, a character of several bytes; put into the pool.
 ghost use mathlib.Core.Path.{_≡_};
 ghost use mathlib.Core.Bool.{false};
 ghost use Prim.Native.Nat.{_+_, _-_, _≤_, _<_};
@@ -7,8 +7,9 @@ ghost use Rattle.definitions.specs.Bytes.{between};
 ghost use Rattle.definitions.specs.Utf8.{encode};
 ghost use Rattle.definitions.specs.Plain.{escaped-all};
 ghost use Rattle.pool.specs.Pool.{words};
-ghost use Rattle.text.specs.TextParts.{plain-ascii, escape-value, Puts, Reads-piece, Room};
+ghost use Rattle.text.specs.TextParts.{escape-value, Puts, Reads-piece, Room};
 use super::escape::cost;
+use super::escape::is_plain_ascii;
 use super::unicode::Code;
 use super::unicode::encoded;
 use super::unicode::encoded_length;
@@ -129,14 +130,22 @@ fn read_escape(doc: &[u8], i: usize, pool: &mut [u64], w: usize, n: usize) -> Pi
     }
 }
 
-// What stands at place i, where neither the closing quote nor a byte that stands for itself does.
+// What stands at place i, where the closing quote does not.
 pub fn read_piece(doc: &[u8], i: usize, pool: &mut [u64], w: usize, n: usize) -> Piece
-    requires { ⌜ Room (now doc) i (now pool) w n × (plain-ascii (getD (now doc) i 0) ≡ false) × (getD (now doc) i 0 ≡ 0x22 → ⊥) ⌝ }
+    requires { ⌜ Room (now doc) i (now pool) w n × (getD (now doc) i 0 ≡ 0x22 → ⊥) ⌝ }
     ensures read { λ r. ⌜ Reads-piece (now (doc .entry)) i (now (pool .entry)) (now (pool .exit)) w n r ⌝ }
 {
-    if doc[i] == 0x5C {
-        read_escape(doc, i, pool, w, n)
-    } else {
-        read_wide(doc, i, pool, w, n)
+    let b = doc[i];
+    if b == 0x5C {
+        return read_escape(doc, i, pool, w, n);
     }
+    if is_plain_ascii(b) {
+        pool::put_byte(pool, 8 * w + n, b);
+        return Piece::Went {
+            next: i + 1,
+            length: n + 1,
+            cost: 1,
+        };
+    }
+    read_wide(doc, i, pool, w, n)
 }

@@ -1,12 +1,13 @@
 -- White space and the bytes that end a word, a byte at a time. Assumes nothing.
-use Prim.Native.Nat.{ℕ, suc, _+_, _-_, _≤_, _<_}
+use Prim.Native.Nat.{ℕ, zero, suc, _+_, _-_, _≤_, _<_}
 use mathlib.Core.Path.{_≡_, refl, sym, ap, _∙_, subst}
 use mathlib.Core.Bool.{Bool, true, false}
 use mathlib.Core.List.{[], _∷_, _++_}
 use native.Mathlib.Numerals.{add-one}
 use native.Mathlib.Nat.{sub-self}
+use native.Mathlib.Decide.{decLt}
 use native.Mathlib.Omega.{arith}
-use lib.ListN.{length, take, drop, getD, length-drop}
+use lib.ListN.{length, take, drop, getD, length-drop, List·getD-eq-default}
 use lib.Seq.{drop-cons, take-suc, getD-drop}
 use Rattle.definitions.specs.Bytes.{Bytes}
 use Rattle.definitions.specs.Tokens.{no-word, outside, lex}
@@ -24,6 +25,20 @@ not-space h i j k ws-char.tab = i refl
 not-space h i j k ws-char.line-feed = j refl
 not-space h i j k ws-char.carriage-return = k refl
 
+-- a byte above all of them
+pub above-space : {b : ℕ} → 0x20 < b → ws-char b → ⊥
+above-space h = not-space (λ e. omega (arith, e)) (λ e. omega (arith, e)) (λ e. omega (arith, e)) (λ e. omega (arith, e))
+
+-- one above the brackets too is a word's
+pub above-border : {b : ℕ} → 0x29 < b → Word-byte b
+above-border h =
+    record {
+      no-white-space = above-space (omega arith);
+      no-opening = λ e. omega (arith, e);
+      no-closing = λ e. omega (arith, e);
+      no-quote = λ e. omega (arith, e);
+    }
+
 -- a byte that is no bracket and no quote ends a word where it is white space
 pub border-space : {b : ℕ} (r : Bool) → (b ≡ 0x28 → ⊥) → (b ≡ 0x29 → ⊥) → (b ≡ 0x22 → ⊥) → Space-answer b r → Border-answer b r
 border-space true h i j w = λ x. x .no-white-space w
@@ -32,6 +47,22 @@ border-space false h i j w = record { no-white-space = w; no-opening = h; no-clo
 -- the byte at a place
 pub byte-here : (text : Bytes) (i : ℕ) → i < length text → drop i text ≡ getD text i 0 ∷ drop (i + 1) text
 byte-here text i h = drop-cons text i 0 h ∙ ap (λ (k : ℕ). getD text i 0 ∷ drop k text) (sym (add-one i))
+
+-- the byte at a place, where 256 stands for the end
+pub byte-or-end : (text : Bytes) (i : ℕ) → i < length text → getD text i 256 ≡ getD text i 0
+byte-or-end [] i h = absurd (let z : ⊥ = omega arith in z)
+byte-or-end (b ∷ text) zero h = refl
+byte-or-end (b ∷ text) (suc i) h = byte-or-end text i (omega arith)
+
+pub first-is : (text : Bytes) (i : ℕ) {b : ℕ} → b < 256 → getD text i 256 ≡ b → (i < length text) × (getD text i 0 ≡ b)
+first-is text i {b} l e = pick (decLt i (length text))
+  where
+    pick : Dec (i < length text) → (i < length text) × (getD text i 0 ≡ b)
+    pick (yes h) = (h, sym (byte-or-end text i h) ∙ e)
+    pick (no h) = absurd (let z : ⊥ = omega (arith, e, List·getD-eq-default text 256 {n = i} (omega arith)) in z)
+
+pub first-other : (text : Bytes) (i : ℕ) {b : ℕ} → (getD text i 256 ≡ b → ⊥) → i < length text → getD text i 0 ≡ b → ⊥
+first-other text i n h e = n (byte-or-end text i h ∙ e)
 
 -- ---- white space passed
 

@@ -11,6 +11,8 @@ use Rattle.definitions.specs.Tokens.{Token, opening, closing, quoted, word, bro
 use Rattle.tokens.specs.TokenRead.{tokens-from, Found, Found-text, word-in}
 use Rattle.tokens.specs.declared.expect.Bracket.{Bracket}
 use Rattle.tokens.specs.declared.expect.Bracket.the-variants as Bracket-is
+use Rattle.tokens.specs.declared.expect.Brackets.{Brackets}
+use Rattle.tokens.specs.declared.expect.Brackets.the-variants as Brackets-are
 use Rattle.tokens.specs.declared.expect.Spelled.{Spelled}
 use Rattle.tokens.specs.declared.expect.Spelled.the-variants as Spelled-is
 use Rattle.tokens.specs.declared.expect.Quotation.{Quotation}
@@ -55,13 +57,20 @@ abbrev pub Bracket-answer : Sort → Token → Bytes → ℕ → Bracket → Typ
 Bracket-answer k t text at (Bracket-is.At place) = Found text at t place (place + 1)
 Bracket-answer k t text at (Bracket-is.Missing place) = Lacks k text at place
 
-pub record Expects-opening (text : Bytes) (at : ℕ) (p p′ : List ℕ) (w : ℕ) (r : Bracket) : Type 0 where
+pub record Expects-opening (text : Bytes) (at : ℕ) (r : Bracket) : Type 0 where
   pub answer : Bracket-answer an-opening opening text at r
-  pub kept : Kept p p′ w
 
-pub record Expects-closing (text : Bytes) (at : ℕ) (p p′ : List ℕ) (w : ℕ) (r : Bracket) : Type 0 where
+pub record Expects-closing (text : Bytes) (at : ℕ) (r : Bracket) : Type 0 where
   pub answer : Bracket-answer a-closing closing text at r
-  pub kept : Kept p p′ w
+
+abbrev pub Brackets-answer : Bytes → ℕ → Brackets → Type 0
+Brackets-answer text at (Brackets-are.Opening place) = Found text at opening place (place + 1)
+Brackets-answer text at (Brackets-are.Closing place) = Found text at closing place (place + 1)
+Brackets-answer text at (Brackets-are.Missing place) = Lacks an-opening text at place × Lacks a-closing text at place
+
+-- a bracket of either sort
+pub record Expects-bracket (text : Bytes) (at : ℕ) (r : Brackets) : Type 0 where
+  pub answer : Brackets-answer text at r
 
 -- ---- words and texts
 
@@ -69,9 +78,8 @@ abbrev pub Word-answer : Bytes → ℕ → Spelled → Type 0
 Word-answer text at (Spelled-is.At place end) = Found text at (word (word-in text place end)) place end
 Word-answer text at (Spelled-is.Missing place) = Lacks a-word text at place
 
-pub record Expects-word (text : Bytes) (at : ℕ) (p p′ : List ℕ) (w : ℕ) (r : Spelled) : Type 0 where
+pub record Expects-word (text : Bytes) (at : ℕ) (r : Spelled) : Type 0 where
   pub answer : Word-answer text at r
-  pub kept : Kept p p′ w
 
 abbrev pub Quoted-answer : Bytes → ℕ → List ℕ → ℕ → Quotation → Type 0
 Quoted-answer text at p w (Quotation-is.At place end n) = Found-text text at p w place end n
@@ -93,9 +101,8 @@ abbrev pub End-answer : Bytes → ℕ → Ending → Type 0
 End-answer text at Ending-is.Whole = tokens-from text at ≡ []
 End-answer text at (Ending-is.More place) = More-at text at place
 
-pub record Expects-end (text : Bytes) (at : ℕ) (p p′ : List ℕ) (w : ℕ) (r : Ending) : Type 0 where
+pub record Expects-end (text : Bytes) (at : ℕ) (r : Ending) : Type 0 where
   pub answer : End-answer text at r
-  pub kept : Kept p p′ w
 
 -- ---- limits
 

@@ -1,3 +1,4 @@
 pub mod TokenRead
+pub mod WordValues
 pub mod Expecting
 pub mod ReadingLaws

@@ -2,7 +2,7 @@
 use Prim.Native.Nat.{ℕ, suc, _≤_}
 use mathlib.Core.Path.{_≡_, refl, sym, ap, _∙_}
 use mathlib.Core.Bool.{true, false}
-use mathlib.Core.List.{List, [], _∷_}
+use mathlib.Core.List.{List, [], _∷_, nil≢cons, head-eq-of-cons-eq}
 use mathlib.Core.Option.{Option, none}
 use native.Mathlib.Omega.{arith}
 use lib.ListN.{length}
@@ -13,10 +13,7 @@ use Rattle.definitions.specs.Outcome.{Outcome, refused}
 use Rattle.definitions.specs.Tokens.{Token, opening, closing, quoted, word, broken, at-place, Placed, Step, misplaced, go, opens, want-open}
 use Rattle.definitions.specs.Tokens.{want-close, want-text, want-word, judge-step, or-end, read-tokens}
 use Rattle.tokens.specs.TokenRead.{tokens-from, Found}
-use Rattle.tokens.specs.Expecting.{Sort, an-opening, a-closing, a-text, a-word, sort, Lacks, another, none-left, Kept, Text-placed, More-at}
-
-pub kept-then : {p₀ p p′ : List ℕ} {w : ℕ} → Kept p₀ p w → Kept p p′ w → Kept p₀ p′ w
-kept-then k m = record { size = m .size ∙ k .size; front = m .front ∙ k .front }
+use Rattle.tokens.specs.Expecting.{Sort, an-opening, a-closing, a-text, a-word, sort, Lacks, another, none-left, Text-placed, More-at}
 
 -- ---- one token
 
@@ -36,6 +33,14 @@ module _ {Q A : Type 0} (step : Q → Placed → Step Q) (whole : Q → Option A
   pub whole-text : (q : Q) → tokens-from text at ≡ [] → reads step whole l text n q at ≡ or-end (length text) (whole q)
   unfolding read-tokens
   whole-text q e = ap (λ (us : List Placed). read-tokens step whole l n (length text) q us) e
+
+  -- where it may not
+  none-there : (q : Q) {place : ℕ} → tokens-from text at ≡ [] → place ≡ length text → whole q ≡ none → reads step whole l text n q at ≡ refused 7 place
+  unfolding read-tokens or-end
+  none-there q e i w =
+      ap (λ (us : List Placed). read-tokens step whole l n (length text) q us) e
+      ∙ ap (or-end (length text)) w
+      ∙ ap (refused 7) (sym i)
 
 module _ {Q A : Type 0} (step : Q → Placed → Step Q) (whole : Q → Option A) (l : Limits) (n : ℕ) {text : Bytes} {at : ℕ} where
   found-step
@@ -75,12 +80,35 @@ module _ {Q A : Type 0} (step : Q → Placed → Step Q) (whole : Q → Option A
   pub lacking
       : (q : Q) (k : Sort) {place : ℕ} → Lacks k text at place → whole q ≡ none
       → ((t : Token) (p : ℕ) → (sort t ≡ k → ⊥) → step q (at-place p t) ≡ misplaced) → reads step whole l text n q at ≡ refused 7 place
-  unfolding read-tokens or-end
   lacking q k {place} (another t ts e h) w m = misplaced-next step whole l n text at q place t ts e (m t place h)
-  lacking q k (none-left e i) w m =
+  lacking q k (none-left e i) w m = none-there step whole l n text at q e i w
+
+  -- neither bracket, where both may
+  pub lacking-both
+      : (q : Q) {place : ℕ} → Lacks an-opening text at place → Lacks a-closing text at place → whole q ≡ none
+      → ((t : Token) (p : ℕ) → (sort t ≡ an-opening → ⊥) → (sort t ≡ a-closing → ⊥) → step q (at-place p t) ≡ misplaced)
+      → reads step whole l text n q at ≡ refused 7 place
+  unfolding at-place
+  lacking-both q {place} (another t ts e h) (another u us f i) w m =
+      let same : t ≡ u = ap (λ (x : Placed). x .token) (head-eq-of-cons-eq (sym e ∙ f)) in
+      misplaced-next step whole l n text at q place t ts e (m t place h (λ j. i (ap sort (sym same) ∙ j)))
+  lacking-both q (another t ts e h) (none-left f i) w m = absurd (nil≢cons (sym f ∙ e))
+  lacking-both q (none-left e i) k w m = none-there step whole l n text at q e i w
+
+  -- another token than of one sort, which does the same in two states
+  pub same-lacking
+      : (q r : Q) (k : Sort) {place : ℕ} → Lacks k text at place → whole q ≡ whole r
+      → ((t : Token) (p : ℕ) → (sort t ≡ k → ⊥) → step q (at-place p t) ≡ step r (at-place p t))
+      → reads step whole l text n q at ≡ reads step whole l text n r at
+  unfolding read-tokens
+  same-lacking q r k {place} (another t ts e h) w m =
+      ap (λ (us : List Placed). read-tokens step whole l n (length text) q us) e
+      ∙ ap (λ (x : Step Q). judge-step l n (at-place place t .at) x (λ n′ q′. read-tokens step whole l n′ (length text) q′ ts)) (m t place h)
+      ∙ sym (ap (λ (us : List Placed). read-tokens step whole l n (length text) r us) e)
+  same-lacking q r k (none-left e i) w m =
       ap (λ (us : List Placed). read-tokens step whole l n (length text) q us) e
       ∙ ap (or-end (length text)) w
-      ∙ ap (refused 7) (sym i)
+      ∙ sym (ap (λ (us : List Placed). read-tokens step whole l n (length text) r us) e)
 
   -- any, behind the whole text
   pub more-text
@@ -124,13 +152,6 @@ module _ {Q : Type 0} where
 
 -- ---- where reading may go on
 
-pub placed-further
-    : {text : Bytes} {p₀ p : List ℕ} {at at′ top : ℕ} → Text-placed text p₀ at top → Kept p₀ p top → at ≤ at′ → at′ ≤ length text
-    → Text-placed text p at′ top
-placed-further r k h i =
-    record {
-      short = r .short;
-      within = i;
-      texts = omega (arith, r .texts, k .size);
-      small = omega (arith, r .small);
-    }
+pub placed-on
+    : {text : Bytes} {p : List ℕ} {at at′ top : ℕ} → Text-placed text p at top → at ≤ at′ → at′ ≤ length text → Text-placed text p at′ top
+placed-on r h i = record { short = r .short; within = i; texts = omega (arith, r .texts); small = omega (arith, r .small) }

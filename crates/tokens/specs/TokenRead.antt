@@ -2,16 +2,14 @@
 use Prim.Native.Nat.{ℕ, _+_, _-_, _≤_, _<_}
 use mathlib.Core.Path.{_≡_}
 use mathlib.Core.Bool.{Bool, true, false}
-use mathlib.Core.List.{List, [], _∷_}
+use mathlib.Core.List.{List, _∷_}
 use lib.ListN.{length, take, drop, getD}
 use Rattle.definitions.specs.Bytes.{Bytes}
-use Rattle.definitions.specs.Tokens.{opening, closing, quoted, word, broken, at-place, Placed, no-word, outside, lex}
+use Rattle.definitions.specs.Tokens.{quoted, at-place, Placed, no-word, outside, lex}
 use Rattle.definitions.specs.Tokens as Tokens
 use Rattle.laws.specs.Rfc8259.{ws-char}
 use Rattle.laws.specs.TokenGrammar.{Word-byte, Word-bytes}
 use Rattle.pool.specs.Pool.{words, text-in}
-use Rattle.tokens.specs.declared.Token.{Token}
-use Rattle.tokens.specs.declared.Token.the-variants.{Opening, Closing, Quoted, Word, Broken, End}
 
 -- ---- bytes
 
@@ -62,32 +60,3 @@ pub record Found-text (text : Bytes) (at : ℕ) (p : List ℕ) (w place end n : 
   pub size : length (text-in p w n) ≡ n
   pub room : w + words n ≤ length p
   pub shorter : place + n + 2 ≤ end
-
--- the next token is a text that breaks off
-pub record Found-broken (text : Bytes) (at place : ℕ) : Type 0 where
-  pub run : tokens-from text at ≡ at-place place broken ∷ []
-  pub from : at ≤ place
-  pub within : place < length text
-
-abbrev pub Token-answer : Bytes → ℕ → List ℕ → ℕ → Token → Type 0
-Token-answer text at p w (Opening place) = Found text at opening place (place + 1)
-Token-answer text at p w (Closing place) = Found text at closing place (place + 1)
-Token-answer text at p w (Quoted place end n) = Found-text text at p w place end n
-Token-answer text at p w (Word place end) = Found text at (word (word-in text place end)) place end
-Token-answer text at p w (Broken place) = Found-broken text at place
-Token-answer text at p w End = tokens-from text at ≡ []
-
--- the answer r from a place on, and the pool p′ that was p
-pub record Next (text : Bytes) (at : ℕ) (p p′ : List ℕ) (w : ℕ) (r : Token) : Type 0 where
-  pub answer : Token-answer text at p′ w r
-  pub kept : length p′ ≡ length p
-  pub front : take w p′ ≡ take w p
-
--- where a token stands; the end of the text where there is none
-unfoldable pub place-of : Token → ℕ → ℕ
-place-of (Opening place) end = place
-place-of (Closing place) end = place
-place-of (Quoted place e n) end = place
-place-of (Word place e) end = place
-place-of (Broken place) end = place
-place-of End end = end

@@ -2,10 +2,11 @@
 ghost use Prim.Native.Nat.{_+_, _-_, _≤_};
 ghost use lib.ListN.{length};
 ghost use Rattle.pool.specs.Pool.{words};
-ghost use Rattle.tokens.specs.Expecting.{Expects-opening, Expects-closing, Expects-word, Expects-text, Expects-end, Judges-full};
-use crate::Token;
-use crate::next;
-use crate::place;
+ghost use Rattle.tokens.specs.Expecting.{Expects-opening, Expects-closing, Expects-bracket, Expects-word, Expects-text, Expects-end, Judges-full};
+use crate::first_byte;
+use crate::skip_space;
+use crate::word_end;
+use text::TextRead;
 
 pub enum Bracket {
     At { place: usize },
@@ -13,31 +14,51 @@ pub enum Bracket {
 }
 
 // An opening bracket.
-pub fn next_opening(text: &[u8], at: usize, pool: &mut [u64], w: usize) -> Bracket
-    requires { ⌜ (at ≤ length (now text)) × (w + words (length (now text) - at - 1) ≤ length (now pool)) ⌝ }
-    ensures read { λ r. ⌜ Expects-opening (now (text .entry)) at (now (pool .entry)) (now (pool .exit)) w r ⌝ }
+pub fn next_opening(text: &[u8], at: usize) -> Bracket
+    requires { ⌜ at ≤ length (now text) ⌝ }
+    ensures read { λ r. ⌜ Expects-opening (now (text .entry)) at r ⌝ }
 {
-    let t = next(text, at, pool, w);
-    let Token::Opening { at: here } = t else {
-        return Bracket::Missing {
-            place: place(t, text.len()),
-        };
-    };
-    Bracket::At { place: here }
+    let place = skip_space(text, at);
+    if first_byte(text, place) == 0x28 {
+        Bracket::At { place }
+    } else {
+        Bracket::Missing { place }
+    }
 }
 
 // A closing bracket.
-pub fn next_closing(text: &[u8], at: usize, pool: &mut [u64], w: usize) -> Bracket
-    requires { ⌜ (at ≤ length (now text)) × (w + words (length (now text) - at - 1) ≤ length (now pool)) ⌝ }
-    ensures read { λ r. ⌜ Expects-closing (now (text .entry)) at (now (pool .entry)) (now (pool .exit)) w r ⌝ }
+pub fn next_closing(text: &[u8], at: usize) -> Bracket
+    requires { ⌜ at ≤ length (now text) ⌝ }
+    ensures read { λ r. ⌜ Expects-closing (now (text .entry)) at r ⌝ }
 {
-    let t = next(text, at, pool, w);
-    let Token::Closing { at: here } = t else {
-        return Bracket::Missing {
-            place: place(t, text.len()),
-        };
-    };
-    Bracket::At { place: here }
+    let place = skip_space(text, at);
+    if first_byte(text, place) == 0x29 {
+        Bracket::At { place }
+    } else {
+        Bracket::Missing { place }
+    }
+}
+
+pub enum Brackets {
+    Opening { place: usize },
+    Closing { place: usize },
+    Missing { place: usize },
+}
+
+// A bracket of either sort.
+pub fn next_bracket(text: &[u8], at: usize) -> Brackets
+    requires { ⌜ at ≤ length (now text) ⌝ }
+    ensures read { λ r. ⌜ Expects-bracket (now (text .entry)) at r ⌝ }
+{
+    let place = skip_space(text, at);
+    let b = first_byte(text, place);
+    if b == 0x28 {
+        return Brackets::Opening { place };
+    }
+    if b == 0x29 {
+        return Brackets::Closing { place };
+    }
+    Brackets::Missing { place }
 }
 
 pub enum Spelled {
@@ -47,17 +68,17 @@ pub enum Spelled {
 }
 
 // A word or number.
-pub fn next_word(text: &[u8], at: usize, pool: &mut [u64], w: usize) -> Spelled
-    requires { ⌜ (at ≤ length (now text)) × (w + words (length (now text) - at - 1) ≤ length (now pool)) ⌝ }
-    ensures read { λ r. ⌜ Expects-word (now (text .entry)) at (now (pool .entry)) (now (pool .exit)) w r ⌝ }
+pub fn next_word(text: &[u8], at: usize) -> Spelled
+    requires { ⌜ at ≤ length (now text) ⌝ }
+    ensures read { λ r. ⌜ Expects-word (now (text .entry)) at r ⌝ }
 {
-    let t = next(text, at, pool, w);
-    let Token::Word { at: here, end } = t else {
-        return Spelled::Missing {
-            place: place(t, text.len()),
-        };
-    };
-    Spelled::At { place: here, end }
+    let place = skip_space(text, at);
+    let end = word_end(text, place);
+    if place < end {
+        Spelled::At { place, end }
+    } else {
+        Spelled::Missing { place }
+    }
 }
 
 pub enum Quotation {
@@ -77,21 +98,21 @@ pub fn next_text(text: &[u8], at: usize, pool: &mut [u64], w: usize) -> Quotatio
     requires { ⌜ (at ≤ length (now text)) × (w + words (length (now text) - at - 1) ≤ length (now pool)) ⌝ }
     ensures read { λ r. ⌜ Expects-text (now (text .entry)) at (now (pool .entry)) (now (pool .exit)) w r ⌝ }
 {
-    let t = next(text, at, pool, w);
-    let Token::Quoted {
-        at: here,
-        end,
-        bytes,
-    } = t
-    else {
-        return Quotation::Missing {
-            place: place(t, text.len()),
-        };
-    };
-    Quotation::At {
-        place: here,
-        end,
-        bytes,
+    let place = skip_space(text, at);
+    if first_byte(text, place) != 0x22 {
+        return Quotation::Missing { place };
+    }
+    match text::read_text(text, place + 1, pool, w) {
+        TextRead::Closed {
+            end,
+            length,
+            written: _,
+        } => Quotation::At {
+            place,
+            end,
+            bytes: length,
+        },
+        TextRead::Broken { place: _ } => Quotation::Missing { place },
     }
 }
 
@@ -101,17 +122,16 @@ pub enum Ending {
 }
 
 // The end of the text.
-pub fn next_end(text: &[u8], at: usize, pool: &mut [u64], w: usize) -> Ending
-    requires { ⌜ (at ≤ length (now text)) × (w + words (length (now text) - at - 1) ≤ length (now pool)) ⌝ }
-    ensures read { λ r. ⌜ Expects-end (now (text .entry)) at (now (pool .entry)) (now (pool .exit)) w r ⌝ }
+pub fn next_end(text: &[u8], at: usize) -> Ending
+    requires { ⌜ at ≤ length (now text) ⌝ }
+    ensures read { λ r. ⌜ Expects-end (now (text .entry)) at r ⌝ }
 {
-    let t = next(text, at, pool, w);
-    let Token::End = t else {
-        return Ending::More {
-            place: place(t, text.len()),
-        };
-    };
-    Ending::Whole
+    let place = skip_space(text, at);
+    if place < text.len() {
+        Ending::More { place }
+    } else {
+        Ending::Whole
+    }
 }
 
 // Whether a form that begins here is one too many or too deep: refusal 8.

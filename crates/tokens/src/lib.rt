@@ -1,32 +1,19 @@
 // Tokens of shape texts and readers: brackets, JSON texts, and words or numbers, with JSON white space between them.
 ghost use mathlib.Core.Path.{_≡_};
-ghost use Prim.Native.Nat.{_+_, _-_, _≤_, _<_};
-ghost use lib.ListN.{length};
-ghost use Rattle.definitions.specs.Bytes.{same};
-ghost use Rattle.pool.specs.Pool.{words};
-ghost use Rattle.tokens.specs.TokenRead.{Space-answer, Border-answer, Skips, Runs, Next, word-in, place-of};
+ghost use Prim.Native.Nat.{_≤_};
+ghost use lib.ListN.{length, getD};
+ghost use Rattle.tokens.specs.TokenRead.{Space-answer, Border-answer, Skips, Runs, word-in};
+ghost use Rattle.tokens.specs.WordValues.{Word-told};
 
 pub mod expect; // a token of one sort that must come
-
-use text::TextRead;
-
-pub enum Token {
-    Opening { at: usize },
-    Closing { at: usize },
-    // a JSON text up to an end, of so many bytes decoded
-    Quoted { at: usize, end: usize, bytes: usize },
-    // a word or number up to an end
-    Word { at: usize, end: usize },
-    // a JSON text that breaks off
-    Broken { at: usize },
-    // the end of the text
-    End,
-}
 
 // JSON white space.
 fn is_space(b: u8) -> bool
     ensures told { λ r. ⌜ Space-answer b r ⌝ }
 {
+    if 0x20 < b {
+        return false;
+    }
     if b == 0x20 {
         return true;
     }
@@ -46,6 +33,9 @@ fn is_space(b: u8) -> bool
 fn is_border(b: u8) -> bool
     ensures told { λ r. ⌜ Border-answer b r ⌝ }
 {
+    if b')' < b {
+        return false;
+    }
     if b == b'(' {
         return true;
     }
@@ -90,75 +80,32 @@ fn word_end(text: &[u8], at: usize) -> usize
     i
 }
 
-// The next token from a place on. A JSON text is decoded into the pool from word w on.
-pub fn next(text: &[u8], at: usize, pool: &mut [u64], w: usize) -> Token
-    requires { ⌜ (at ≤ length (now text)) × (w + words (length (now text) - at - 1) ≤ length (now pool)) ⌝ }
-    ensures read { λ r. ⌜ Next (now (text .entry)) at (now (pool .entry)) (now (pool .exit)) w r ⌝ }
+// The byte at a place; at the end 256, which is none.
+fn first_byte(text: &[u8], at: usize) -> usize
+    ensures told { λ r. ⌜ r ≡ getD (now (text .entry)) at 256 ⌝ }
 {
-    let place = skip_space(text, at);
-    if place >= text.len() {
-        return Token::End;
-    }
-    let b = text[place];
-    if b == b'(' {
-        return Token::Opening { at: place };
-    }
-    if b == b')' {
-        return Token::Closing { at: place };
-    }
-    if b == b'"' {
-        return match text::read_text(text, place + 1, pool, w) {
-            TextRead::Closed {
-                end,
-                length,
-                written: _,
-            } => Token::Quoted {
-                at: place,
-                end,
-                bytes: length,
-            },
-            TextRead::Broken { place: _ } => Token::Broken { at: place },
-        };
-    }
-    Token::Word {
-        at: place,
-        end: word_end(text, place),
+    if at < text.len() {
+        text[at] as usize
+    } else {
+        256
     }
 }
 
-// Where a token stands, in a text that ends at `end`.
-pub fn place(t: Token, end: usize) -> usize
-    ensures told { λ r. ⌜ r ≡ place-of t end ⌝ }
-{
-    match t {
-        Token::Opening { at } => at,
-        Token::Closing { at } => at,
-        Token::Quoted {
-            at,
-            end: _,
-            bytes: _,
-        } => at,
-        Token::Word { at, end: _ } => at,
-        Token::Broken { at } => at,
-        Token::End => end,
-    }
-}
-
-// Whether the word from one place to another is this one, byte for byte.
-pub fn is_word(text: &[u8], at: usize, end: usize, word: &[u8]) -> bool
+// The number of the word from one place to another, by which it is compared: its bytes, with how many they are in the last one. Of a
+// word of over seven bytes it is 8, which no other has.
+pub fn word_value(text: &[u8], at: usize, end: usize) -> u64
     requires { ⌜ (at ≤ end) × (end ≤ length (now text)) ⌝ }
-    ensures told { λ r. ⌜ r ≡ same (word-in (now (text .entry)) at end) (now (word .entry)) ⌝ }
+    ensures told { λ r. ⌜ Word-told (word-in (now (text .entry)) at end) r ⌝ }
 {
-    let n = word.len();
-    if end - at != n {
-        return false;
+    let n = end - at;
+    if 7 < n {
+        return 8;
     }
+    let mut x: u64 = 0;
     let mut i: usize = 0;
     while i < n {
-        if text[at + i] != word[i] {
-            return false;
-        }
+        x = x * 256 + (text[at + i] as u64);
         i += 1;
     }
-    true
+    x * 256 + (n as u64)
 }

@@ -2,8 +2,10 @@
 -- parts, at the same one: the measures are what is left of that table from the row on, and one more for the loops. Assumes nothing.
 use Prim.Native.Nat.{ℕ, _+_, _-_, _<_}
 use native.Mathlib.Omega.{arith}
+use mathlib.Core.Path.{sym, _∙_}
 use borrow.Author.Needs.{needs}
 use lib.ListN.{length}
+use Rattle.laws.specs.Bools.{not-fails}
 use Rattle.shapes.specs.HeldLaws.{held-within, some-listed}
 use Rattle.admits.proofs.Elements as elements
 use Rattle.admits.proofs.Named as named
@@ -20,7 +22,7 @@ use Rattle.admits.proofs.admits_members as admits-members
 use Rattle.admits.proofs.admits_members.Kinds as admits-members-kinds
 use Rattle.admits.proofs.+admits+admits_items+admits_members.Lts-admits_members as admits-members-lts
 use Rattle.admits.proofs.kind_bit.Reads as kind-bit-reads
-use Rattle.admits.proofs.missing_have_null.Reads as missing-have-null-reads
+use Rattle.admits.proofs.lacked_have_null.Reads as lacked-have-null-reads
 use Rattle.nodes.proofs.row_name.Reads as row-name-reads
 use Rattle.nodes.proofs.row_size.Reads as row-size-reads
 use Rattle.shapes.proofs.find_named.Reads as find-named-reads
@@ -93,8 +95,8 @@ admits-claims t = (
   size-reads.Learnt,
   admits-members-below t,
   admits-members.Reads.Post,
-  missing-have-null-reads.Asked,
-  missing-have-null-reads.Learnt,
+  lacked-have-null-reads.Asked,
+  lacked-have-null-reads.Learnt,
 )
 
 -- ---- admits
@@ -212,22 +214,24 @@ admits-returns-4 t c =
     (c .before .before .before .members .ensures) (c .before .before .size .ensures)
     (c .before .admits-members .ensures) (c .if4 .taken)
 
-admits-add-missing-have-null : (t : ℕ) → admits-lts.Need-add-missing-have-null (admits-claims t) (admits-at t) admits.Reads.Post
-admits-add-missing-have-null t c =
+admits-add-lacked-have-null : (t : ℕ) → admits-lts.Need-add-lacked-have-null (admits-claims t) (admits-at t) admits.Reads.Post
+admits-add-lacked-have-null t c =
     let after-row-size = c .before .before .before .before .before .before .before in
     let after-has = after-row-size .before .before .before .before .before in
     let at-start = after-has .before .before .before .before .before .before in
     omega (arith, value-ends (at-start .pre .1 .holds) .0, value-ends (at-start .pre .1 .holds) .1, at-start .good .1 .1 .0 .0)
 
-admits-missing-have-null-requires : (t : ℕ) → admits-lts.Need-missing-have-null-requires (admits-claims t) (admits-at t) admits.Reads.Post
-admits-missing-have-null-requires t c κs =
+admits-lacked-have-null-requires : (t : ℕ) → admits-lts.Need-lacked-have-null-requires (admits-claims t) (admits-at t) admits.Reads.Post
+admits-lacked-have-null-requires t c κs =
     let else3 = c .before .before .before .before in
     let after-has = else3 .before .before .before .before .before .before .before .before in
-    let at-start = after-has .before .before .before .before .before .before in
-    rec-asks (at-start .args .shapes .now) (at-start .args .row) (at-start .args .nodes .now) (at-start .args .at) (at-start .args .pool .now)
-    (seen-here t after-has) (else3 .before .before .before .before .before .before .before .if1 .left) (else3 .before .before .before .row-size .ensures)
-    (else3 .before .before .before .before .if2 .left) (else3 .if3 .left)
-    (c .before .before .before .members .ensures) (c .before .before .size .ensures) (at-start .pre .1)
+    let at-start = after-has .before .before .before .before .before .before in (
+      rec-asks (at-start .args .shapes .now) (at-start .args .row) (at-start .args .nodes .now) (at-start .args .at) (at-start .args .pool .now)
+          (seen-here t after-has) (else3 .before .before .before .before .before .before .before .if1 .left) (else3 .before .before .before .row-size .ensures)
+          (else3 .before .before .before .before .if2 .left) (else3 .if3 .left)
+          (c .before .before .before .members .ensures) (c .before .before .size .ensures) (at-start .pre .1),
+      λ fs h ms k. sym (not-fails (c .before .admits-members .result) (c .if4 .left)) ∙ c .before .admits-members .ensures fs h ms k,
+    )
 
 admits-returns-5 : (t : ℕ) → admits-lts.Need-returns-5 (admits-claims t) (admits-at t) admits.Reads.Post
 admits-returns-5 t c =
@@ -238,7 +242,7 @@ admits-returns-5 t c =
     (seen-here t (else1 .before)) (else1 .if1 .left) (after-members .before .before .before .before .row-size .ensures)
     (after-members .before .before .before .before .before .if2 .left)
     (after-members .before .if3 .left) (after-members .members .ensures) (c .before .before .before .size .ensures)
-    (c .before .before .admits-members .ensures) (c .before .if4 .left) (c .missing-have-null .ensures)
+    (c .before .before .admits-members .ensures) (c .before .if4 .left) (c .lacked-have-null .ensures)
 
 abbrev admits-items-Inv-loop : admits-items-lts.InvT-loop
 admits-items-Inv-loop shapes row nodes at end pool i₀ i = elements.Walking shapes row nodes at end pool i
@@ -455,8 +459,8 @@ pub +admits+admits-items+admits-members-spec : {M : Type 1} → statement M
     (admits-add-admits-members t)
     (admits-admits-members-requires t)
     (admits-returns-4 t)
-    (admits-add-missing-have-null t)
-    (admits-missing-have-null-requires t)
+    (admits-add-lacked-have-null t)
+    (admits-lacked-have-null-requires t)
     (admits-returns-5 t))
     (λ t. admits-items-lts.spec (admits-items-claims t)
     (admits-items-at t)

@@ -8,6 +8,7 @@ use borrow.Fn.Kinds.{In}
 use borrow.Fn.PlainCycle.{Measures, is, falls, and}
 use denote.Ref.{now}
 use Rattle.shapes.specs.ShapesLaws.{stands-size, stands-within, stands-row, fields-end}
+use Rattle.join.specs.declared.Joined.the-variants.{Grown}
 use Rattle.join.specs.Joining.{join-records, join-elements}
 use Rattle.join.proofs.Answers.{joined-grown, joined-full, denied, granted}
 use Rattle.join.proofs.Parts.{head-room, members-within}
@@ -17,6 +18,7 @@ use Rattle.join.proofs.Turning.{less-asks, less-turned, greater-asks, g
 use Rattle.join.proofs.Joining.{left-some, spans, record-none, record-asks, record-full, record-inner, record-grown}
 use Rattle.join.proofs.Joining.{element-none, element-asks, element-full, element-inner, element-grown}
 use Rattle.join.proofs.Whole.{members-full, members-joins, elements-full, head-asks, whole-grown}
+use Rattle.join.proofs.Idle.{idle}
 use Rattle.join.proofs.join_at.Reads as join-at
 use Rattle.join.proofs.join_at.Kinds as join-at-kinds
 use Rattle.join.proofs.+join_at+join_element+join_members+join_next+join_record.Lts-join_at as join-at-lts
@@ -33,6 +35,7 @@ use Rattle.join.proofs.join_record.Reads as join-record
 use Rattle.join.proofs.join_record.Kinds as join-record-kinds
 use Rattle.join.proofs.+join_at+join_element+join_members+join_next+join_record.Lts-join_record as join-record-lts
 use Rattle.join.proofs.add_null.Reads as add-null-reads
+use Rattle.join.proofs.adds_nothing.Reads as adds-nothing-reads
 use Rattle.join.proofs.grow_head.Reads as grow-head-reads
 use Rattle.join.proofs.next_member.Reads as next-member-reads
 use Rattle.join.proofs.second_step.Reads as second-step-reads
@@ -155,6 +158,8 @@ abbrev join-next-claims : ℕ → join-next-lts.Claims
 join-next-claims t = (
   add-null-reads.Asked,
   add-null-reads.Learnt,
+  adds-nothing-reads.Asked,
+  adds-nothing-reads.Learnt,
   join-at-below t,
   join-at.Post,
   put-member-reads.Asked,
@@ -527,42 +532,53 @@ join-next-add-null-requires t c κs =
     let w = c .before .before .before .before .before .before .pre .1 in
     less-asks (c .before .enum-told .given .1) (w .walks) (w .next) (w .small)
 
+join-next-same-length : (t : ℕ) → join-next-lts.Need-same-length (join-next-claims t) (join-next-at t) join-next.Post
+join-next-same-length t c = refl
+
+join-next-returns : (t : ℕ) → join-next-lts.Need-returns (join-next-claims t) (join-next-at t) join-next.Post
+join-next-returns t c p end to fs gs n u old fs′ gs′ w v =
+    let at-start = c .before .before .before .before .before .before .before .before in
+    equal-turned (at-start .args .shapes .now) (Grown 0) (c .before .before .before .enum-told2 .given .1)
+    (idle (c .before .adds-nothing .ensures (c .if1 .taken))) w v
+
 join-next-join-at-requires : (t : ℕ) → join-next-lts.Need-join-at-requires (join-next-claims t) (join-next-at t) join-next.Post
 join-next-join-at-requires t c κs =
-    let at-start = c .before .before .before .before .before .before in
+    let after-enum-told2 = c .before .before .before .before in
+    let at-start = after-enum-told2 .before .before .before .before .before in
     let w = at-start .pre .1 in
-    (omega (arith, at-start .pre .0), equal-asks (c .before .enum-told2 .given .1) (w .walks) (w .next) (w .small))
+    (omega (arith, at-start .pre .0), equal-asks (after-enum-told2 .enum-told2 .given .1) (w .walks) (w .next) (w .small))
 
 join-next-put-member-requires : (t : ℕ) → join-next-lts.Need-put-member-requires (join-next-claims t) (join-next-at t) join-next.Post
 join-next-put-member-requires t c κs =
     let w = c .before .before .before .before .before .before .pre .1 in
     greater-asks (c .before .enum-told3 .given .1) (w .walks) (w .next) (w .small)
 
-join-next-same-length : (t : ℕ) → join-next-lts.Need-same-length (join-next-claims t) (join-next-at t) join-next.Post
-join-next-same-length t c =
-    c .before .before .add-null .kept .0
-
-join-next-returns : (t : ℕ) → join-next-lts.Need-returns (join-next-claims t) (join-next-at t) join-next.Post
-join-next-returns t c p end to fs gs n u old fs′ gs′ w v =
-    let after-add-null = c .before .before in
-    less-turned (after-add-null .before .before .enum-told .given .1) (after-add-null .add-null .ensures) (after-add-null .add-null .kept .0) w v
-
 join-next-same-length-2 : (t : ℕ) → join-next-lts.Need-same-length-2 (join-next-claims t) (join-next-at t) join-next.Post
 join-next-same-length-2 t c =
-    c .before .before .join-at .kept .0
+    c .before .before .add-null .kept .0
 
 join-next-returns-2 : (t : ℕ) → join-next-lts.Need-returns-2 (join-next-claims t) (join-next-at t) join-next.Post
 join-next-returns-2 t c p end to fs gs n u old fs′ gs′ w v =
-    let after-join-at = c .before .before in
-    equal-turned (after-join-at .join-at .last .0) (after-join-at .join-at .result) (after-join-at .before .before .enum-told2 .given .1)
-    (after-join-at .join-at .ensures) w v
+    let after-add-null = c .before .before in
+    less-turned (after-add-null .before .before .enum-told .given .1) (after-add-null .add-null .ensures) (after-add-null .add-null .kept .0) w v
 
 join-next-same-length-3 : (t : ℕ) → join-next-lts.Need-same-length-3 (join-next-claims t) (join-next-at t) join-next.Post
 join-next-same-length-3 t c =
-    c .before .before .put-member .kept .0
+    c .before .before .join-at .kept .0
 
 join-next-returns-3 : (t : ℕ) → join-next-lts.Need-returns-3 (join-next-claims t) (join-next-at t) join-next.Post
 join-next-returns-3 t c p end to fs gs n u old fs′ gs′ w v =
+    let after-join-at = c .before .before in
+    equal-turned (after-join-at .join-at .last .0) (after-join-at .join-at .result)
+    (after-join-at .before .before .before .before .before .enum-told2 .given .1)
+    (after-join-at .join-at .ensures) w v
+
+join-next-same-length-4 : (t : ℕ) → join-next-lts.Need-same-length-4 (join-next-claims t) (join-next-at t) join-next.Post
+join-next-same-length-4 t c =
+    c .before .before .put-member .kept .0
+
+join-next-returns-4 : (t : ℕ) → join-next-lts.Need-returns-4 (join-next-claims t) (join-next-at t) join-next.Post
+join-next-returns-4 t c p end to fs gs n u old fs′ gs′ w v =
     let after-put-member = c .before .before in
     greater-turned (after-put-member .put-member .last .0) (after-put-member .put-member .result) (after-put-member .before .before .enum-told3 .given .1)
     (after-put-member .put-member .ensures) w v
@@ -757,16 +773,18 @@ pub +join-at+join-element+join-members+join-next+join-record-spec : {M : Type 1}
     join-next.Post
     (λ c. search needs)
     (join-next-add-null-requires t)
-    (λ c. search needs)
+    (λ c. search needs) (λ c κs. search needs)
+    (join-next-same-length t)
+    (join-next-returns t)
     (join-next-join-at-requires t)
     (λ c. search needs)
     (join-next-put-member-requires t)
-    (join-next-same-length t)
-    (join-next-returns t)
     (join-next-same-length-2 t)
     (join-next-returns-2 t)
     (join-next-same-length-3 t)
-    (join-next-returns-3 t))
+    (join-next-returns-3 t)
+    (join-next-same-length-4 t)
+    (join-next-returns-4 t))
     λ t. join-record-lts.spec (join-record-claims t) (join-record-at t)
     join-record.Post
     (λ c κs. search needs) (λ c κs. search needs)

@@ -2,6 +2,7 @@
 use borrow.Author.Needs.{needs}
 use mathlib.Core.Path.{refl, sym, _∙_}
 use mathlib.Core.List.{[], _∷_}
+use lib.Dec.{lit≤}
 use lib.ListN.{length}
 use Rattle.definitions.specs.Limits.{standard}
 use Rattle.definitions.specs.Operations.{check-judged, check-operation}
@@ -31,7 +32,7 @@ shapes-prefix c =
     let after-reader-shape-short = c .before .before .before .before in
     let a = after-reader-shape-short .before .before .before .before .before .before .before .before .before .args in
     enough-checked standard (standard-small refl) (a .reader .now) (a .shape .now) (a .forms .now) (a .shapes .now) (a .results .now)
-    (a .bindings .now) (a .pool .now) (sym (after-reader-shape-short .reader-shape-short .ensures) ∙ c .before .before .before .if1 .left)
+    (a .bindings .now) (a .pool .now) (sym (after-reader-shape-short .reader-shape-short .ensures) ∙ c .before .before .before .if1 .left) (lit≤ tt)
 
 shapes-part : tie.Need-slice-aggregate-check
 unfolding standard
@@ -41,7 +42,7 @@ shapes-part c =
     let a = after-reader-shape-short .before .before .before .before .before .before .before .before .before .args in
     sym (length-take-le 1024 (a .shapes .now)
     (enough-checked standard (standard-small refl) (a .reader .now) (a .shape .now) (a .forms .now) (a .shapes .now) (a .results .now)
-    (a .bindings .now) (a .pool .now) (sym (after-reader-shape-short .reader-shape-short .ensures) ∙ else1 .if1 .left)))
+    (a .bindings .now) (a .pool .now) (sym (after-reader-shape-short .reader-shape-short .ensures) ∙ else1 .if1 .left) (lit≤ tt)))
 
 results-prefix : tie.Need-slice-relend-prefix-check-2
 unfolding standard
@@ -70,11 +71,11 @@ check-requires c κs =
     let a = after-reader-shape-short .before .before .before .before .before .before .before .before .before .args in
     let e = sym (after-reader-shape-short .reader-shape-short .ensures) ∙ else1 .if1 .left in
     let h = enough-checked standard (standard-small refl) (a .reader .now) (a .shape .now) (a .forms .now) (a .shapes .now) (a .results .now)
-    (a .bindings .now) (a .pool .now) e in
+    (a .bindings .now) (a .pool .now) e (lit≤ tt) in
     let g = enough-given standard (standard-small refl) (a .reader .now) (a .shape .now) (a .forms .now) (a .shapes .now) (a .results .now)
     (a .bindings .now) (a .pool .now) e in (
       for-cut-check standard (standard-small refl) (a .reader .now) (a .shape .now) (a .forms .now) (a .shapes .now) (a .results .now)
-          (a .bindings .now) (a .pool .now) e,
+          (a .bindings .now) (a .pool .now) e (lit≤ tt),
       (omega (arith, length-take-le 1024 (a .shapes .now) h), omega (arith, length-take-le 1024 (a .results .now) g)),
     )
 

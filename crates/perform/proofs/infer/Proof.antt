@@ -3,10 +3,15 @@ use borrow.Author.Needs.{needs}
 use native.Mathlib.Omega.{arith}
 use Rattle.definitions.specs.Operations.{infer-judged}
 use Rattle.laws.specs.Ends.{finishes-stopped, finishes-passed}
-use Rattle.inputs.specs.InputsLaws.{both-passes, both-refused, room-beside-document}
-use Rattle.perform.proofs.Walks.{used-within, inferable, inferred}
+use Rattle.inputs.specs.InputsLaws.{both-passes, both-refused}
+use Rattle.perform.proofs.Walks.{document-texts, room-beside-document, used-within, inferable, inferred}
 use Rattle.perform.proofs.infer.Statement.{statement}
 use Rattle.perform.proofs.infer.Tie as tie
+
+shape-document-requires : tie.Need-shape-document-requires
+shape-document-requires c κs =
+    let at-start = c .before .before .before .before .before .before .before .before .before in
+    document-texts (at-start .pre .0)
 
 infer-at-requires : tie.Need-infer-at-requires
 infer-at-requires c κs =
@@ -62,6 +67,6 @@ returns-2 c =
 
 pub infer-spec : {M : Type 1} → statement M
 infer-spec =
-    tie.close (tie.spec (λ c κs. search needs) (λ c. search needs) infer-at-requires deliver-grown-requires
+    tie.close (tie.spec shape-document-requires (λ c. search needs) infer-at-requires deliver-grown-requires
     (λ c. search needs) (λ c κs. search needs) (λ c. search needs) (λ c. search needs) (λ c. search needs)
     (λ c. search needs) returns (λ c. search needs) (λ c. search needs) (λ c. search needs) returns-2)

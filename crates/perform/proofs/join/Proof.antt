@@ -3,10 +3,15 @@ use borrow.Author.Needs.{needs}
 use native.Mathlib.Omega.{arith}
 use Rattle.definitions.specs.Operations.{join-judged}
 use Rattle.laws.specs.Ends.{finishes-stopped, finishes-passed}
-use Rattle.inputs.specs.InputsLaws.{both-passes, both-refused, room-beside-shape}
-use Rattle.perform.proofs.Walks.{joinable, joined}
+use Rattle.inputs.specs.InputsLaws.{both-passes, both-refused}
+use Rattle.perform.proofs.Walks.{shape-texts, room-beside-shape, joinable, joined}
 use Rattle.perform.proofs.join.Statement.{statement}
 use Rattle.perform.proofs.join.Tie as tie
+
+two-shapes-requires : tie.Need-two-shapes-requires
+two-shapes-requires c κs =
+    let at-start = c .before .before .before .before .before .before .before .before .before in
+    shape-texts (at-start .pre .0)
 
 join-at-requires : tie.Need-join-at-requires
 join-at-requires c κs =
@@ -62,6 +67,6 @@ returns-2 c =
 
 pub join-spec : {M : Type 1} → statement M
 join-spec =
-    tie.close (tie.spec (λ c κs. search needs) (λ c. search needs) join-at-requires deliver-grown-requires
+    tie.close (tie.spec two-shapes-requires (λ c. search needs) join-at-requires deliver-grown-requires
     (λ c. search needs) (λ c κs. search needs) (λ c. search needs) (λ c. search needs) (λ c. search needs)
     (λ c. search needs) returns (λ c. search needs) (λ c. search needs) (λ c. search needs) returns-2)

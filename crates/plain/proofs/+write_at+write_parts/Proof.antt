@@ -22,6 +22,7 @@ use Rattle.plain.proofs.write_parts.Reads as write-parts
 use Rattle.plain.proofs.write_parts.Kinds as write-parts-kinds
 use Rattle.plain.proofs.+write_at+write_parts.Lts-write_parts as write-parts-lts
 use Rattle.nodes.proofs.row_size.Reads as row-size-reads
+use Rattle.nodes.proofs.row_size_in.Reads as row-size-in-reads
 use Rattle.nodes.proofs.row_kind.Reads as row-kind-reads
 use Rattle.nodes.specs.StandingLaws.{size-some}
 use Rattle.plain.proofs.write_label.Reads as write-label-reads
@@ -66,8 +67,8 @@ parts-claims t = (
   write-label-reads.Learnt,
   write-at-below t,
   write-at.Post,
-  row-size-reads.Asked,
-  row-size-reads.Learnt,
+  row-size-in-reads.Asked,
+  row-size-in-reads.Learnt,
 )
 
 -- ---- write_at
@@ -257,10 +258,10 @@ write-parts-μ-loop out₀ at nodes row end pool named i₀ j₀ out i j = end -
 
 -- the words of the part that the caller has
 step
-    : (t : ℕ) (c : write-parts-lts.After-row-size (parts-claims t) (write-parts-at t) write-parts.Post write-parts-Inv-loop write-parts-μ-loop)
+    : (t : ℕ) (c : write-parts-lts.After-row-size-in (parts-claims t) (write-parts-at t) write-parts.Post write-parts-Inv-loop write-parts-μ-loop)
     → let in-loop = c .before .before .before .before .before .before .before .before .before in
     let at-start = in-loop .before .before .before .before .before in
-    c .row-size .result
+    c .row-size-in .result
     ≡ 3
     * size (turn (at-start .pre .1)
     (in-loop .before .loop .inv)
@@ -268,7 +269,7 @@ step
 step t c =
     let in-loop = c .before .before .before .before .before .before .before .before .before in
     let at-start = in-loop .before .before .before .before .before in
-    let h = turn (at-start .pre .1) (in-loop .before .loop .inv) (in-loop .loop-test .taken) .holds in c .row-size .ensures ∙ stands-size (h .stands)
+    let h = turn (at-start .pre .1) (in-loop .before .loop .inv) (in-loop .loop-test .taken) .holds in c .row-size-in .ensures ∙ stands-size (h .stands)
 
 write-parts-loop-holds : (t : ℕ) → write-parts-lts.Need-loop-holds (parts-claims t) (write-parts-at t) write-parts.Post write-parts-Inv-loop write-parts-μ-loop
 write-parts-loop-holds t c =
@@ -291,6 +292,15 @@ write-parts-write-at-requires t c κs =
       value-writable (s .pre .1) i m (after-write-label .write-label .kept .0) (after-write-label .write-label .ensures),
     )
 
+write-parts-row-size-in-requires
+    : (t : ℕ) → write-parts-lts.Need-row-size-in-requires (parts-claims t) (write-parts-at t) write-parts.Post write-parts-Inv-loop write-parts-μ-loop
+write-parts-row-size-in-requires t c κs =
+    let in-loop = c .before .before .before .before .before .before .before .before in
+    let s = in-loop .before .before .before .before .before in
+    let i = in-loop .before .loop .inv in
+    let m = in-loop .loop-test .taken in
+    omega (arith, turn-within (s .pre .1) i m, turn-some (s .pre .1) i m)
+
 write-parts-add-i : (t : ℕ) → write-parts-lts.Need-add-i (parts-claims t) (write-parts-at t) write-parts.Post write-parts-Inv-loop write-parts-μ-loop
 write-parts-add-i t c =
     let in-loop = c .before .before .before .before .before .before .before .before .before in
@@ -310,7 +320,7 @@ write-parts-loop-again t c =
     let at-start = s .before .before .before .before .before .before .before in
     loop-on (at-start .pre .1) (s .before .before .before .loop .inv) (s .before .before .loop-test .taken) (s .write-label .kept .0)
     (after-write-at .write-at .kept .0)
-    (s .write-label .ensures) (after-write-at .write-at .ensures) (c .row-size .ensures)
+    (s .write-label .ensures) (after-write-at .write-at .ensures) (c .row-size-in .ensures)
 
 write-parts-same-length
     : (t : ℕ) → write-parts-lts.Need-same-length (parts-claims t) (write-parts-at t) write-parts.Post write-parts-Inv-loop write-parts-μ-loop
@@ -351,7 +361,7 @@ pub +write-at+write-parts-spec : {M : Type 1} → statement M
     (write-parts-loop-holds t)
     (write-parts-write-label-requires t)
     (write-parts-write-at-requires t)
-    (λ c κs. search needs)
+    (write-parts-row-size-in-requires t)
     (write-parts-add-i t)
     (write-parts-loop-less t)
     (write-parts-loop-again t)

@@ -1,7 +1,7 @@
 -- `plain::write_label` meets its contract. Assumes nothing.
 use Prim.Native.Nat.{_<_}
 use native.Mathlib.Omega.{arith}
-use mathlib.Core.Path.{sym, ap, _∙_}
+use mathlib.Core.Path.{refl, sym, ap, _∙_}
 use mathlib.Core.List.{_++_, append-nil}
 use borrow.Author.Needs.{needs}
 use lib.ListN.{length, length-append, length-set}
@@ -17,11 +17,26 @@ write-comma-requires c κs =
     let at-start = c .before .before .before .before in
     omega (arith, at-start .pre .room, length-append (comma (at-start .args .later)) (label (at-start .pre .name)))
 
+add-write-reference : tie.Need-add-write-reference
+add-write-reference c =
+    let at-start = c .before .before .before .before .before .before .before .before .before in
+    omega (arith, at-start .pre .holds .within, at-start .good .1 .1 .0 .0)
+
+mul-write-reference : tie.Need-mul-write-reference
+mul-write-reference c =
+    let at-start = c .before .before .before .before .before .before .before .before .before in
+    omega (arith, at-start .pre .holds .within, at-start .good .1 .1 .0 .0)
+
+shared-slice-read-write-reference : tie.Need-shared-slice-read-write-reference
+shared-slice-read-write-reference c =
+    let after-write-comma = c .before .before .before .before .before in
+    after-write-comma .before .before .before .before .before .pre .holds .within
+
 write-reference-requires : tie.Need-write-reference-requires
 write-reference-requires c κs =
     let after-write-comma = c .before .before .before .before .before in
     let s = after-write-comma .before .before .before .before .before in
-    let d = label-named (s .pre .holds) (c .before .before .if1 .taken) (c .row-name .ensures) in
+    let d = label-named (s .pre .holds) (c .before .before .if1 .taken) refl in
     record {
       text = d .text;
       holds = d .holds;
@@ -36,7 +51,7 @@ within c =
     let after-write-reference = c .before .before in
     let after-write-comma = after-write-reference .before .before .before .before .before .before in
     let s = after-write-comma .before .before .before .before .before in
-    let d = label-named (s .pre .holds) (after-write-reference .before .before .before .if1 .taken) (after-write-reference .before .row-name .ensures) in
+    let d = label-named (s .pre .holds) (after-write-reference .before .before .before .if1 .taken) refl in
     omega (
       arith,
       s .pre .room,
@@ -65,7 +80,7 @@ returns : tie.Need-returns
 returns c n h =
     let then1 = c .before .before .before .before .before in
     let at-start = then1 .before .before .before .before .before .before .before .before in
-    let d = label-named h (then1 .if1 .taken) (c .before .before .before .row-name .ensures) in
+    let d = label-named h (then1 .if1 .taken) refl in
     writes-label (at-start .args .later) d (omega (arith, at-start .pre .room)) (then1 .before .before .before .write-comma .ensures)
     (c .before .before .write-reference .ensures (d .text) (d .holds)) (within c)
 
@@ -81,7 +96,9 @@ write-label-spec =
     tie.close
     (tie.spec
     write-comma-requires
-    (λ c κs. search needs)
+    add-write-reference
+    mul-write-reference
+    shared-slice-read-write-reference
     write-reference-requires
     slice-write-out
     add-result

@@ -1167,7 +1167,7 @@ result-when-bind-requires t c κs =
           (add-one (at-start .args .bound)) (at-start .pre .1 .0),
       cut-fits (at-start .pre .1 .1 .0) (at-start .pre .1 .1 .1) (one-part (at-start .args .forms .now) (at-start .args .row) (after-size .size .ensures))
           (two-parts (at-start .args .forms .now) (at-start .args .row) (after-size .size .ensures) (after-size2 .size2 .ensures))
-          (add-one (at-start .args .bound)) (after-locate .locate .result) (after-locate .locate .ensures) (after-size .before .before .before .r .given .1)
+          (add-one (at-start .args .bound)) (after-locate .locate .result) (after-locate .locate .ensures) (after-size .before .before .before .at .given .1)
           (after-size .before .operand .ensures) (c .cut .ensures) (at-start .pre .1 .0),
     )
 
@@ -1197,7 +1197,7 @@ result-when-result-into-requires t c κs =
       (
         when-asked (at-start .pre .1 .1 .0) (at-start .pre .1 .1 .1) (one-part (at-start .args .forms .now) (at-start .args .row) (after-size .size .ensures))
             (two-parts (at-start .args .forms .now) (at-start .args .row) (after-size .size .ensures) (after-size2 .size2 .ensures))
-            (add-one (at-start .args .bound)) (after-locate .locate .result) (after-locate .locate .ensures) (after-size .before .before .before .r .given .1)
+            (add-one (at-start .args .bound)) (after-locate .locate .result) (after-locate .locate .ensures) (after-size .before .before .before .at .given .1)
             (after-size .before .operand .ensures) (after-bind .before .cut .ensures) (after-bind .bind .ensures) (at-start .pre .1 .0),
         (at-start .pre .1 .1 .0),
       ),
@@ -1209,13 +1209,13 @@ result-when-returns-2 t c =
     let after-bind = after-result-into .before .before .before .before .before in
     let after-size2 = after-bind .before .before .before in
     let after-size = after-size2 .before in
-    let after-r = after-size .before .before .before in
-    let after-locate = after-r .before .before in
+    let after-at = after-size .before .before .before in
+    let after-locate = after-at .before .before in
     let at-start = after-locate .before .before .before .before .before .before .before in (
       when-full-first (at-start .pre .1 .1 .0) (at-start .pre .1 .1 .1)
           (one-part (at-start .args .forms .now) (at-start .args .row) (after-size .size .ensures))
           (two-parts (at-start .args .forms .now) (at-start .args .row) (after-size .size .ensures) (after-size2 .size2 .ensures))
-          (add-one (at-start .args .bound)) (after-locate .locate .result) (after-locate .locate .ensures) (after-r .r .given .1)
+          (add-one (at-start .args .bound)) (after-locate .locate .result) (after-locate .locate .ensures) (after-at .at .given .1)
           (after-size .before .operand .ensures) (after-bind .before .cut .ensures) (after-bind .bind .ensures)
           (after-result-into .result-into .last .1 .1 .1 .1 .0) (after-result-into .result-into .last .1 .1 .1 .1 .1 .1 .0)
           (after-result-into .result-into .result) (after-result-into .result-into .ensures .0) (after-result-into .result-into .ensures .1)
@@ -1223,7 +1223,7 @@ result-when-returns-2 t c =
       when-kept-then (at-start .pre .1 .1 .0) (at-start .pre .1 .1 .1)
           (one-part (at-start .args .forms .now) (at-start .args .row) (after-size .size .ensures))
           (two-parts (at-start .args .forms .now) (at-start .args .row) (after-size .size .ensures) (after-size2 .size2 .ensures))
-          (add-one (at-start .args .bound)) (after-locate .locate .result) (after-locate .locate .ensures) (after-r .r .given .1)
+          (add-one (at-start .args .bound)) (after-locate .locate .result) (after-locate .locate .ensures) (after-at .at .given .1)
           (after-size .before .operand .ensures) (after-bind .before .cut .ensures) (after-bind .bind .ensures)
           (after-result-into .result-into .last .1 .1 .1 .1 .0) (after-result-into .result-into .last .1 .1 .1 .1 .1 .1 .0)
           (after-result-into .result-into .result) (after-result-into .result-into .ensures .0)
@@ -1239,11 +1239,11 @@ result-when-bind-requires-2 t c κs =
     let at-start = after-locate .before .before .before .before .before .before .before in
     out-fits (at-start .pre .1 .1 .0) (at-start .pre .1 .1 .1) (one-part (at-start .args .forms .now) (at-start .args .row) (after-size .size .ensures))
     (two-parts (at-start .args .forms .now) (at-start .args .row) (after-size .size .ensures) (after-bind .before .before .before .size2 .ensures))
-    (add-one (at-start .args .bound)) (after-locate .locate .result) (after-locate .locate .ensures) (after-size .before .before .before .r .given .1)
+    (add-one (at-start .args .bound)) (after-locate .locate .result) (after-locate .locate .ensures) (after-size .before .before .before .at .given .1)
     (after-size .before .operand .ensures) (after-bind .before .cut .ensures) (after-bind .bind .ensures)
     (after-result-into .result-into .last .1 .1 .1 .1 .0) (after-result-into .result-into .last .1 .1 .1 .1 .1 .1 .0)
     (after-result-into .result-into .result) (after-result-into .result-into .ensures .0) (after-result-into .result-into .ensures .1)
-    (c .before .before .before .r2 .given .1) (c .taken-out .ensures) (at-start .pre .1 .0)
+    (c .before .before .before .words .given .1) (c .taken-out .ensures) (at-start .pre .1 .0)
 
 result-when-add-result-into-2 : (t : ℕ) → result-when-lts.Need-add-result-into-2 (result-when-claims t) (result-when-at t) result-when.Post
 result-when-add-result-into-2 t c =
@@ -1269,23 +1269,23 @@ result-when-add-result-into-3 t c =
     let x = when-tables (at-start .pre .1 .1 .0) (at-start .pre .1 .1 .1)
     (one-part (at-start .args .forms .now) (at-start .args .row) (after-size .size .ensures))
     (two-parts (at-start .args .forms .now) (at-start .args .row) (after-size .size .ensures) (after-bind .before .before .before .size2 .ensures))
-    (add-one (at-start .args .bound)) (after-locate .locate .result) (after-locate .locate .ensures) (after-size .before .before .before .r .given .1)
+    (add-one (at-start .args .bound)) (after-locate .locate .result) (after-locate .locate .ensures) (after-size .before .before .before .at .given .1)
     (after-size .before .operand .ensures) (after-bind .before .cut .ensures) (after-bind .bind .ensures)
     (after-result-into .result-into .last .1 .1 .1 .1 .0) (after-result-into .result-into .last .1 .1 .1 .1 .1 .1 .0)
     (after-result-into .result-into .result) (after-result-into .result-into .ensures .0) (after-result-into .result-into .ensures .1)
-    (after-taken-out .before .before .before .r2 .given .1) (after-taken-out .taken-out .ensures) (at-start .pre .1 .0) in
+    (after-taken-out .before .before .before .words .given .1) (after-taken-out .taken-out .ensures) (at-start .pre .1 .0) in
     omega (arith, x .enough, x .small)
 
 result-when-result-into-requires-2 : (t : ℕ) → result-when-lts.Need-result-into-requires-2 (result-when-claims t) (result-when-at t) result-when.Post
 result-when-result-into-requires-2 t c κs =
     let after-bind2 = c .before .before .before .before in
-    let after-r2 = after-bind2 .before .before .before .before in
-    let after-result-into = after-r2 .before .before .before .before .before .before in
+    let after-words = after-bind2 .before .before .before .before in
+    let after-result-into = after-words .before .before .before .before .before .before in
     let after-bind = after-result-into .before .before .before .before .before in
     let after-size2 = after-bind .before .before .before in
     let after-size = after-size2 .before in
-    let after-r = after-size .before .before .before in
-    let after-locate = after-r .before .before in
+    let after-at = after-size .before .before .before in
+    let after-locate = after-at .before .before in
     let at-start = after-locate .before .before .before .before .before .before .before in
     let x = when-rows (at-start .pre .1 .1 .0) (at-start .pre .1 .1 .1)
     (one-part (at-start .args .forms .now) (at-start .args .row) (after-size .size .ensures))
@@ -1296,18 +1296,18 @@ result-when-result-into-requires-2 t c κs =
         when-asked-then (at-start .pre .1 .1 .0) (at-start .pre .1 .1 .1)
             (one-part (at-start .args .forms .now) (at-start .args .row) (after-size .size .ensures))
             (two-parts (at-start .args .forms .now) (at-start .args .row) (after-size .size .ensures) (after-size2 .size2 .ensures))
-            (add-one (at-start .args .bound)) (after-locate .locate .result) (after-locate .locate .ensures) (after-r .r .given .1)
+            (add-one (at-start .args .bound)) (after-locate .locate .result) (after-locate .locate .ensures) (after-at .at .given .1)
             (after-size .before .operand .ensures) (after-bind .before .cut .ensures) (after-bind .bind .ensures)
             (after-result-into .result-into .last .1 .1 .1 .1 .0) (after-result-into .result-into .last .1 .1 .1 .1 .1 .1 .0)
             (after-result-into .result-into .result) (after-result-into .result-into .ensures .0) (after-result-into .result-into .ensures .1)
-            (after-r2 .r2 .given .1) (after-bind2 .before .taken-out .ensures) (after-bind2 .bind2 .ensures) (at-start .pre .1 .0),
+            (after-words .words .given .1) (after-bind2 .before .taken-out .ensures) (after-bind2 .bind2 .ensures) (at-start .pre .1 .0),
         when-tables (at-start .pre .1 .1 .0) (at-start .pre .1 .1 .1) (one-part (at-start .args .forms .now) (at-start .args .row) (after-size .size .ensures))
             (two-parts (at-start .args .forms .now) (at-start .args .row) (after-size .size .ensures) (after-size2 .size2 .ensures))
-            (add-one (at-start .args .bound)) (after-locate .locate .result) (after-locate .locate .ensures) (after-r .r .given .1)
+            (add-one (at-start .args .bound)) (after-locate .locate .result) (after-locate .locate .ensures) (after-at .at .given .1)
             (after-size .before .operand .ensures) (after-bind .before .cut .ensures) (after-bind .bind .ensures)
             (after-result-into .result-into .last .1 .1 .1 .1 .0) (after-result-into .result-into .last .1 .1 .1 .1 .1 .1 .0)
             (after-result-into .result-into .result) (after-result-into .result-into .ensures .0) (after-result-into .result-into .ensures .1)
-            (after-r2 .r2 .given .1) (after-bind2 .before .taken-out .ensures) (at-start .pre .1 .0),
+            (after-words .words .given .1) (after-bind2 .before .taken-out .ensures) (at-start .pre .1 .0),
       ),
     )
 
@@ -1315,44 +1315,44 @@ result-when-returns-3 : (t : ℕ) → result-when-lts.Need-returns-3 (result-whe
 result-when-returns-3 t c =
     let after-result-into2 = c .before .before .before .before .before .before in
     let after-bind2 = after-result-into2 .before .before .before .before .before in
-    let after-r2 = after-bind2 .before .before .before .before in
-    let after-result-into = after-r2 .before .before .before .before .before .before in
+    let after-words = after-bind2 .before .before .before .before in
+    let after-result-into = after-words .before .before .before .before .before .before in
     let after-bind = after-result-into .before .before .before .before .before in
     let after-size2 = after-bind .before .before .before in
     let after-size = after-size2 .before in
-    let after-r = after-size .before .before .before in
-    let after-locate = after-r .before .before in
+    let after-at = after-size .before .before .before in
+    let after-locate = after-at .before .before in
     let at-start = after-locate .before .before .before .before .before .before .before in (
       when-full-then (at-start .pre .1 .1 .0) (at-start .pre .1 .1 .1) (one-part (at-start .args .forms .now) (at-start .args .row) (after-size .size .ensures))
           (two-parts (at-start .args .forms .now) (at-start .args .row) (after-size .size .ensures) (after-size2 .size2 .ensures))
-          (add-one (at-start .args .bound)) (after-locate .locate .result) (after-locate .locate .ensures) (after-r .r .given .1)
+          (add-one (at-start .args .bound)) (after-locate .locate .result) (after-locate .locate .ensures) (after-at .at .given .1)
           (after-size .before .operand .ensures) (after-bind .before .cut .ensures) (after-bind .bind .ensures)
           (after-result-into .result-into .last .1 .1 .1 .1 .0) (after-result-into .result-into .last .1 .1 .1 .1 .1 .1 .0)
           (after-result-into .result-into .result) (after-result-into .result-into .ensures .0) (after-result-into .result-into .ensures .1)
-          (after-r2 .r2 .given .1) (after-bind2 .before .taken-out .ensures) (after-bind2 .bind2 .ensures)
+          (after-words .words .given .1) (after-bind2 .before .taken-out .ensures) (after-bind2 .bind2 .ensures)
           (after-result-into2 .result-into2 .last .1 .1 .1 .1 .0)
           (after-result-into2 .result-into2 .last .1 .1 .1 .1 .1 .1 .0) (after-result-into2 .result-into2 .result)
           (after-result-into2 .result-into2 .ensures .0)
           (after-result-into2 .result-into2 .ensures .1) (c .enum-told3 .given .1),
       when-kept (at-start .pre .1 .1 .0) (at-start .pre .1 .1 .1) (one-part (at-start .args .forms .now) (at-start .args .row) (after-size .size .ensures))
           (two-parts (at-start .args .forms .now) (at-start .args .row) (after-size .size .ensures) (after-size2 .size2 .ensures))
-          (add-one (at-start .args .bound)) (after-locate .locate .result) (after-locate .locate .ensures) (after-r .r .given .1)
+          (add-one (at-start .args .bound)) (after-locate .locate .result) (after-locate .locate .ensures) (after-at .at .given .1)
           (after-size .before .operand .ensures) (after-bind .before .cut .ensures) (after-bind .bind .ensures)
           (after-result-into .result-into .last .1 .1 .1 .1 .0) (after-result-into .result-into .last .1 .1 .1 .1 .1 .1 .0)
           (after-result-into .result-into .result) (after-result-into .result-into .ensures .0) (after-result-into .result-into .ensures .1)
-          (after-r2 .r2 .given .1) (after-bind2 .before .taken-out .ensures) (after-bind2 .bind2 .ensures)
+          (after-words .words .given .1) (after-bind2 .before .taken-out .ensures) (after-bind2 .bind2 .ensures)
           (after-result-into2 .result-into2 .last .1 .1 .1 .1 .0)
           (after-result-into2 .result-into2 .last .1 .1 .1 .1 .1 .1 .0) (after-result-into2 .result-into2 .result)
           (after-result-into2 .result-into2 .ensures .0)
           (after-result-into2 .result-into2 .ensures .1) (at-start .pre .1 .0),
     )
 
-result-when-add-t21 : (t : ℕ) → result-when-lts.Need-add-t21 (result-when-claims t) (result-when-at t) result-when.Post
-result-when-add-t21 t c =
+result-when-add-t19 : (t : ℕ) → result-when-lts.Need-add-t19 (result-when-claims t) (result-when-at t) result-when.Post
+result-when-add-t19 t c =
     let after-result-into2 = c .before .before .before .before .before .before .before in
     let after-bind2 = after-result-into2 .before .before .before .before .before in
-    let after-r2 = after-bind2 .before .before .before .before in
-    let after-result-into = after-r2 .before .before .before .before .before .before in
+    let after-words = after-bind2 .before .before .before .before in
+    let after-result-into = after-words .before .before .before .before .before .before in
     let after-bind = after-result-into .before .before .before .before .before in
     let after-size = after-bind .before .before .before .before in
     let after-locate = after-size .before .before .before .before .before in
@@ -1360,45 +1360,46 @@ result-when-add-t21 t c =
     let x = when-words (at-start .pre .1 .1 .0) (at-start .pre .1 .1 .1)
     (one-part (at-start .args .forms .now) (at-start .args .row) (after-size .size .ensures))
     (two-parts (at-start .args .forms .now) (at-start .args .row) (after-size .size .ensures) (after-bind .before .before .before .size2 .ensures))
-    (add-one (at-start .args .bound)) (after-locate .locate .result) (after-locate .locate .ensures) (after-size .before .before .before .r .given .1)
+    (add-one (at-start .args .bound)) (after-locate .locate .result) (after-locate .locate .ensures) (after-size .before .before .before .at .given .1)
     (after-size .before .operand .ensures) (after-bind .before .cut .ensures) (after-bind .bind .ensures)
     (after-result-into .result-into .last .1 .1 .1 .1 .0) (after-result-into .result-into .last .1 .1 .1 .1 .1 .1 .0)
     (after-result-into .result-into .result) (after-result-into .result-into .ensures .0) (after-result-into .result-into .ensures .1)
-    (after-r2 .r2 .given .1) (after-bind2 .before .taken-out .ensures) (after-bind2 .bind2 .ensures) (after-result-into2 .result-into2 .last .1 .1 .1 .1 .0)
+    (after-words .words .given .1) (after-bind2 .before .taken-out .ensures) (after-bind2 .bind2 .ensures)
+    (after-result-into2 .result-into2 .last .1 .1 .1 .1 .0)
     (after-result-into2 .result-into2 .last .1 .1 .1 .1 .1 .1 .0) (after-result-into2 .result-into2 .result) (after-result-into2 .result-into2 .ensures .0)
-    (after-result-into2 .result-into2 .ensures .1) (c .before .r3 .given .1) (at-start .pre .1 .0) in
+    (after-result-into2 .result-into2 .ensures .1) (c .before .more .given .1) (at-start .pre .1 .0) in
     omega (arith, x)
 
 result-when-returns-4 : (t : ℕ) → result-when-lts.Need-returns-4 (result-when-claims t) (result-when-at t) result-when.Post
 result-when-returns-4 t c =
     let after-result-into2 = c .before .before .before .before .before .before .before in
     let after-bind2 = after-result-into2 .before .before .before .before .before in
-    let after-r2 = after-bind2 .before .before .before .before in
-    let after-result-into = after-r2 .before .before .before .before .before .before in
+    let after-words = after-bind2 .before .before .before .before in
+    let after-result-into = after-words .before .before .before .before .before .before in
     let after-bind = after-result-into .before .before .before .before .before in
     let after-size2 = after-bind .before .before .before in
     let after-size = after-size2 .before in
-    let after-r = after-size .before .before .before in
-    let after-locate = after-r .before .before in
+    let after-at = after-size .before .before .before in
+    let after-locate = after-at .before .before in
     let at-start = after-locate .before .before .before .before .before .before .before in (
       when-answer (at-start .pre .1 .1 .0) (at-start .pre .1 .1 .1) (one-part (at-start .args .forms .now) (at-start .args .row) (after-size .size .ensures))
           (two-parts (at-start .args .forms .now) (at-start .args .row) (after-size .size .ensures) (after-size2 .size2 .ensures))
-          (add-one (at-start .args .bound)) (after-locate .locate .result) (after-locate .locate .ensures) (after-r .r .given .1)
+          (add-one (at-start .args .bound)) (after-locate .locate .result) (after-locate .locate .ensures) (after-at .at .given .1)
           (after-size .before .operand .ensures) (after-bind .before .cut .ensures) (after-bind .bind .ensures)
           (after-result-into .result-into .last .1 .1 .1 .1 .0) (after-result-into .result-into .last .1 .1 .1 .1 .1 .1 .0)
           (after-result-into .result-into .result) (after-result-into .result-into .ensures .0) (after-result-into .result-into .ensures .1)
-          (after-r2 .r2 .given .1) (after-bind2 .before .taken-out .ensures) (after-bind2 .bind2 .ensures)
+          (after-words .words .given .1) (after-bind2 .before .taken-out .ensures) (after-bind2 .bind2 .ensures)
           (after-result-into2 .result-into2 .last .1 .1 .1 .1 .0)
           (after-result-into2 .result-into2 .last .1 .1 .1 .1 .1 .1 .0) (after-result-into2 .result-into2 .result)
           (after-result-into2 .result-into2 .ensures .0)
-          (after-result-into2 .result-into2 .ensures .1) (c .before .r3 .given .1),
+          (after-result-into2 .result-into2 .ensures .1) (c .before .more .given .1),
       when-kept (at-start .pre .1 .1 .0) (at-start .pre .1 .1 .1) (one-part (at-start .args .forms .now) (at-start .args .row) (after-size .size .ensures))
           (two-parts (at-start .args .forms .now) (at-start .args .row) (after-size .size .ensures) (after-size2 .size2 .ensures))
-          (add-one (at-start .args .bound)) (after-locate .locate .result) (after-locate .locate .ensures) (after-r .r .given .1)
+          (add-one (at-start .args .bound)) (after-locate .locate .result) (after-locate .locate .ensures) (after-at .at .given .1)
           (after-size .before .operand .ensures) (after-bind .before .cut .ensures) (after-bind .bind .ensures)
           (after-result-into .result-into .last .1 .1 .1 .1 .0) (after-result-into .result-into .last .1 .1 .1 .1 .1 .1 .0)
           (after-result-into .result-into .result) (after-result-into .result-into .ensures .0) (after-result-into .result-into .ensures .1)
-          (after-r2 .r2 .given .1) (after-bind2 .before .taken-out .ensures) (after-bind2 .bind2 .ensures)
+          (after-words .words .given .1) (after-bind2 .before .taken-out .ensures) (after-bind2 .bind2 .ensures)
           (after-result-into2 .result-into2 .last .1 .1 .1 .1 .0)
           (after-result-into2 .result-into2 .last .1 .1 .1 .1 .1 .1 .0) (after-result-into2 .result-into2 .result)
           (after-result-into2 .result-into2 .ensures .0)
@@ -1568,6 +1569,6 @@ pub +result-choose+result-each+result-into+result-pack+result-pair+result-pairs+
     (result-when-result-into-requires-2 t)
     (λ c. search needs) (λ c. search needs) (λ c. search needs) (λ c. search needs)
     (result-when-returns-3 t)
-    (result-when-add-t21 t)
+    (result-when-add-t19 t)
     (λ c. search needs) (λ c. search needs)
     (result-when-returns-4 t)

@@ -2,16 +2,14 @@
 use borrow.Author.Needs.{needs}
 use Rattle.running.proofs.run.Statement.{statement}
 use Rattle.running.proofs.run.Tie as tie
-use borrow.Author.Needs.{needs}
-use native.Mathlib.Omega.{arith}
 use mathlib.Core.Path.{_∙_}
 use lib.ListN.{length-set}
-use Rattle.running.proofs.Readers.{ready, refused-at, too-many, some-value, too-deep, allowed}
+use Rattle.running.proofs.Readers.{bound-within, ready, refused-at, too-many, some-value, too-deep, allowed}
 
 slice-write-bindings : tie.Need-slice-write-bindings
 slice-write-bindings c =
     let at-start = c .before .before .before .before .before in
-    omega (arith, at-start .pre .bound)
+    bound-within (at-start .args .bindings .now) (at-start .pre .bound) (at-start .pre)
 
 run-form-requires : tie.Need-run-form-requires
 run-form-requires c κs =

@@ -1,8 +1,7 @@
 -- `shape_reader::read_shape` meets its contract. Assumes nothing.
 use borrow.Author.Needs.{needs}
 use native.Mathlib.Omega.{arith}
-use Rattle.shape_reader.proofs.Steps.{next-room}
-use Rattle.shape_reader.proofs.ShapeTexts.{start-ready, text-refused, end-ready, more-text, whole-text}
+use Rattle.shape_reader.proofs.ShapeTexts.{start-ready, text-refused, end-ready, more-behind, whole-text}
 use Rattle.shape_reader.proofs.read_shape.Statement.{statement}
 use Rattle.shape_reader.proofs.read_shape.Tie as tie
 
@@ -11,34 +10,34 @@ read-form-requires c κs =
     let at-start = c .before .before .before .before .before in
     start-ready (at-start .pre)
 
-next-requires : tie.Need-next-requires
-next-requires c κs =
-    let after-read-form = c .before .before .before .before .before .before .before .before in
+next-end-requires : tie.Need-next-end-requires
+next-end-requires c κs =
+    let after-read-form = c .before .before .before .before .before .before .before in
     let at-start = after-read-form .before .before .before .before .before .before in
-    next-room (end-ready (at-start .args .limits) (at-start .pre) (after-read-form .read-form .ensures) (c .before .before .to .given .1) .placed)
+    end-ready (at-start .args .limits) (at-start .pre) (after-read-form .read-form .ensures) (c .before .to .given .1) .placed .within
 
-returns : tie.Need-returns
-returns c =
-    let after-next = c .before .before .before .before in
-    let after-read-form = after-next .before .before .before .before .before .before .before .before .before in
-    let at-start = after-read-form .before .before .before .before .before .before in
-    more-text (at-start .args .limits) (at-start .pre) (after-read-form .read-form .ensures) (after-next .before .before .before .to .given .1)
-    (after-next .next .ensures) (c .before .match2 .keys2) (c .place .ensures)
-
-mul-t21 : tie.Need-mul-t21
-mul-t21 c =
-    let after-to = c .before .before .before .before .before .before .before .before in
+mul-t19 : tie.Need-mul-t19
+mul-t19 c =
+    let after-to = c .before .before .before .before .before in
     let after-read-form = after-to .before .before .before .before .before .before in
     let at-start = after-read-form .before .before .before .before .before .before in
     omega (arith, end-ready (at-start .args .limits) (at-start .pre) (after-read-form .read-form .ensures) (after-to .to .given .1) .limit, at-start .pre .few)
 
+returns : tie.Need-returns
+returns c =
+    let after-to = c .before .before .before .before .before in
+    let after-read-form = after-to .before .before .before .before .before .before in
+    let at-start = after-read-form .before .before .before .before .before .before in
+    whole-text (at-start .args .limits) (at-start .pre) (after-read-form .read-form .ensures) (after-to .to .given .1)
+    (c .before .before .before .next-end .ensures) (c .before .enum-told .given .1)
+
 returns-2 : tie.Need-returns-2
 returns-2 c =
-    let after-next = c .before .before .before .before .before in
-    let after-read-form = after-next .before .before .before .before .before .before .before .before .before in
+    let after-to = c .before .before .before .before .before in
+    let after-read-form = after-to .before .before .before .before .before .before in
     let at-start = after-read-form .before .before .before .before .before .before in
-    whole-text (at-start .args .limits) (at-start .pre) (after-read-form .read-form .ensures) (after-next .before .before .before .to .given .1)
-    (after-next .next .ensures) (c .before .enum-told .given .1)
+    more-behind (at-start .args .limits) (at-start .pre) (after-read-form .read-form .ensures) (after-to .to .given .1)
+    (c .before .before .before .next-end .ensures) (c .before .place .given .1)
 
 returns-3 : tie.Need-returns-3
 returns-3 c =
@@ -52,11 +51,12 @@ read-shape-spec =
     (tie.spec
     read-form-requires
     (λ c. search needs)
-    next-requires
-    (λ c. search needs) (λ c κs. search needs) (λ c. search needs) (λ c. search needs)
+    next-end-requires
+    (λ c. search needs)
+    mul-t19
+    (λ c. search needs) (λ c. search needs) (λ c. search needs) (λ c. search needs)
     returns
-    mul-t21
-    (λ c. search needs) (λ c. search needs) (λ c. search needs)
+    (λ c. search needs) (λ c. search needs)
     returns-2
     (λ c. search needs) (λ c. search needs)
     returns-3)

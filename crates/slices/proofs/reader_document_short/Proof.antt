@@ -1,8 +1,8 @@
 -- `slices::reader_document_short` meets its contract. Assumes nothing.
-use borrow.Author.Needs.{needs}
 use mathlib.Core.Path.{ap, _∙_}
 use mathlib.Core.List.{[], _∷_}
 use Rattle.definitions.specs.Operations.{slices-short}
+use borrow.Author.Needs.{needs}
 use Rattle.slices.proofs.reader_document_short.Statement.{statement}
 use Rattle.slices.proofs.reader_document_short.Tie as tie
 
@@ -14,5 +14,7 @@ returns c =
 pub reader-document-short-spec : {M : Type 1} → statement M
 reader-document-short-spec =
     tie.close
-    (tie.spec (λ c. search needs) (λ c κs. search needs) (λ c κs. search needs) (λ c. search needs) (λ c κs. search needs)
-    (λ c. search needs) (λ c κs. search needs) returns)
+    (tie.spec
+    (λ c κs. search needs) (λ c κs. search needs) (λ c. search needs) (λ c κs. search needs) (λ c. search needs) (λ c κs. search needs) (λ c. search needs)
+    (λ c. search needs) (λ c κs. search needs)
+    returns)

@@ -1,8 +1,8 @@
 -- `slices::shape_document_short` meets its contract. Assumes nothing.
-use borrow.Author.Needs.{needs}
 use mathlib.Core.Path.{ap, _∙_}
 use mathlib.Core.List.{[], _∷_}
 use Rattle.definitions.specs.Operations.{slices-short}
+use borrow.Author.Needs.{needs}
 use Rattle.slices.proofs.shape_document_short.Statement.{statement}
 use Rattle.slices.proofs.shape_document_short.Tie as tie
 
@@ -13,5 +13,7 @@ returns c =
 
 pub shape-document-short-spec : {M : Type 1} → statement M
 shape-document-short-spec =
-    tie.close (tie.spec (λ c κs. search needs) (λ c κs. search needs) (λ c. search needs) (λ c. search needs)
-    (λ c κs. search needs) (λ c κs. search needs) returns)
+    tie.close
+    (tie.spec
+    (λ c κs. search needs) (λ c κs. search needs) (λ c. search needs) (λ c. search needs) (λ c κs. search needs) (λ c. search needs) (λ c κs. search needs)
+    returns)

@@ -1,17 +1,19 @@
 -- `slices::two_shapes_short` meets its contract. Assumes nothing.
-use borrow.Author.Needs.{needs}
 use mathlib.Core.Path.{ap, _∙_}
 use mathlib.Core.List.{[], _∷_}
 use Rattle.definitions.specs.Operations.{slices-short}
+use borrow.Author.Needs.{needs}
 use Rattle.slices.proofs.two_shapes_short.Statement.{statement}
 use Rattle.slices.proofs.two_shapes_short.Tie as tie
 
 returns : tie.Need-returns
 returns c =
-    let a = c .before .before .before .args in
+    let a = c .before .before .before .before .args in
     c .three-short .ensures ∙ ap (λ ms. slices-short ms (a .shapes ∷ a .others ∷ a .pool ∷ [])) (cc)
 
 pub two-shapes-short-spec : {M : Type 1} → statement M
 two-shapes-short-spec =
-    tie.close (tie.spec (λ c κs. search needs) (λ c. search needs) (λ c. search needs) (λ c κs. search needs)
+    tie.close
+    (tie.spec
+    (λ c κs. search needs) (λ c. search needs) (λ c κs. search needs) (λ c. search needs) (λ c κs. search needs)
     returns)

@@ -1,118 +1,119 @@
--- `text::text_length` meets its contract. The loop's invariant: what the bytes of the first i words are in plain JSON is counted. The
--- measure is how many bytes are left. Assumes nothing.
-use Prim.Native.Nat.{ℕ, _≤_, _+_, _-_, _*_}
-use mathlib.Core.Path.{_≡_, sym, ap}
-use lib.ListN.{length, take, getD}
+-- `text::text_length` meets its contract. The loop's invariant: the quotes and what stands before word k are counted (`Counted`). The measure is how
+-- many bytes are left. Assumes nothing.
+use mathlib.Core.Path.{refl, sym, _∙_}
 use native.Mathlib.Omega.{arith}
-use borrow.Author.Needs.{needs}
-use Rattle.definitions.specs.Plain.{escaped-all}
-use Rattle.pool.specs.Pool.{unpacked, text-in}
-use Rattle.text.proofs.Escaped.{escaped-none, length-plain}
-use Rattle.text.proofs.Writing.{text-place, text-all, text-bound}
-use Rattle.text.proofs.Words.{text-word-count}
+use Rattle.pool.specs.Pool.{text-in}
+use Rattle.text.proofs.Escaped.{length-plain}
+use Rattle.text.proofs.Onward.{word-within, Counted, counted-start, counted-word, counted-bound, counted-front, counted-end}
 use Rattle.text.proofs.text_length.Statement.{statement}
 use Rattle.text.proofs.text_length.Tie as tie
 
 abbrev Inv-loop : tie.InvT-loop
-Inv-loop pool w n written₀ i₀ written i = (8 * i ≤ n + 7) × (written ≡ 2 + length (escaped-all (take (8 * i) (text-in pool w n))))
+Inv-loop pool w n written₀ k₀ left₀ written k left = Counted pool w n written k left
 
 abbrev μ-loop : tie.MeasureT-loop
-μ-loop pool w n written₀ i₀ written i = n - 8 * i
+μ-loop pool w n written₀ k₀ left₀ written k left = left
 
 loop-holds : tie.Need-loop-holds Inv-loop μ-loop
-loop-holds c = (omega arith, sym (ap (λ t. 2 + length t) escaped-none))
+loop-holds c = counted-start (c .before .args .pool .now) (c .before .args .w) (c .before .args .n) (c .before .pre .0)
 
-mul-loop : tie.Need-mul-loop Inv-loop μ-loop
-mul-loop c =
-    let start = c .before .before in
-    let l = c .loop in
-    let a = start .args in
-    omega (arith, l .inv .0, text-place (a .pool .now) (a .w) (a .n) (start .pre .0), start .good)
-
-add-word-length : tie.Need-add-word-length Inv-loop μ-loop
-add-word-length c =
-    let start = c .before .before .before in
+mul-whole-length : tie.Need-mul-whole-length Inv-loop μ-loop
+mul-whole-length c =
+    let at-start = c .before .before .before in
     let l = c .before .loop in
-    let a = start .args in
-    omega (arith, text-place (a .pool .now) (a .w) (a .n) (start .pre .0), start .good)
+    omega (arith, word-within (at-start .args .pool .now) (l .k) (l .left) (l .inv .room) (omega (arith, c .loop-test .taken)), at-start .good)
 
-mul-word-length : tie.Need-mul-word-length Inv-loop μ-loop
-mul-word-length c =
-    let start = c .before .before .before in
-    let l = c .before .loop in
-    let a = start .args in
-    omega (arith, text-place (a .pool .now) (a .w) (a .n) (start .pre .0), start .good)
-
-shared-slice-read-word-length : tie.Need-shared-slice-read-word-length Inv-loop μ-loop
-shared-slice-read-word-length c =
-    let start = c .before .before .before .before in
+shared-slice-read-whole-length : tie.Need-shared-slice-read-whole-length Inv-loop μ-loop
+shared-slice-read-whole-length c =
+    let at-start = c .before .before .before .before in
     let l = c .before .before .loop in
-    let a = start .args in
-    omega (arith, text-place (a .pool .now) (a .w) (a .n) (start .pre .0))
+    word-within (at-start .args .pool .now) (l .k) (l .left) (l .inv .room) (omega (arith, c .before .loop-test .taken))
 
-mul-least : tie.Need-mul-least Inv-loop μ-loop
-mul-least c =
-    let start = c .before .before .before .before in
-    let l = c .before .before .loop in
-    let a = start .args in
-    omega (arith, l .inv .0, text-place (a .pool .now) (a .w) (a .n) (start .pre .0), start .good)
-
-word-length-requires : tie.Need-word-length-requires Inv-loop μ-loop
-word-length-requires c κs =
-    let start = c .before .before .before .before .before in
-    let l = c .before .before .before .loop in
-    let a = start .args in (
-      omega (arith, c .least .ensures),
-      omega (
-        arith,
-        ap (λ (m : ℕ). length (escaped-all (take m (unpacked (getD (a .pool .now) (a .w + l .i) 0))))) (c .least .ensures),
-        text-word-count (a .pool .now) (a .w) (a .n) (start .pre .0) (l .i) (c .before .before .loop-test .taken),
-        text-bound (a .pool .now) (a .w) (a .n) (start .pre .0) (8 * (l .i + 1)),
-        start .pre .1,
-      ),
+whole-length-requires : tie.Need-whole-length-requires Inv-loop μ-loop
+whole-length-requires c κs =
+    let at-start = c .before .before .before .before in
+    let a = at-start .args in
+    omega (
+      arith,
+      counted-bound (c .before .before .loop .inv) (c .before .loop-test .taken),
+      length-plain (text-in (a .pool .now) (a .w) (a .n)),
+      at-start .pre .1,
     )
 
 add-written : tie.Need-add-written Inv-loop μ-loop
 add-written c =
-    let start = c .before .before .before .before .before .before in
-    let l = c .before .before .before .before .loop in
-    let a = start .args in
+    let at-start = c .before .before .before .before .before in
+    let a = at-start .args in
     omega (
       arith,
-      c .word-length .ensures,
-      l .inv .1,
-      ap (λ (m : ℕ). length (escaped-all (take m (unpacked (getD (a .pool .now) (a .w + l .i) 0))))) (c .before .least .ensures),
-      text-word-count (a .pool .now) (a .w) (a .n) (start .pre .0) (l .i) (c .before .before .before .loop-test .taken),
-      text-bound (a .pool .now) (a .w) (a .n) (start .pre .0) (8 * (l .i + 1)),
-      start .pre .1,
+      c .whole-length .ensures,
+      counted-bound (c .before .before .before .loop .inv) (c .before .before .loop-test .taken),
+      length-plain (text-in (a .pool .now) (a .w) (a .n)),
+      at-start .pre .1,
     )
 
+add-k : tie.Need-add-k Inv-loop μ-loop
+add-k c =
+    let at-start = c .before .before .before .before .before in
+    let l = c .before .before .before .loop in
+    omega (arith, word-within (at-start .args .pool .now) (l .k) (l .left) (l .inv .room) (omega (arith, c .before .before .loop-test .taken)), at-start .good)
+
+loop-less : tie.Need-loop-less Inv-loop μ-loop
+loop-less c = omega (arith, c .before .before .loop-test .taken)
+
 loop-again : tie.Need-loop-again Inv-loop μ-loop
-loop-again c =
-    let start = c .before .before .before .before .before .before in
-    let l = c .before .before .before .before .loop in
-    let a = start .args in (
-      omega arith,
-      omega (
-        arith,
-        c .word-length .ensures,
-        l .inv .1,
-        ap (λ (m : ℕ). length (escaped-all (take m (unpacked (getD (a .pool .now) (a .w + l .i) 0))))) (c .before .least .ensures),
-        text-word-count (a .pool .now) (a .w) (a .n) (start .pre .0) (l .i) (c .before .before .before .loop-test .taken),
-      ),
-    )
+loop-again c = counted-word (c .before .before .before .loop .inv) (c .whole-length .result) (c .before .before .loop-test .taken) (c .whole-length .ensures)
 
 returns : tie.Need-returns Inv-loop μ-loop
 returns c =
-    let start = c .before .before .before in
-    let l = c .before .loop in
-    let a = start .args in
+    let a = c .before .before .before .before .args in
+    counted-end (c .before .before .loop .inv) (c .if1 .taken) ∙ sym (length-plain (text-in (a .pool .now) (a .w) (a .n)))
+
+mul-front-length : tie.Need-mul-front-length Inv-loop μ-loop
+mul-front-length c =
+    let at-start = c .before .before .before .before in
+    let l = c .before .before .loop in
+    omega (arith, word-within (at-start .args .pool .now) (l .k) (l .left) (l .inv .room) (omega (arith, c .if1 .left)), at-start .good)
+
+shared-slice-read-front-length : tie.Need-shared-slice-read-front-length Inv-loop μ-loop
+shared-slice-read-front-length c =
+    let at-start = c .before .before .before .before .before in
+    let l = c .before .before .before .loop in
+    word-within (at-start .args .pool .now) (l .k) (l .left) (l .inv .room) (omega (arith, c .before .if1 .left))
+
+front-length-requires : tie.Need-front-length-requires Inv-loop μ-loop
+front-length-requires c κs =
+    let at-start = c .before .before .before .before .before in
+    let a = at-start .args in
+    let l = c .before .before .loop-test .left in (
+      omega arith,
+      omega (
+        arith,
+        counted-front (c .before .before .before .loop .inv) _ (omega (arith, c .before .if1 .left)) (omega arith) refl,
+        length-plain (text-in (a .pool .now) (a .w) (a .n)),
+        at-start .pre .1,
+      ),
+    )
+
+add-result : tie.Need-add-result Inv-loop μ-loop
+add-result c =
+    let at-loop = c .before .before .before .before in
+    let a = at-loop .before .before .args in
+    let l = c .before .before .before .loop-test .left in
     omega (
       arith,
-      l .inv .1,
+      counted-front (at-loop .loop .inv) (c .front-length .result) (omega (arith, c .before .before .if1 .left)) (omega arith) (c .front-length .ensures),
       length-plain (text-in (a .pool .now) (a .w) (a .n)),
-      ap length (text-all (a .pool .now) (a .w) (a .n) (start .pre .0) (8 * l .i) (c .loop-test .left)),
+      at-loop .before .before .pre .1,
     )
+
+returns-2 : tie.Need-returns-2 Inv-loop μ-loop
+returns-2 c =
+    let at-loop = c .before .before .before .before in
+    let a = at-loop .before .before .args in
+    let l = c .before .before .before .loop-test .left in
+    counted-front (at-loop .loop .inv) (c .front-length .result) (omega (arith, c .before .before .if1 .left)) (omega arith) (c .front-length .ensures)
+    ∙ sym (length-plain (text-in (a .pool .now) (a .w) (a .n)))
 
 pub text-length-spec : {M : Type 1} → statement M
 text-length-spec =
@@ -121,16 +122,16 @@ text-length-spec =
     Inv-loop
     μ-loop
     loop-holds
-    mul-loop
-    add-word-length
-    mul-word-length
-    shared-slice-read-word-length
-    mul-least
-    (λ c. omega arith)
-    (λ c κs. search needs)
-    word-length-requires
+    mul-whole-length
+    shared-slice-read-whole-length
+    whole-length-requires
     add-written
-    (λ c. omega arith)
-    (λ c. omega arith)
+    add-k
+    loop-less
     loop-again
-    returns)
+    returns
+    mul-front-length
+    shared-slice-read-front-length
+    front-length-requires
+    add-result
+    returns-2)

@@ -12,8 +12,8 @@ run-requires c κs =
     let at-start = c .before .before .before .before .before .before .before .before .before in
     let a = at-start .args in (
       long-run (a .limits) (at-start .pre) (a .reader .now) (a .document .now) (replicate 1536 0) (replicate 1536 0) (replicate 1536 0)
-          (replicate 33 0) (replicate 4927 0) (length-replicate {A = ℕ} 1536 0) (length-replicate {A = ℕ} 1536 0) (length-replicate {A = ℕ} 1536 0)
-          (length-replicate {A = ℕ} 33 0) (length-replicate {A = ℕ} 4927 0),
+          (replicate 32 0) (replicate 4927 0) (length-replicate {A = ℕ} 1536 0) (length-replicate {A = ℕ} 1536 0) (length-replicate {A = ℕ} 1536 0)
+          (length-replicate {A = ℕ} 32 0) (length-replicate {A = ℕ} 4927 0),
       (omega (arith, length-replicate {A = ℕ} 1536 0), omega (arith, length-replicate {A = ℕ} 1536 0)),
     )
 

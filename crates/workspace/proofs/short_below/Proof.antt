@@ -10,8 +10,8 @@ below-requires : tie.Need-below-requires
 below-requires c κs =
     let at-start = c .before .before .before .before .before in
     let a = at-start .args in
-    short-pair (a .limits) (at-start .pre .0) (a .first .now) (a .second .now) (replicate 1024 0) (replicate 1024 0) (replicate 256 0)
-    (length-replicate {A = ℕ} 1024 0) (length-replicate {A = ℕ} 1024 0) (length-replicate {A = ℕ} 256 0) (at-start .pre .1 .0) (at-start .pre .1 .1)
+    short-pair (a .limits) (at-start .pre .0) (a .first .now) (a .second .now) (replicate 294 0) (replicate 294 0) (replicate 256 0)
+    (length-replicate {A = ℕ} 294 0) (length-replicate {A = ℕ} 294 0) (length-replicate {A = ℕ} 256 0) (at-start .pre .1 .0) (at-start .pre .1 .1)
 
 pub short-below-spec : {M : Type 1} → statement M
 short-below-spec =

@@ -11,10 +11,10 @@ check-requires : tie.Need-check-requires
 check-requires c κs =
     let at-start = c .before .before .before .before .before .before .before .before .before in
     let a = at-start .args in (
-      short-check (a .limits) (at-start .pre .0) (a .reader .now) (a .shape .now) (replicate 1536 0) (replicate 1024 0) (replicate 1024 0)
-          (replicate 32 0) (replicate 576 0) (length-replicate {A = ℕ} 1536 0) (length-replicate {A = ℕ} 1024 0) (length-replicate {A = ℕ} 1024 0)
-          (length-replicate {A = ℕ} 32 0) (length-replicate {A = ℕ} 576 0) (at-start .pre .1 .0) (at-start .pre .1 .1),
-      (omega (arith, length-replicate {A = ℕ} 1024 0), omega (arith, length-replicate {A = ℕ} 1024 0)),
+      short-check (a .limits) (at-start .pre .0) (a .reader .now) (a .shape .now) (replicate 1023 0) (replicate 294 0) (replicate 1024 0)
+          (replicate 32 0) (replicate 469 0) (length-replicate {A = ℕ} 1023 0) (length-replicate {A = ℕ} 294 0) (length-replicate {A = ℕ} 1024 0)
+          (length-replicate {A = ℕ} 32 0) (length-replicate {A = ℕ} 469 0) (at-start .pre .1 .0) (at-start .pre .1 .1),
+      (omega (arith, length-replicate {A = ℕ} 294 0), omega (arith, length-replicate {A = ℕ} 1024 0)),
     )
 
 pub short-check-spec : {M : Type 1} → statement M

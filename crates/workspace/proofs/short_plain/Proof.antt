@@ -10,8 +10,8 @@ plain-requires : tie.Need-plain-requires
 plain-requires c κs =
     let at-start = c .before .before .before .before .before in
     let a = at-start .args in
-    short-document (a .limits) (at-start .pre .0) (a .document .now) (replicate 768 0) (replicate 287 0)
-    (length-replicate {A = ℕ} 768 0) (length-replicate {A = ℕ} 287 0) (at-start .pre .1)
+    short-document (a .limits) (at-start .pre .0) (a .document .now) (replicate 813 0) (replicate 334 0) (length-replicate {A = ℕ} 813 0)
+    (length-replicate {A = ℕ} 334 0) (at-start .pre .1)
 
 pub short-plain-spec : {M : Type 1} → statement M
 short-plain-spec =

@@ -11,9 +11,9 @@ run-requires : tie.Need-run-requires
 run-requires c κs =
     let at-start = c .before .before .before .before .before .before .before .before .before in
     let a = at-start .args in (
-      short-run (a .limits) (at-start .pre .0) (a .reader .now) (a .document .now) (replicate 1536 0) (replicate 1536 0) (replicate 1536 0)
-          (replicate 33 0) (replicate 1471 0) (length-replicate {A = ℕ} 1536 0) (length-replicate {A = ℕ} 1536 0) (length-replicate {A = ℕ} 1536 0)
-          (length-replicate {A = ℕ} 33 0) (length-replicate {A = ℕ} 1471 0) (at-start .pre .1 .0) (at-start .pre .1 .1),
+      short-run (a .limits) (at-start .pre .0) (a .reader .now) (a .document .now) (replicate 1023 0) (replicate 1536 0) (replicate 1536 0)
+          (replicate 32 0) (replicate 1364 0) (length-replicate {A = ℕ} 1023 0) (length-replicate {A = ℕ} 1536 0) (length-replicate {A = ℕ} 1536 0)
+          (length-replicate {A = ℕ} 32 0) (length-replicate {A = ℕ} 1364 0) (at-start .pre .1 .0) (at-start .pre .1 .1),
       (omega (arith, length-replicate {A = ℕ} 1536 0), omega (arith, length-replicate {A = ℕ} 1536 0)),
     )
 

@@ -14,41 +14,30 @@ returns c =
 
 next-pair-requires : tie.Need-next-pair-requires
 next-pair-requires c κs =
-    let at-if2 = c .before in
-    let at-start = at-if2 .before .before .before .before .before in
-    pairs-known (at-start .args .code) (at-start .args .more) (at-start .args .first) (at-start .args .c) (at-start .pre) (at-if2 .if2 .taken)
+    let at-start = c .before .before .before .before .before .before in
+    pairs-known (at-start .args .code) (at-start .args .more) (at-start .args .first) (at-start .args .c) (at-start .pre) (c .before .if2 .taken)
 
 same-length : tie.Need-same-length
 same-length c =
-    let at-next-pair = c .before .before in
-    at-next-pair .next-pair .ensures .kept .size
+    c .before .before .next-pair .ensures .kept .size
 
 returns-2 : tie.Need-returns-2
 returns-2 c =
-    let at-next-pair = c .before .before in
-    let at-if2 = at-next-pair .before .before in
-    let at-start = at-if2 .before .before .before .before .before in
-    pair-turn (at-start .args .code) (at-start .args .more) (at-start .args .first) (at-start .args .c) (at-start .pre) (at-if2 .if2 .taken)
-    (at-next-pair .next-pair .ensures)
+    let then2 = c .before .before .before .before in
+    let at-start = then2 .before .before .before .before .before in
+    pair-turn (at-start .args .code) (at-start .args .more) (at-start .args .first) (at-start .args .c) (at-start .pre) (then2 .if2 .taken)
+    (c .before .before .next-pair .ensures)
 
 close-form-requires : tie.Need-close-form-requires
 close-form-requires c κs =
-    let at-start = c .before .before .before .before .before .before in
-    at-start .pre .placed
-
-same-length-2 : tie.Need-same-length-2
-same-length-2 c =
-    let at-close-form = c .before .before in
-    at-close-form .close-form .ensures .kept .size
+    let at-start = c .before .before .before .before .before in
+    at-start .pre .placed .within
 
 returns-3 : tie.Need-returns-3
 returns-3 c =
-    let at-close-form = c .before .before in
-    let at-if2 = at-close-form .before .before in
-    let at-if1 = at-if2 .before in
-    let at-start = at-if1 .before .before .before .before in
+    let at-start = c .before .before .before .before .before .before in
     part-end (at-start .args .code) (at-start .args .more) (at-start .args .first) (at-start .args .c) (at-start .pre)
-    (at-close-form .close-form .result) (at-if2 .if2 .left) (at-if1 .if1 .left) (at-close-form .close-form .ensures)
+    (c .close-form .result) (c .before .if2 .left) (c .before .before .if1 .left) (c .close-form .ensures)
 
 pub next-part-spec : {M : Type 1} → statement M
 next-part-spec =
@@ -60,5 +49,4 @@ next-part-spec =
     same-length
     returns-2
     close-form-requires
-    same-length-2
     returns-3)

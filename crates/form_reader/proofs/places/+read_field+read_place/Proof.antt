@@ -75,336 +75,292 @@ read-field-read-text-requires t c κs =
 
 read-field-read-place-requires : (t : ℕ) → read-field-lts.Need-read-place-requires (read-field-claims t) (read-field-at t) read-field.Post
 read-field-read-place-requires t c κs =
-    let at-reference = c .before .before .before in
-    let at-read-text = at-reference .before .before .before .before in
-    let at-start = at-read-text .before .before .before .before .before in (
+    let after-read-text = c .before .before .before .before .before .before .before in
+    let at-start = after-read-text .before .before .before .before .before in (
       omega (arith, at-start .pre .0),
       field-ready (at-start .args .left) (at-start .args .c) (at-start .pre .1)
-          (at-read-text .read-text .ensures) (at-reference .reference .given .1),
+          (after-read-text .read-text .ensures) (c .before .before .before .reference .given .1),
     )
 
 read-field-same-length : (t : ℕ) → read-field-lts.Need-same-length (read-field-claims t) (read-field-at t) read-field.Post
 read-field-same-length t c =
-    let at-read-place = c .before .before .before .before .before .before in
-    at-read-place .read-place .ensures .sized .forms-kept
+    let after-read-place = c .before .before .before .before .before .before in
+    after-read-place .read-place .ensures .sized .forms-kept
 
 read-field-same-length-2 : (t : ℕ) → read-field-lts.Need-same-length-2 (read-field-claims t) (read-field-at t) read-field.Post
 read-field-same-length-2 t c =
-    let at-read-place = c .before .before .before .before .before .before in
-    let at-reference = at-read-place .before .before .before .before in
-    let at-read-text = at-reference .before .before .before .before in
-    let at-start = at-read-text .before .before .before .before .before in
-    place-refused (at-start .args .left) (at-start .args .c) (at-start .pre .1) (at-read-text .read-text .ensures)
-    (at-reference .reference .given .1) (at-read-place .read-place .ensures) (c .enum-told .given .1) .sized .pool-kept
+    let after-read-place = c .before .before .before .before .before .before in
+    let after-reference = after-read-place .before .before .before .before in
+    let after-read-text = after-reference .before .before .before .before in
+    let at-start = after-read-text .before .before .before .before .before in
+    place-refused (at-start .args .left) (at-start .args .c) (at-start .pre .1) (after-read-text .read-text .ensures)
+    (after-reference .reference .given .1) (after-read-place .read-place .ensures) (c .enum-told .given .1) .sized .pool-kept
 
 read-field-returns : (t : ℕ) → read-field-lts.Need-returns (read-field-claims t) (read-field-at t) read-field.Post
 read-field-returns t c =
-    let at-read-place = c .before .before .before .before .before .before in
-    let at-reference = at-read-place .before .before .before .before in
-    let at-read-text = at-reference .before .before .before .before in
-    let at-start = at-read-text .before .before .before .before .before in
-    place-refused (at-start .args .left) (at-start .args .c) (at-start .pre .1) (at-read-text .read-text .ensures)
-    (at-reference .reference .given .1) (at-read-place .read-place .ensures) (c .enum-told .given .1)
+    let after-read-place = c .before .before .before .before .before .before in
+    let after-reference = after-read-place .before .before .before .before in
+    let after-read-text = after-reference .before .before .before .before in
+    let at-start = after-read-text .before .before .before .before .before in
+    place-refused (at-start .args .left) (at-start .args .c) (at-start .pre .1) (after-read-text .read-text .ensures)
+    (after-reference .reference .given .1) (after-read-place .read-place .ensures) (c .enum-told .given .1)
 
 read-field-close-form-requires : (t : ℕ) → read-field-lts.Need-close-form-requires (read-field-claims t) (read-field-at t) read-field.Post
 read-field-close-form-requires t c κs =
-    let at-q = c .before .before in
-    let at-read-place = at-q .before .before .before .before .before .before in
-    let at-reference = at-read-place .before .before .before .before in
-    let at-read-text = at-reference .before .before .before .before in
-    let at-start = at-read-text .before .before .before .before .before in
-    ready-placed (behind-ready (at-start .args .left) (at-start .args .c) (at-start .pre .1) (at-read-text .read-text .ensures)
-    (at-reference .reference .given .1) (at-read-place .read-place .ensures) (at-q .q .given .1))
+    let after-read-place = c .before .before .before .before .before .before .before in
+    let after-reference = after-read-place .before .before .before .before in
+    let after-read-text = after-reference .before .before .before .before in
+    let at-start = after-read-text .before .before .before .before .before in
+    behind-ready (at-start .args .left) (at-start .args .c) (at-start .pre .1) (after-read-text .read-text .ensures) (after-reference .reference .given .1)
+    (after-read-place .read-place .ensures) (c .before .q .given .1) .within
 
 read-field-same-length-3 : (t : ℕ) → read-field-lts.Need-same-length-3 (read-field-claims t) (read-field-at t) read-field.Post
 read-field-same-length-3 t c =
-    let at-close-form = c .before .before .before .before in
-    let at-q = at-close-form .before .before .before in
-    let at-read-place = at-q .before .before .before .before .before .before in
-    let at-reference = at-read-place .before .before .before .before in
-    let at-read-text = at-reference .before .before .before .before in
-    let at-start = at-read-text .before .before .before .before .before in
-    field-open (at-start .args .left) (at-start .args .c) (at-start .pre .1) (at-read-text .read-text .ensures)
-    (at-reference .reference .given .1) (at-read-place .read-place .ensures) (at-q .q .given .1) (at-close-form .close-form .ensures)
+    let after-q = c .before .before .before .before in
+    let after-read-place = after-q .before .before .before .before .before .before in
+    let after-reference = after-read-place .before .before .before .before in
+    let after-read-text = after-reference .before .before .before .before in
+    let at-start = after-read-text .before .before .before .before .before in
+    field-open (at-start .args .left) (at-start .args .c) (at-start .pre .1) (after-read-text .read-text .ensures)
+    (after-reference .reference .given .1) (after-read-place .read-place .ensures) (after-q .q .given .1) (c .before .before .close-form .ensures)
     (c .enum-told2 .given .1) .sized .forms-kept
 
 read-field-same-length-4 : (t : ℕ) → read-field-lts.Need-same-length-4 (read-field-claims t) (read-field-at t) read-field.Post
 read-field-same-length-4 t c =
-    let at-close-form = c .before .before .before .before in
-    let at-q = at-close-form .before .before .before in
-    let at-read-place = at-q .before .before .before .before .before .before in
-    let at-reference = at-read-place .before .before .before .before in
-    let at-read-text = at-reference .before .before .before .before in
-    let at-start = at-read-text .before .before .before .before .before in
-    field-open (at-start .args .left) (at-start .args .c) (at-start .pre .1) (at-read-text .read-text .ensures)
-    (at-reference .reference .given .1) (at-read-place .read-place .ensures) (at-q .q .given .1) (at-close-form .close-form .ensures)
+    let after-q = c .before .before .before .before in
+    let after-read-place = after-q .before .before .before .before .before .before in
+    let after-reference = after-read-place .before .before .before .before in
+    let after-read-text = after-reference .before .before .before .before in
+    let at-start = after-read-text .before .before .before .before .before in
+    field-open (at-start .args .left) (at-start .args .c) (at-start .pre .1) (after-read-text .read-text .ensures)
+    (after-reference .reference .given .1) (after-read-place .read-place .ensures) (after-q .q .given .1) (c .before .before .close-form .ensures)
     (c .enum-told2 .given .1) .sized .pool-kept
 
 read-field-returns-2 : (t : ℕ) → read-field-lts.Need-returns-2 (read-field-claims t) (read-field-at t) read-field.Post
 read-field-returns-2 t c =
-    let at-close-form = c .before .before .before .before in
-    let at-q = at-close-form .before .before .before in
-    let at-read-place = at-q .before .before .before .before .before .before in
-    let at-reference = at-read-place .before .before .before .before in
-    let at-read-text = at-reference .before .before .before .before in
-    let at-start = at-read-text .before .before .before .before .before in
-    field-open (at-start .args .left) (at-start .args .c) (at-start .pre .1) (at-read-text .read-text .ensures)
-    (at-reference .reference .given .1) (at-read-place .read-place .ensures) (at-q .q .given .1) (at-close-form .close-form .ensures)
+    let after-q = c .before .before .before .before in
+    let after-read-place = after-q .before .before .before .before .before .before in
+    let after-reference = after-read-place .before .before .before .before in
+    let after-read-text = after-reference .before .before .before .before in
+    let at-start = after-read-text .before .before .before .before .before in
+    field-open (at-start .args .left) (at-start .args .c) (at-start .pre .1) (after-read-text .read-text .ensures)
+    (after-reference .reference .given .1) (after-read-place .read-place .ensures) (after-q .q .given .1) (c .before .before .close-form .ensures)
     (c .enum-told2 .given .1)
 
 read-field-sub-row : (t : ℕ) → read-field-lts.Need-sub-row (read-field-claims t) (read-field-at t) read-field.Post
 read-field-sub-row t c =
-    let after-q = c .before .before .before .before .before .before .before .before .before in
-    let after-known-told = after-q .before .before .before .before .before .before .before .before .before in
-    let after-read-text = after-known-told .before .before .before .before .before in
-    let at-start = after-read-text .before .before .before .before .before in
+    let after-pool2 = c .before .before .before .before .before .before .before .before .before in
+    let after-reference = after-pool2 .before .before .before .before .before .before .before in
+    let at-start = after-reference .before .before .before .before .before .before .before .before .before in
     omega (arith, at-start .pre .1 .begun)
 
 read-field-mul-row : (t : ℕ) → read-field-lts.Need-mul-row (read-field-claims t) (read-field-at t) read-field.Post
 read-field-mul-row t c =
-    let after-q = c .before .before .before .before .before .before .before .before .before in
-    let after-known-told = after-q .before .before .before .before .before .before .before .before .before in
-    let after-read-text = after-known-told .before .before .before .before .before in
-    let at-start = after-read-text .before .before .before .before .before in
+    let after-pool2 = c .before .before .before .before .before .before .before .before .before in
+    let after-reference = after-pool2 .before .before .before .before .before .before .before in
+    let at-start = after-reference .before .before .before .before .before .before .before .before .before in
     omega (arith, at-start .pre .1 .ready .limit, at-start .pre .1 .ready .few)
 
 read-field-mul-size : (t : ℕ) → read-field-lts.Need-mul-size (read-field-claims t) (read-field-at t) read-field.Post
 read-field-mul-size t c =
-    let at-r = c .before .before .before in
-    let at-close-form = at-r .before .before .before .before in
-    let at-q = at-close-form .before .before .before in
-    let at-read-place = at-q .before .before .before .before .before .before in
-    let at-reference = at-read-place .before .before .before .before in
-    let at-read-text = at-reference .before .before .before .before in
-    let at-start = at-read-text .before .before .before .before .before in
+    let after-close-form = c .before .before .before .before .before in
+    let after-read-place = after-close-form .before .before .before .before .before .before .before .before in
+    let after-reference = after-read-place .before .before .before .before in
+    let after-read-text = after-reference .before .before .before .before in
+    let at-start = after-read-text .before .before .before .before .before in
     omega (
       arith,
-      field-bounds (at-start .args .left) (at-start .args .c) (at-start .pre .1) (at-read-text .read-text .ensures)
-          (at-reference .reference .given .1) (at-read-place .read-place .ensures) (at-q .q .given .1)
-          (at-close-form .close-form .ensures) (at-r .r .given .1) .2,
+      field-bounds (at-start .args .left) (at-start .args .c) (at-start .pre .1) (after-read-text .read-text .ensures)
+          (after-reference .reference .given .1) (after-read-place .read-place .ensures) (after-close-form .before .before .q .given .1)
+          (after-close-form .close-form .ensures) (c .before .before .before .r .given .1) .2,
     )
 
 read-field-sub-size : (t : ℕ) → read-field-lts.Need-sub-size (read-field-claims t) (read-field-at t) read-field.Post
 read-field-sub-size t c =
-    let at-r = c .before .before .before in
-    let at-close-form = at-r .before .before .before .before in
-    let at-q = at-close-form .before .before .before in
-    let at-read-place = at-q .before .before .before .before .before .before in
-    let at-reference = at-read-place .before .before .before .before in
-    let at-read-text = at-reference .before .before .before .before in
-    let at-start = at-read-text .before .before .before .before .before in
+    let after-close-form = c .before .before .before .before .before in
+    let after-read-place = after-close-form .before .before .before .before .before .before .before .before in
+    let after-reference = after-read-place .before .before .before .before in
+    let after-read-text = after-reference .before .before .before .before in
+    let at-start = after-read-text .before .before .before .before .before in
     omega (
       arith,
-      field-bounds (at-start .args .left) (at-start .args .c) (at-start .pre .1) (at-read-text .read-text .ensures)
-          (at-reference .reference .given .1) (at-read-place .read-place .ensures) (at-q .q .given .1)
-          (at-close-form .close-form .ensures) (at-r .r .given .1) .1,
+      field-bounds (at-start .args .left) (at-start .args .c) (at-start .pre .1) (after-read-text .read-text .ensures)
+          (after-reference .reference .given .1) (after-read-place .read-place .ensures) (after-close-form .before .before .q .given .1)
+          (after-close-form .close-form .ensures) (c .before .before .before .r .given .1) .1,
     )
 
 read-field-put-row-requires : (t : ℕ) → read-field-lts.Need-put-row-requires (read-field-claims t) (read-field-at t) read-field.Post
 read-field-put-row-requires t c κs =
-    let at-r = c .before .before .before .before in
-    let at-close-form = at-r .before .before .before .before in
-    let at-q = at-close-form .before .before .before in
-    let at-read-place = at-q .before .before .before .before .before .before in
-    let at-reference = at-read-place .before .before .before .before in
-    let at-read-text = at-reference .before .before .before .before in
-    let at-start = at-read-text .before .before .before .before .before in
-    let f = field-bounds (at-start .args .left) (at-start .args .c) (at-start .pre .1) (at-read-text .read-text .ensures)
-    (at-reference .reference .given .1) (at-read-place .read-place .ensures) (at-q .q .given .1) (at-close-form .close-form .ensures)
-    (at-r .r .given .1) in (f .0, omega (arith, f .2, f .4))
+    let after-r = c .before .before .before .before in
+    let after-q = after-r .before .before .before .before in
+    let after-read-place = after-q .before .before .before .before .before .before in
+    let after-reference = after-read-place .before .before .before .before in
+    let after-read-text = after-reference .before .before .before .before in
+    let at-start = after-read-text .before .before .before .before .before in
+    let f = field-bounds (at-start .args .left) (at-start .args .c) (at-start .pre .1) (after-read-text .read-text .ensures)
+    (after-reference .reference .given .1) (after-read-place .read-place .ensures) (after-q .q .given .1) (after-r .before .before .close-form .ensures)
+    (after-r .r .given .1) in (f .0, omega (arith, f .2, f .4))
 
 read-field-same-length-5 : (t : ℕ) → read-field-lts.Need-same-length-5 (read-field-claims t) (read-field-at t) read-field.Post
 read-field-same-length-5 t c =
-    let at-put-row = c .before .before in
-    let at-r = at-put-row .before .before .before .before .before in
-    let at-close-form = at-r .before .before .before .before in
-    let at-q = at-close-form .before .before .before in
-    let at-read-place = at-q .before .before .before .before .before .before in
-    let at-reference = at-read-place .before .before .before .before in
-    let at-read-text = at-reference .before .before .before .before in
-    let at-start = at-read-text .before .before .before .before .before in
-    field-read (at-start .args .left) (at-start .args .c) (at-start .pre .1) (at-read-text .read-text .ensures)
-    (at-reference .reference .given .1) (at-read-place .read-place .ensures) (at-q .q .given .1) (at-close-form .close-form .ensures)
-    (at-r .r .given .1) (at-put-row .put-row .ensures) .sized .forms-kept
+    let after-r = c .before .before .before .before .before .before .before in
+    let after-q = after-r .before .before .before .before in
+    let after-read-place = after-q .before .before .before .before .before .before in
+    let after-reference = after-read-place .before .before .before .before in
+    let after-read-text = after-reference .before .before .before .before in
+    let at-start = after-read-text .before .before .before .before .before in
+    field-read (at-start .args .left) (at-start .args .c) (at-start .pre .1) (after-read-text .read-text .ensures)
+    (after-reference .reference .given .1) (after-read-place .read-place .ensures) (after-q .q .given .1) (after-r .before .before .close-form .ensures)
+    (after-r .r .given .1) (c .before .before .put-row .ensures) .sized .forms-kept
 
 read-field-same-length-6 : (t : ℕ) → read-field-lts.Need-same-length-6 (read-field-claims t) (read-field-at t) read-field.Post
 read-field-same-length-6 t c =
-    let at-put-row = c .before .before in
-    let at-r = at-put-row .before .before .before .before .before in
-    let at-close-form = at-r .before .before .before .before in
-    let at-q = at-close-form .before .before .before in
-    let at-read-place = at-q .before .before .before .before .before .before in
-    let at-reference = at-read-place .before .before .before .before in
-    let at-read-text = at-reference .before .before .before .before in
-    let at-start = at-read-text .before .before .before .before .before in
-    field-read (at-start .args .left) (at-start .args .c) (at-start .pre .1) (at-read-text .read-text .ensures)
-    (at-reference .reference .given .1) (at-read-place .read-place .ensures) (at-q .q .given .1) (at-close-form .close-form .ensures)
-    (at-r .r .given .1) (at-put-row .put-row .ensures) .sized .pool-kept
+    let after-r = c .before .before .before .before .before .before .before in
+    let after-q = after-r .before .before .before .before in
+    let after-read-place = after-q .before .before .before .before .before .before in
+    let after-reference = after-read-place .before .before .before .before in
+    let after-read-text = after-reference .before .before .before .before in
+    let at-start = after-read-text .before .before .before .before .before in
+    field-read (at-start .args .left) (at-start .args .c) (at-start .pre .1) (after-read-text .read-text .ensures)
+    (after-reference .reference .given .1) (after-read-place .read-place .ensures) (after-q .q .given .1) (after-r .before .before .close-form .ensures)
+    (after-r .r .given .1) (c .before .before .put-row .ensures) .sized .pool-kept
 
 read-field-returns-3 : (t : ℕ) → read-field-lts.Need-returns-3 (read-field-claims t) (read-field-at t) read-field.Post
 read-field-returns-3 t c =
-    let at-put-row = c .before .before in
-    let at-r = at-put-row .before .before .before .before .before in
-    let at-close-form = at-r .before .before .before .before in
-    let at-q = at-close-form .before .before .before in
-    let at-read-place = at-q .before .before .before .before .before .before in
-    let at-reference = at-read-place .before .before .before .before in
-    let at-read-text = at-reference .before .before .before .before in
-    let at-start = at-read-text .before .before .before .before .before in
-    field-read (at-start .args .left) (at-start .args .c) (at-start .pre .1) (at-read-text .read-text .ensures)
-    (at-reference .reference .given .1) (at-read-place .read-place .ensures) (at-q .q .given .1) (at-close-form .close-form .ensures)
-    (at-r .r .given .1) (at-put-row .put-row .ensures)
+    let after-r = c .before .before .before .before .before .before .before in
+    let after-q = after-r .before .before .before .before in
+    let after-read-place = after-q .before .before .before .before .before .before in
+    let after-reference = after-read-place .before .before .before .before in
+    let after-read-text = after-reference .before .before .before .before in
+    let at-start = after-read-text .before .before .before .before .before in
+    field-read (at-start .args .left) (at-start .args .c) (at-start .pre .1) (after-read-text .read-text .ensures)
+    (after-reference .reference .given .1) (after-read-place .read-place .ensures) (after-q .q .given .1) (after-r .before .before .close-form .ensures)
+    (after-r .r .given .1) (c .before .before .put-row .ensures)
 
 read-field-same-length-7 : (t : ℕ) → read-field-lts.Need-same-length-7 (read-field-claims t) (read-field-at t) read-field.Post
 read-field-same-length-7 t c =
-    let at-read-text = c .before .before .before .before .before in
-    at-read-text .read-text .ensures .kept .size
+    let after-read-text = c .before .before .before .before .before in
+    after-read-text .read-text .ensures .kept .size
 
 read-field-returns-4 : (t : ℕ) → read-field-lts.Need-returns-4 (read-field-claims t) (read-field-at t) read-field.Post
 read-field-returns-4 t c =
-    let at-at = c .before in
-    let at-read-text = at-at .before .before .before .before in
-    let at-start = at-read-text .before .before .before .before .before in
-    name-refused (at-start .args .left) (at-start .args .c) (at-start .pre .1) (at-read-text .read-text .ensures) (at-at .at .given .1)
+    let after-read-text = c .before .before .before .before .before in
+    let at-start = after-read-text .before .before .before .before .before in
+    name-refused (at-start .args .left) (at-start .args .c) (at-start .pre .1) (after-read-text .read-text .ensures) (c .before .at .given .1)
 
 read-place-begin-form-requires : (t : ℕ) → read-place-lts.Need-begin-form-requires (read-place-claims t) (read-place-at t) read-place.Post
-read-place-begin-form-requires t c κs =
-    let at-start = c .before .before .before .before in
-    ready-placed (at-start .pre .1)
+read-place-begin-form-requires t c κs = c .before .before .before .pre .1 .within
 
-read-place-add-t19 : (t : ℕ) → read-place-lts.Need-add-t19 (read-place-claims t) (read-place-at t) read-place.Post
-read-place-add-t19 t c =
-    let at-place = c .before .before in
-    let at-begin-form = at-place .before .before .before .before in
-    let at-start = at-begin-form .before .before .before .before .before in
+read-place-add-t17 : (t : ℕ) → read-place-lts.Need-add-t17 (read-place-claims t) (read-place-at t) read-place.Post
+read-place-add-t17 t c =
+    let after-begin-form = c .before .before .before .before in
+    let at-start = after-begin-form .before .before .before .before in
     omega (
       arith,
-      worded (at-start .args .left) (at-start .args .c) (at-start .pre .1) (at-begin-form .begin-form .ensures)
-          (at-place .place .given .1) .bracket .begun,
+      worded (at-start .args .left) (at-start .args .c) (at-start .pre .1) (after-begin-form .begin-form .ensures)
+          (c .before .before .place .given .1) .bracket .begun,
       at-start .pre .1 .few,
     )
 
 read-place-place-code-requires : (t : ℕ) → read-place-lts.Need-place-code-requires (read-place-claims t) (read-place-at t) read-place.Post
 read-place-place-code-requires t c κs =
-    let at-place = c .before .before in
-    let at-begin-form = at-place .before .before .before .before in
-    let at-start = at-begin-form .before .before .before .before .before in
-    let f = worded (at-start .args .left) (at-start .args .c) (at-start .pre .1) (at-begin-form .begin-form .ensures)
-    (at-place .place .given .1) .found in (omega (arith, f .ahead), f .within)
+    let after-begin-form = c .before .before .before .before in
+    let at-start = after-begin-form .before .before .before .before in
+    let f = worded (at-start .args .left) (at-start .args .c) (at-start .pre .1) (after-begin-form .begin-form .ensures)
+    (c .before .before .place .given .1) .found in (omega (arith, f .ahead), f .within)
 
 read-place-read-it-requires : (t : ℕ) → read-place-lts.Need-read-it-requires (read-place-claims t) (read-place-at t) read-place.Post
 read-place-read-it-requires t c κs =
-    let at-place = c .before .before .before .before .before .before in
-    let at-begin-form = at-place .before .before .before .before in
-    let at-start = at-begin-form .before .before .before .before .before in
-    behind-word (at-start .args .left) (at-start .args .c) (at-start .pre .1) (at-begin-form .begin-form .ensures) (at-place .place .given .1)
+    let after-place = c .before .before .before .before .before .before in
+    let at-start = after-place .before .before .before .before .before .before in
+    behind-word (at-start .args .left) (at-start .args .c) (at-start .pre .1) (after-place .before .before .begin-form .ensures) (after-place .place .given .1)
 
 read-place-same-length : (t : ℕ) → read-place-lts.Need-same-length (read-place-claims t) (read-place-at t) read-place.Post
 read-place-same-length t c =
-    let at-read-it = c .before .before .before .before in
-    at-read-it .read-it .ensures .sized .forms-kept
+    let after-read-it = c .before .before .before .before in
+    after-read-it .read-it .ensures .sized .forms-kept
 
 read-place-same-length-2 : (t : ℕ) → read-place-lts.Need-same-length-2 (read-place-claims t) (read-place-at t) read-place.Post
 read-place-same-length-2 t c =
-    let at-read-it = c .before .before .before .before in
-    let at-if1 = at-read-it .before .before .before in
-    let at-place-code = at-if1 .before in
-    let at-place = at-place-code .before .before .before in
-    let at-begin-form = at-place .before .before .before .before in
-    let at-start = at-begin-form .before .before .before .before .before in
-    it-placed (at-start .args .left) (at-start .args .c) (at-start .pre .1) (at-begin-form .begin-form .ensures) (at-place .place .given .1)
-    (at-place-code .place-code .ensures) (at-if1 .if1 .taken) (at-read-it .read-it .ensures) .sized .pool-kept
+    let after-read-it = c .before .before .before .before in
+    let after-place-code = after-read-it .before .before .before .before in
+    let after-begin-form = after-place-code .before .before .before .before .before in
+    let at-start = after-begin-form .before .before .before .before in
+    it-placed (at-start .args .left) (at-start .args .c) (at-start .pre .1) (after-begin-form .begin-form .ensures)
+    (after-place-code .before .before .before .place .given .1)
+    (after-place-code .place-code .ensures) (after-read-it .before .before .before .if1 .taken) (after-read-it .read-it .ensures) .sized .pool-kept
 
 read-place-returns : (t : ℕ) → read-place-lts.Need-returns (read-place-claims t) (read-place-at t) read-place.Post
 read-place-returns t c =
-    let at-read-it = c .before .before .before .before in
-    let at-if1 = at-read-it .before .before .before in
-    let at-place-code = at-if1 .before in
-    let at-place = at-place-code .before .before .before in
-    let at-begin-form = at-place .before .before .before .before in
-    let at-start = at-begin-form .before .before .before .before .before in
-    it-placed (at-start .args .left) (at-start .args .c) (at-start .pre .1) (at-begin-form .begin-form .ensures) (at-place .place .given .1)
-    (at-place-code .place-code .ensures) (at-if1 .if1 .taken) (at-read-it .read-it .ensures)
+    let after-read-it = c .before .before .before .before in
+    let after-place-code = after-read-it .before .before .before .before in
+    let after-begin-form = after-place-code .before .before .before .before .before in
+    let at-start = after-begin-form .before .before .before .before in
+    it-placed (at-start .args .left) (at-start .args .c) (at-start .pre .1) (after-begin-form .begin-form .ensures)
+    (after-place-code .before .before .before .place .given .1)
+    (after-place-code .place-code .ensures) (after-read-it .before .before .before .if1 .taken) (after-read-it .read-it .ensures)
 
 read-place-sub-read-field : (t : ℕ) → read-place-lts.Need-sub-read-field (read-place-claims t) (read-place-at t) read-place.Post
 read-place-sub-read-field t c =
-    let at-place = c .before .before .before .before .before .before .before in
-    let at-begin-form = at-place .before .before .before .before in
-    let at-start = at-begin-form .before .before .before .before .before in
+    let after-place = c .before .before .before .before .before .before .before in
+    let at-start = after-place .before .before .before .before .before .before in
     omega (
       arith,
-      worded (at-start .args .left) (at-start .args .c) (at-start .pre .1) (at-begin-form .begin-form .ensures)
-          (at-place .place .given .1) .bracket .nested,
+      worded (at-start .args .left) (at-start .args .c) (at-start .pre .1) (after-place .before .before .begin-form .ensures)
+          (after-place .place .given .1) .bracket .nested,
     )
 
 read-place-read-field-requires : (t : ℕ) → read-place-lts.Need-read-field-requires (read-place-claims t) (read-place-at t) read-place.Post
 read-place-read-field-requires t c κs =
-    let at-place = c .before .before .before .before .before .before .before in
-    let at-begin-form = at-place .before .before .before .before in
-    let at-start = at-begin-form .before .before .before .before .before in (
+    let after-place = c .before .before .before .before .before .before .before in
+    let after-begin-form = after-place .before .before in
+    let at-start = after-begin-form .before .before .before .before in (
       omega (
         arith,
         at-start .pre .0,
         worded (at-start .args .left) (at-start .args .c) (at-start .pre .1)
-            (at-begin-form .begin-form .ensures) (at-place .place .given .1) .bracket .nested,
+            (after-begin-form .begin-form .ensures) (after-place .place .given .1) .bracket .nested,
       ),
       behind-word (at-start .args .left)
-          (at-start .args .c) (at-start .pre .1) (at-begin-form .begin-form .ensures) (at-place .place .given .1),
+          (at-start .args .c) (at-start .pre .1) (after-begin-form .begin-form .ensures) (after-place .place .given .1),
     )
 
 read-place-same-length-3 : (t : ℕ) → read-place-lts.Need-same-length-3 (read-place-claims t) (read-place-at t) read-place.Post
 read-place-same-length-3 t c =
-    let at-read-field = c .before .before .before .before in
-    at-read-field .read-field .ensures .sized .forms-kept
+    let after-read-field = c .before .before .before .before in
+    after-read-field .read-field .ensures .sized .forms-kept
 
 read-place-same-length-4 : (t : ℕ) → read-place-lts.Need-same-length-4 (read-place-claims t) (read-place-at t) read-place.Post
 read-place-same-length-4 t c =
-    let at-read-field = c .before .before .before .before in
-    let at-if2 = at-read-field .before .before .before in
-    let at-place-code = at-if2 .before .before in
-    let at-place = at-place-code .before .before .before in
-    let at-begin-form = at-place .before .before .before .before in
-    let at-start = at-begin-form .before .before .before .before .before in
-    field-placed (at-start .args .left) (at-start .args .c) (at-start .pre .1) (at-begin-form .begin-form .ensures)
-    (at-place .place .given .1) (at-place-code .place-code .ensures) (at-if2 .if2 .taken) (at-read-field .read-field .ensures) .sized .pool-kept
+    let after-read-field = c .before .before .before .before in
+    let after-place-code = after-read-field .before .before .before .before .before in
+    let after-begin-form = after-place-code .before .before .before .before .before in
+    let at-start = after-begin-form .before .before .before .before in
+    field-placed (at-start .args .left) (at-start .args .c) (at-start .pre .1) (after-begin-form .begin-form .ensures)
+    (after-place-code .before .before .before .place .given .1) (after-place-code .place-code .ensures) (after-read-field .before .before .before .if2 .taken)
+    (after-read-field .read-field .ensures) .sized .pool-kept
 
 read-place-returns-2 : (t : ℕ) → read-place-lts.Need-returns-2 (read-place-claims t) (read-place-at t) read-place.Post
 read-place-returns-2 t c =
-    let at-read-field = c .before .before .before .before in
-    let at-if2 = at-read-field .before .before .before in
-    let at-place-code = at-if2 .before .before in
-    let at-place = at-place-code .before .before .before in
-    let at-begin-form = at-place .before .before .before .before in
-    let at-start = at-begin-form .before .before .before .before .before in
-    field-placed (at-start .args .left) (at-start .args .c) (at-start .pre .1) (at-begin-form .begin-form .ensures)
-    (at-place .place .given .1) (at-place-code .place-code .ensures) (at-if2 .if2 .taken) (at-read-field .read-field .ensures)
-
-read-place-same-length-5 : (t : ℕ) → read-place-lts.Need-same-length-5 (read-place-claims t) (read-place-at t) read-place.Post
-read-place-same-length-5 t c =
-    let at-begin-form = c .before .before .before .before .before .before .before .before .before in
-    at-begin-form .begin-form .ensures .kept .size
+    let after-read-field = c .before .before .before .before in
+    let after-place-code = after-read-field .before .before .before .before .before in
+    let after-begin-form = after-place-code .before .before .before .before .before in
+    let at-start = after-begin-form .before .before .before .before in
+    field-placed (at-start .args .left) (at-start .args .c) (at-start .pre .1) (after-begin-form .begin-form .ensures)
+    (after-place-code .before .before .before .place .given .1) (after-place-code .place-code .ensures) (after-read-field .before .before .before .if2 .taken)
+    (after-read-field .read-field .ensures)
 
 read-place-returns-3 : (t : ℕ) → read-place-lts.Need-returns-3 (read-place-claims t) (read-place-at t) read-place.Post
 read-place-returns-3 t c =
-    let at-if1 = c .before in
-    let at-place-code = at-if1 .before in
-    let at-place = at-place-code .before .before .before in
-    let at-begin-form = at-place .before .before .before .before in
-    let at-start = at-begin-form .before .before .before .before .before in
-    no-place (at-start .args .left) (at-start .args .c) (at-start .pre .1) (at-begin-form .begin-form .ensures) (at-place .place .given .1)
-    (at-place-code .place-code .ensures) (at-if1 .if1 .left) (c .if2 .left)
-
-read-place-same-length-6 : (t : ℕ) → read-place-lts.Need-same-length-6 (read-place-claims t) (read-place-at t) read-place.Post
-read-place-same-length-6 t c =
-    let at-begin-form = c .before .before .before .before .before in
-    at-begin-form .begin-form .ensures .kept .size
+    let after-place = c .before .before .before .before .before in
+    let at-start = after-place .before .before .before .before .before .before in
+    no-place (at-start .args .left) (at-start .args .c) (at-start .pre .1) (after-place .before .before .begin-form .ensures) (after-place .place .given .1)
+    (c .before .before .place-code .ensures) (c .before .if1 .left) (c .if2 .left)
 
 read-place-returns-4 : (t : ℕ) → read-place-lts.Need-returns-4 (read-place-claims t) (read-place-at t) read-place.Post
 read-place-returns-4 t c =
-    let at-number = c .before in
-    let at-begin-form = at-number .before .before .before .before in
-    let at-start = at-begin-form .before .before .before .before .before in
-    begin-refused (at-start .args .left) (at-start .args .c) (at-start .pre .1) (at-begin-form .begin-form .ensures) (at-number .number .given .1)
+    let at-start = c .before .before .before .before .before .before .before in
+    begin-refused (at-start .args .left) (at-start .args .c) (at-start .pre .1) (c .before .before .before .begin-form .ensures) (c .before .number .given .1)
 
 pub +read-field+read-place-spec : {M : Type 1} → statement M
 +read-field+read-place-spec = close μ-read-field μ-read-place (λ t. read-field-lts.spec (read-field-claims t)
@@ -438,7 +394,7 @@ pub +read-field+read-place-spec : {M : Type 1} → statement M
     read-place.Post
     (read-place-begin-form-requires t)
     (λ c. search needs)
-    (read-place-add-t19 t)
+    (read-place-add-t17 t)
     (read-place-place-code-requires t)
     (read-place-read-it-requires t)
     (read-place-same-length t)
@@ -450,7 +406,5 @@ pub +read-field+read-place-spec : {M : Type 1} → statement M
     (read-place-same-length-4 t)
     (read-place-returns-2 t)
     (λ c. search needs)
-    (read-place-same-length-5 t)
     (read-place-returns-3 t)
-    (read-place-same-length-6 t)
     (read-place-returns-4 t)

@@ -1,42 +1,40 @@
 -- `form_reader::words::place_code` meets its contract. Assumes nothing.
 use borrow.Author.Needs.{needs}
-use mathlib.Core.Path.{sym, _∙_}
+use mathlib.Core.Path.{refl}
 use Rattle.definitions.specs.Bytes.{bytes}
 use Rattle.tokens.specs.TokenRead.{word-in}
+use Rattle.tokens.specs.WordValues.{joined, word-value, fits}
 use Rattle.form_reader.proofs.WordTables.{it-told, field-told, no-place-told}
 use Rattle.form_reader.proofs.words.place_code.Statement.{statement}
 use Rattle.form_reader.proofs.words.place_code.Tie as tie
 
 returns : tie.Need-returns
-unfolding bytes
+unfolding bytes word-value joined fits
 returns c =
-    let at-is-word = c .before in
-    let at-start = at-is-word .before .before .before in
-    it-told (word-in (at-start .args .text .now) (at-start .args .at) (at-start .args .end)) (sym (at-is-word .is-word .ensures) ∙ c .if1 .taken)
+    let at-start = c .before .before .before in
+    it-told (word-in (at-start .args .text .now) (at-start .args .at) (at-start .args .end))
+    (c .before .word-value .ensures .is (bytes "it") refl (c .match .keys1))
 
 returns-2 : tie.Need-returns-2
-unfolding bytes
+unfolding bytes word-value joined fits
 returns-2 c =
-    let at-is-word2 = c .before in
-    let at-start = at-is-word2 .before .before .before .before .before .before in
-    field-told (word-in (at-start .args .text .now) (at-start .args .at) (at-start .args .end)) (sym (at-is-word2 .is-word2 .ensures) ∙ c .if2 .taken)
+    let at-start = c .before .before .before in
+    field-told (word-in (at-start .args .text .now) (at-start .args .at) (at-start .args .end))
+    (c .before .word-value .ensures .is (bytes "field") refl (c .match .keys2))
 
 returns-3 : tie.Need-returns-3
-unfolding bytes
+unfolding bytes word-value joined fits
 returns-3 c =
-    let at-is-word2 = c .before in
-    let at-if1 = at-is-word2 .before .before in
-    let at-is-word = at-if1 .before in
-    let at-start = at-is-word .before .before .before in
-    no-place-told (word-in (at-start .args .text .now) (at-start .args .at) (at-start .args .end)) (sym
-    (at-is-word .is-word .ensures) ∙ at-if1 .if1 .left) (sym (at-is-word2 .is-word2 .ensures) ∙ c .if2 .left)
+    let at-start = c .before .before .before in
+    no-place-told (word-in (at-start .args .text .now) (at-start .args .at) (at-start .args .end))
+    (c .before .word-value .ensures .other (bytes "it") refl (c .match .rest .0 .1))
+    (c .before .word-value .ensures .other (bytes "field") refl (c .match .rest .1))
 
 pub place-code-spec : {M : Type 1} → statement M
 place-code-spec =
     tie.close
     (tie.spec
-    (λ c. search needs) (λ c κs. search needs)
+    (λ c κs. search needs)
     returns
-    (λ c. search needs) (λ c κs. search needs)
     returns-2
     returns-3)

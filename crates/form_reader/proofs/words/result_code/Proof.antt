@@ -1,130 +1,96 @@
 -- `form_reader::words::result_code` meets its contract. Assumes nothing.
 use borrow.Author.Needs.{needs}
-use mathlib.Core.Path.{sym, _∙_}
+use mathlib.Core.Path.{refl}
 use Rattle.definitions.specs.Bytes.{bytes}
 use Rattle.tokens.specs.TokenRead.{word-in}
+use Rattle.tokens.specs.WordValues.{joined, word-value, fits}
 use Rattle.form_reader.proofs.WordTables.{when-says, if-says, num-says, str-says, yes-says, no-says, none-says, pack-says, use-says}
 use Rattle.form_reader.proofs.words.result_code.Statement.{statement}
 use Rattle.form_reader.proofs.words.result_code.Tie as tie
 
 returns : tie.Need-returns
-unfolding bytes
+unfolding bytes word-value joined fits
 returns c =
-    let at-is-word = c .before in
-    let at-start = at-is-word .before .before .before in
-    when-says (word-in (at-start .args .text .now) (at-start .args .at) (at-start .args .end)) (sym (at-is-word .is-word .ensures) ∙ c .if1 .taken)
+    let at-start = c .before .before .before in
+    when-says (word-in (at-start .args .text .now) (at-start .args .at) (at-start .args .end))
+    (c .before .word-value .ensures .is (bytes "when") refl (c .match .keys1))
 
 returns-2 : tie.Need-returns-2
-unfolding bytes
+unfolding bytes word-value joined fits
 returns-2 c =
-    let at-is-word2 = c .before in
-    let at-start = at-is-word2 .before .before .before .before .before .before in
-    if-says (word-in (at-start .args .text .now) (at-start .args .at) (at-start .args .end)) (sym (at-is-word2 .is-word2 .ensures) ∙ c .if2 .taken)
+    let at-start = c .before .before .before in
+    if-says (word-in (at-start .args .text .now) (at-start .args .at) (at-start .args .end))
+    (c .before .word-value .ensures .is (bytes "if") refl (c .match .keys2))
 
 returns-3 : tie.Need-returns-3
-unfolding bytes
+unfolding bytes word-value joined fits
 returns-3 c =
-    let at-is-word3 = c .before in
-    let near-at-start = at-is-word3 .before .before .before .before .before .before .before .before in
-    let at-start = near-at-start .before in
-    num-says (word-in (at-start .args .text .now) (at-start .args .at) (at-start .args .end)) (sym (at-is-word3 .is-word3 .ensures) ∙ c .if3 .taken)
+    let at-start = c .before .before .before in
+    num-says (word-in (at-start .args .text .now) (at-start .args .at) (at-start .args .end))
+    (c .before .word-value .ensures .is (bytes "num") refl (c .match .keys3))
 
 returns-4 : tie.Need-returns-4
-unfolding bytes
+unfolding bytes word-value joined fits
 returns-4 c =
-    let at-is-word4 = c .before in
-    let near-at-start = at-is-word4 .before .before .before .before .before .before .before .before in
-    let at-start = near-at-start .before .before .before .before in
-    str-says (word-in (at-start .args .text .now) (at-start .args .at) (at-start .args .end)) (sym (at-is-word4 .is-word4 .ensures) ∙ c .if4 .taken)
+    let at-start = c .before .before .before in
+    str-says (word-in (at-start .args .text .now) (at-start .args .at) (at-start .args .end))
+    (c .before .word-value .ensures .is (bytes "str") refl (c .match .keys4))
 
 returns-5 : tie.Need-returns-5
-unfolding bytes
+unfolding bytes word-value joined fits
 returns-5 c =
-    let at-is-word5 = c .before in
-    let near-at-start = at-is-word5 .before .before .before .before .before .before .before .before in
-    let at-start = near-at-start .before .before .before .before .before .before .before in
-    yes-says (word-in (at-start .args .text .now) (at-start .args .at) (at-start .args .end)) (sym (at-is-word5 .is-word5 .ensures) ∙ c .if5 .taken)
+    let at-start = c .before .before .before in
+    yes-says (word-in (at-start .args .text .now) (at-start .args .at) (at-start .args .end))
+    (c .before .word-value .ensures .is (bytes "yes") refl (c .match .keys5))
 
 returns-6 : tie.Need-returns-6
-unfolding bytes
+unfolding bytes word-value joined fits
 returns-6 c =
-    let at-is-word6 = c .before in
-    let near-at-start = at-is-word6 .before .before .before .before .before .before .before .before in
-    let further-at-start = near-at-start .before .before .before .before .before .before .before .before in
-    let at-start = further-at-start .before .before in
-    no-says (word-in (at-start .args .text .now) (at-start .args .at) (at-start .args .end)) (sym (at-is-word6 .is-word6 .ensures) ∙ c .if6 .taken)
+    let at-start = c .before .before .before in
+    no-says (word-in (at-start .args .text .now) (at-start .args .at) (at-start .args .end))
+    (c .before .word-value .ensures .is (bytes "no") refl (c .match .keys6))
 
 returns-7 : tie.Need-returns-7
-unfolding bytes
+unfolding bytes word-value joined fits
 returns-7 c =
-    let at-is-word7 = c .before in
-    let near-at-start = at-is-word7 .before .before .before .before .before .before .before .before in
-    let further-at-start = near-at-start .before .before .before .before .before .before .before .before in
-    let at-start = further-at-start .before .before .before .before .before in
-    none-says (word-in (at-start .args .text .now) (at-start .args .at) (at-start .args .end)) (sym (at-is-word7 .is-word7 .ensures) ∙ c .if7 .taken)
+    let at-start = c .before .before .before in
+    none-says (word-in (at-start .args .text .now) (at-start .args .at) (at-start .args .end))
+    (c .before .word-value .ensures .is (bytes "none") refl (c .match .keys7))
 
 returns-8 : tie.Need-returns-8
-unfolding bytes
+unfolding bytes word-value joined fits
 returns-8 c =
-    let at-is-word8 = c .before in
-    let near-at-start = at-is-word8 .before .before .before .before .before .before .before .before in
-    let further-at-start = near-at-start .before .before .before .before .before .before .before .before in
-    let at-start = further-at-start .before .before .before .before .before .before .before .before in
-    pack-says (word-in (at-start .args .text .now) (at-start .args .at) (at-start .args .end)) (sym (at-is-word8 .is-word8 .ensures) ∙ c .if8 .taken)
-
-use-code-requires : tie.Need-use-code-requires
-use-code-requires c κs =
-    let near-at-start = c .before .before .before .before .before .before .before .before in
-    let further-at-start = near-at-start .before .before .before .before .before .before .before .before in
-    let far-at-start = further-at-start .before .before .before .before .before .before .before .before in
-    let at-start = far-at-start .before in
-    at-start .pre
+    let at-start = c .before .before .before in
+    pack-says (word-in (at-start .args .text .now) (at-start .args .at) (at-start .args .end))
+    (c .before .word-value .ensures .is (bytes "pack") refl (c .match .keys8))
 
 returns-9 : tie.Need-returns-9
-unfolding bytes
+unfolding bytes word-value joined fits
 returns-9 c =
-    let at-if8 = c .before in
-    let at-is-word8 = at-if8 .before in
-    let at-if7 = at-is-word8 .before .before in
-    let at-is-word7 = at-if7 .before in
-    let at-if6 = at-is-word7 .before .before in
-    let at-is-word6 = at-if6 .before in
-    let at-if5 = at-is-word6 .before .before in
-    let at-is-word5 = at-if5 .before in
-    let at-if4 = at-is-word5 .before .before in
-    let at-is-word4 = at-if4 .before in
-    let at-if3 = at-is-word4 .before .before in
-    let at-is-word3 = at-if3 .before in
-    let at-if2 = at-is-word3 .before .before in
-    let at-is-word2 = at-if2 .before in
-    let at-if1 = at-is-word2 .before .before in
-    let at-is-word = at-if1 .before in
-    let at-start = at-is-word .before .before .before in
-    use-says (word-in (at-start .args .text .now) (at-start .args .at) (at-start .args .end)) (c .use-code .ensures) (sym
-    (at-is-word .is-word .ensures) ∙ at-if1 .if1 .left) (sym (at-is-word2 .is-word2 .ensures) ∙ at-if2 .if2 .left) (sym
-    (at-is-word3 .is-word3 .ensures) ∙ at-if3 .if3 .left) (sym (at-is-word4 .is-word4 .ensures) ∙ at-if4 .if4 .left) (sym
-    (at-is-word5 .is-word5 .ensures) ∙ at-if5 .if5 .left) (sym (at-is-word6 .is-word6 .ensures) ∙ at-if6 .if6 .left) (sym
-    (at-is-word7 .is-word7 .ensures) ∙ at-if7 .if7 .left) (sym (at-is-word8 .is-word8 .ensures) ∙ at-if8 .if8 .left)
+    let after-word-value = c .before .before in
+    let at-start = after-word-value .before .before in
+    use-says (word-in (at-start .args .text .now) (at-start .args .at) (at-start .args .end))
+    (c .use-code .ensures (word-in (at-start .args .text .now) (at-start .args .at) (at-start .args .end)) (after-word-value .word-value .ensures))
+    (after-word-value .word-value .ensures .other (bytes "when") refl (c .before .match .rest .0 .0 .0 .0 .0 .0 .0 .1))
+    (after-word-value .word-value .ensures .other (bytes "if") refl (c .before .match .rest .0 .0 .0 .0 .0 .0 .1))
+    (after-word-value .word-value .ensures .other (bytes "num") refl (c .before .match .rest .0 .0 .0 .0 .0 .1))
+    (after-word-value .word-value .ensures .other (bytes "str") refl (c .before .match .rest .0 .0 .0 .0 .1))
+    (after-word-value .word-value .ensures .other (bytes "yes") refl (c .before .match .rest .0 .0 .0 .1))
+    (after-word-value .word-value .ensures .other (bytes "no") refl (c .before .match .rest .0 .0 .1))
+    (after-word-value .word-value .ensures .other (bytes "none") refl (c .before .match .rest .0 .1))
+    (after-word-value .word-value .ensures .other (bytes "pack") refl (c .before .match .rest .1))
 
 pub result-code-spec : {M : Type 1} → statement M
 result-code-spec =
     tie.close
     (tie.spec
-    (λ c. search needs) (λ c κs. search needs)
+    (λ c κs. search needs) (λ c κs. search needs)
     returns
-    (λ c. search needs) (λ c κs. search needs)
     returns-2
-    (λ c. search needs) (λ c κs. search needs)
     returns-3
-    (λ c. search needs) (λ c κs. search needs)
     returns-4
-    (λ c. search needs) (λ c κs. search needs)
     returns-5
-    (λ c. search needs) (λ c κs. search needs)
     returns-6
-    (λ c. search needs) (λ c κs. search needs)
     returns-7
-    (λ c. search needs) (λ c κs. search needs)
     returns-8
-    use-code-requires
     returns-9)

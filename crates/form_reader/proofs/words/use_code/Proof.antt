@@ -1,107 +1,60 @@
 -- `form_reader::words::use_code` meets its contract. Assumes nothing.
-use borrow.Author.Needs.{needs}
-use mathlib.Core.Path.{sym, _∙_}
+use mathlib.Core.Path.{refl}
 use Rattle.definitions.specs.Bytes.{bytes}
-use Rattle.tokens.specs.TokenRead.{word-in}
+use Rattle.tokens.specs.WordValues.{joined, word-value, fits}
 use Rattle.form_reader.proofs.WordTables.{int-used, dec-used, bool-used, text-used, keep-used, count-used, each-used, none-used}
 use Rattle.form_reader.proofs.words.use_code.Statement.{statement}
 use Rattle.form_reader.proofs.words.use_code.Tie as tie
 
 returns : tie.Need-returns
-unfolding bytes
-returns c =
-    let at-is-word = c .before in
-    let at-start = at-is-word .before .before .before in
-    int-used (word-in (at-start .args .text .now) (at-start .args .at) (at-start .args .end)) (sym (at-is-word .is-word .ensures) ∙ c .if1 .taken)
+unfolding bytes word-value joined fits
+returns c = λ w t. int-used w (t .is (bytes "int") refl (c .match .keys1))
 
 returns-2 : tie.Need-returns-2
-unfolding bytes
-returns-2 c =
-    let at-is-word2 = c .before in
-    let at-start = at-is-word2 .before .before .before .before .before .before in
-    dec-used (word-in (at-start .args .text .now) (at-start .args .at) (at-start .args .end)) (sym (at-is-word2 .is-word2 .ensures) ∙ c .if2 .taken)
+unfolding bytes word-value joined fits
+returns-2 c = λ w t. dec-used w (t .is (bytes "dec") refl (c .match .keys2))
 
 returns-3 : tie.Need-returns-3
-unfolding bytes
-returns-3 c =
-    let at-is-word3 = c .before in
-    let near-at-start = at-is-word3 .before .before .before .before .before .before .before .before in
-    let at-start = near-at-start .before in
-    bool-used (word-in (at-start .args .text .now) (at-start .args .at) (at-start .args .end)) (sym (at-is-word3 .is-word3 .ensures) ∙ c .if3 .taken)
+unfolding bytes word-value joined fits
+returns-3 c = λ w t. bool-used w (t .is (bytes "bool") refl (c .match .keys3))
 
 returns-4 : tie.Need-returns-4
-unfolding bytes
-returns-4 c =
-    let at-is-word4 = c .before in
-    let near-at-start = at-is-word4 .before .before .before .before .before .before .before .before in
-    let at-start = near-at-start .before .before .before .before in
-    text-used (word-in (at-start .args .text .now) (at-start .args .at) (at-start .args .end)) (sym (at-is-word4 .is-word4 .ensures) ∙ c .if4 .taken)
+unfolding bytes word-value joined fits
+returns-4 c = λ w t. text-used w (t .is (bytes "text") refl (c .match .keys4))
 
 returns-5 : tie.Need-returns-5
-unfolding bytes
-returns-5 c =
-    let at-is-word5 = c .before in
-    let near-at-start = at-is-word5 .before .before .before .before .before .before .before .before in
-    let at-start = near-at-start .before .before .before .before .before .before .before in
-    keep-used (word-in (at-start .args .text .now) (at-start .args .at) (at-start .args .end)) (sym (at-is-word5 .is-word5 .ensures) ∙ c .if5 .taken)
+unfolding bytes word-value joined fits
+returns-5 c = λ w t. keep-used w (t .is (bytes "keep") refl (c .match .keys5))
 
 returns-6 : tie.Need-returns-6
-unfolding bytes
-returns-6 c =
-    let at-is-word6 = c .before in
-    let near-at-start = at-is-word6 .before .before .before .before .before .before .before .before in
-    let further-at-start = near-at-start .before .before .before .before .before .before .before .before in
-    let at-start = further-at-start .before .before in
-    count-used (word-in (at-start .args .text .now) (at-start .args .at) (at-start .args .end)) (sym (at-is-word6 .is-word6 .ensures) ∙ c .if6 .taken)
+unfolding bytes word-value joined fits
+returns-6 c = λ w t. count-used w (t .is (bytes "count") refl (c .match .keys6))
 
 returns-7 : tie.Need-returns-7
-unfolding bytes
-returns-7 c =
-    let at-is-word7 = c .before in
-    let near-at-start = at-is-word7 .before .before .before .before .before .before .before .before in
-    let further-at-start = near-at-start .before .before .before .before .before .before .before .before in
-    let at-start = further-at-start .before .before .before .before .before in
-    each-used (word-in (at-start .args .text .now) (at-start .args .at) (at-start .args .end)) (sym (at-is-word7 .is-word7 .ensures) ∙ c .if7 .taken)
+unfolding bytes word-value joined fits
+returns-7 c = λ w t. each-used w (t .is (bytes "each") refl (c .match .keys7))
 
 returns-8 : tie.Need-returns-8
-unfolding bytes
-returns-8 c =
-    let at-is-word7 = c .before in
-    let at-if6 = at-is-word7 .before .before in
-    let at-is-word6 = at-if6 .before in
-    let at-if5 = at-is-word6 .before .before in
-    let at-is-word5 = at-if5 .before in
-    let at-if4 = at-is-word5 .before .before in
-    let at-is-word4 = at-if4 .before in
-    let at-if3 = at-is-word4 .before .before in
-    let at-is-word3 = at-if3 .before in
-    let at-if2 = at-is-word3 .before .before in
-    let at-is-word2 = at-if2 .before in
-    let at-if1 = at-is-word2 .before .before in
-    let at-is-word = at-if1 .before in
-    let at-start = at-is-word .before .before .before in
-    none-used (word-in (at-start .args .text .now) (at-start .args .at) (at-start .args .end)) (sym
-    (at-is-word .is-word .ensures) ∙ at-if1 .if1 .left) (sym (at-is-word2 .is-word2 .ensures) ∙ at-if2 .if2 .left) (sym
-    (at-is-word3 .is-word3 .ensures) ∙ at-if3 .if3 .left) (sym (at-is-word4 .is-word4 .ensures) ∙ at-if4 .if4 .left) (sym
-    (at-is-word5 .is-word5 .ensures) ∙ at-if5 .if5 .left) (sym (at-is-word6 .is-word6 .ensures) ∙ at-if6 .if6 .left) (sym
-    (at-is-word7 .is-word7 .ensures) ∙ c .if7 .left)
+unfolding bytes word-value joined fits
+returns-8 c = λ w t.
+    none-used w
+    (t .other (bytes "int") refl (c .match .rest .0 .0 .0 .0 .0 .0 .1))
+    (t .other (bytes "dec") refl (c .match .rest .0 .0 .0 .0 .0 .1))
+    (t .other (bytes "bool") refl (c .match .rest .0 .0 .0 .0 .1))
+    (t .other (bytes "text") refl (c .match .rest .0 .0 .0 .1))
+    (t .other (bytes "keep") refl (c .match .rest .0 .0 .1))
+    (t .other (bytes "count") refl (c .match .rest .0 .1))
+    (t .other (bytes "each") refl (c .match .rest .1))
 
 pub use-code-spec : {M : Type 1} → statement M
 use-code-spec =
     tie.close
     (tie.spec
-    (λ c. search needs) (λ c κs. search needs)
     returns
-    (λ c. search needs) (λ c κs. search needs)
     returns-2
-    (λ c. search needs) (λ c κs. search needs)
     returns-3
-    (λ c. search needs) (λ c κs. search needs)
     returns-4
-    (λ c. search needs) (λ c κs. search needs)
     returns-5
-    (λ c. search needs) (λ c κs. search needs)
     returns-6
-    (λ c. search needs) (λ c κs. search needs)
     returns-7
     returns-8)

@@ -7,7 +7,8 @@ use Rattle.nodes.specs.Nodes.{reference}
 use Rattle.text.specs.TextRead.{Text-answer, Text-closed}
 use Rattle.text.specs.declared.TextRead.{TextRead}
 use Rattle.json.specs.declared.name.Colon.{Colon}
-use Rattle.json.specs.JsonParts.{Colon-answer}
+use lib.Pow.{shl-exact}
+use Rattle.json.specs.JsonParts.{Colon-answer, name-place}
 use Rattle.json.proofs.NameReading.{few-used, walkable, no-name, name-broken, name-twice, no-colon, name-read, name-room}
 use Rattle.json.proofs.name.read_name.Statement.{statement}
 use Rattle.json.proofs.name.read_name.Tie as tie
@@ -48,68 +49,89 @@ small c =
     let at-start = after-read-text-arg .before .before .before .before .before .before .before in
     (few-used (at-start .args .c) (at-start .pre), omega (arith, closed c .shorter, closed c .within, at-start .pre .ready .placed .short))
 
-has-name-requires : tie.Need-has-name-requires
-has-name-requires c κs =
-    let after-read-text = c .before .before .before .before .before .before .before in
-    let at-start = after-read-text .before .before .before .before .before .before .before .before in
-    walkable (at-start .args .c) (at-start .pre) (after-read-text .read-text .ensures .kept) (after-read-text .read-text .ensures .front)
+name-place-requires : tie.Need-name-place-requires
+name-place-requires c κs = (closed (c .before) .size, small (c .before) .1)
+
+is-taken-requires : tie.Need-is-taken-requires
+is-taken-requires c κs =
+    let after-read-text = c .before .before .before .before .before .before .before .before in
+    let at-start = after-read-text .before .before .before .before .before .before .before .before in (
+      (
+        walkable (at-start .args .c) (at-start .pre) (after-read-text .read-text .ensures .kept) (after-read-text .read-text .ensures .front),
+        closed (c .before .before .before) .size,
+      ),
+      c .before .name-place .ensures,
+    )
 
 returns-2 : tie.Need-returns-2
 returns-2 c =
-    let after-known-told = c .before .before .before .before in
+    let after-known-told = c .before .before .before .before .before in
     let after-read-text = after-known-told .before .before .before .before .before in
     let after-skip-white = after-read-text .before .before .before .before in
     let at-start = after-skip-white .before .before .before .before in
     name-twice (at-start .args .c) (at-start .pre) (after-skip-white .skip-white .ensures)
     (sym (after-read-text .before .before .before .peek .ensures) ∙ after-read-text .before .before .if1 .left) (after-read-text .read-text .ensures .kept)
-    (after-read-text .read-text .ensures .front) (closed after-known-told) (c .before .has-name .ensures) (c .if2 .taken)
+    (after-read-text .read-text .ensures .front) (closed after-known-told)
+    (c .before .is-taken .ensures) (c .if2 .taken)
 
 read-colon-requires : tie.Need-read-colon-requires
 read-colon-requires c κs =
-    let after-known-told = c .before .before .before .before in
+    let after-known-told = c .before .before .before .before .before in
     closed after-known-told .within
 
-add-t29 : tie.Need-add-t29
-add-t29 c =
-    let after-known-told = c .before .before .before .before .before .before .before .before in
+add-t32 : tie.Need-add-t32
+add-t32 c =
+    let after-known-told = c .before .before .before .before .before .before .before .before .before in
     omega (arith, small after-known-told .1)
 
-add-t31 : tie.Need-add-t31
-add-t31 c =
-    let after-known-told = c .before .before .before .before .before .before .before .before .before in
+add-t34 : tie.Need-add-t34
+add-t34 c =
+    let after-read-colon = c .before .before .before .before in
+    let after-known-told = after-read-colon .before .before .before .before .before .before in
     omega (arith, small after-known-told .0, small after-known-told .1)
 
 text-reference-requires : tie.Need-text-reference-requires
 unfolding reference
 text-reference-requires c κs =
-    let after-known-told = c .before .before .before .before .before .before .before .before .before in
+    let after-read-colon = c .before .before .before .before in
+    let after-known-told = after-read-colon .before .before .before .before .before .before in
     omega (arith, small after-known-told .0, small after-known-told .1)
 
+shl-seen : tie.Need-shl-seen
+unfolding name-place
+shl-seen c =
+    let after-name-place = c .before .before .before .before .before .before .before .before .before in
+    omega (arith, after-name-place .name-place .ensures)
+
 returns-3 : tie.Need-returns-3
+unfolding name-place
 returns-3 c =
     let after-read-colon = c .before .before .before .before .before in
-    let after-known-told = after-read-colon .before .before .before .before .before in
-    let after-read-text = after-known-told .before .before .before .before .before in
+    let after-name-place = after-read-colon .before .before .before .before in
+    let after-read-text = after-name-place .before .before .before .before .before .before .before in
     let after-skip-white = after-read-text .before .before .before .before in
     let at-start = after-skip-white .before .before .before .before in
     name-read (at-start .args .c) (at-start .pre) (after-skip-white .skip-white .ensures)
     (sym (after-read-text .before .before .before .peek .ensures) ∙ after-read-text .before .before .if1 .left) (after-read-text .read-text .ensures .kept)
-    (after-read-text .read-text .ensures .front) (closed after-known-told) (after-read-colon .before .before .has-name .ensures)
+    (after-read-text .read-text .ensures .front) (closed (after-name-place .before .before))
+    (after-read-colon .before .before .is-taken .ensures) (after-name-place .name-place .ensures)
+    (shl-exact {a = 1} 1 (after-name-place .name-place .result) 64 (omega arith) (omega (arith, after-name-place .name-place .ensures)))
     (after-read-colon .before .if2 .left)
-    (subst (λ (r : Colon). Colon-answer (at-start .args .doc .now) (after-known-told .before .end .given .0 .0) r) (c .before .before .before .next .given .1)
-    (after-read-colon .read-colon .ensures))
+    (subst (λ (r : Colon). Colon-answer (at-start .args .doc .now) (after-name-place .before .before .before .end .given .0 .0) r)
+    (c .before .before .before .next .given .1) (after-read-colon .read-colon .ensures))
     (c .text-reference .ensures)
 
 returns-4 : tie.Need-returns-4
 returns-4 c =
     let else2 = c .before .before .before .before in
-    let after-known-told = else2 .before .before .before .before in
+    let after-known-told = else2 .before .before .before .before .before in
     let after-read-text = after-known-told .before .before .before .before .before in
     let after-skip-white = after-read-text .before .before .before .before in
     let at-start = after-skip-white .before .before .before .before in
     no-colon (at-start .args .c) (at-start .pre) (after-skip-white .skip-white .ensures)
     (sym (after-read-text .before .before .before .peek .ensures) ∙ after-read-text .before .before .if1 .left) (after-read-text .read-text .ensures .kept)
-    (after-read-text .read-text .ensures .front) (closed after-known-told) (else2 .before .has-name .ensures) (else2 .if2 .left)
+    (after-read-text .read-text .ensures .front) (closed after-known-told)
+    (else2 .before .is-taken .ensures) (else2 .if2 .left)
     (subst (λ (r : Colon). Colon-answer (at-start .args .doc .now) (after-known-told .before .end .given .0 .0) r) (c .before .place .given .1)
     (c .before .before .before .read-colon .ensures))
 
@@ -133,15 +155,17 @@ read-name-spec =
     returns
     (λ c. search needs)
     read-text-requires
-    (λ c. search needs) (λ c. search needs) (λ c. search needs)
-    has-name-requires
+    (λ c. search needs)
+    name-place-requires
+    is-taken-requires
     (λ c. search needs)
     returns-2
     read-colon-requires
     (λ c. search needs)
-    add-t29
-    add-t31
+    add-t32
+    add-t34
     text-reference-requires
+    shl-seen
     (λ c. search needs) (λ c. search needs) (λ c. search needs)
     returns-3
     (λ c. search needs)

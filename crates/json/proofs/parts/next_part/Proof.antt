@@ -12,7 +12,7 @@ returns c =
     let start = c .before .before .before .before .before in
     let next = token (c .before .before .skip-white .ensures) (sym (c .before .peek .ensures) ∙ c .if1 .taken) (omega arith) in
     record {
-      answer = λ k e f left values nodes₀ pool₀ pool op.
+      answer = λ k e f seen left values nodes₀ pool₀ pool op.
           next-part-more (start .args .c) (start .args .to) (start .pre) k e f op next;
       ahead = next .ahead;
     }
@@ -23,7 +23,7 @@ returns-2 c =
     let byte = shut .before .before in
     let start = byte .before .before .before .before in
     record {
-      answer = λ k e f left values nodes₀ pool₀ pool op.
+      answer = λ k e f seen left values nodes₀ pool₀ pool op.
           next-part-stop (start .args .c) (start .args .to) (start .pre) k e f op
           (token (byte .before .skip-white .ensures) (sym (byte .peek .ensures) ∙ shut .if2 .taken) (start .pre .closes))
           (c .before .before .put-row-of .ensures);
@@ -35,7 +35,7 @@ returns-3 c =
     let byte = c .before .before in
     let start = byte .before .before .before .before in
     record {
-      answer = λ k e f left values nodes₀ pool₀ pool op.
+      answer = λ k e f seen left values nodes₀ pool₀ pool op.
           next-part-broken (start .args .c) (start .args .to) (start .pre) k e f op
           (record {
             skips = byte .before .skip-white .ensures;

@@ -73,19 +73,19 @@ read-value-below t =
 
 abbrev read-list-Inv-loop : read-list-lts.InvT-loop
 read-list-Inv-loop doc nodes₀ pool₀ values left c name turn₀ nodes pool turn =
-    (ns ps : List ℕ) → Turn-answer square left values doc ns ps nodes₀ pool₀ name c turn₀
-    → Turn-answer square left values doc ns ps nodes pool name c turn
+    (ns ps : List ℕ) → Turn-answer square 0 left values doc ns ps nodes₀ pool₀ name c turn₀
+    → Turn-answer square 0 left values doc ns ps nodes pool name c turn
 
 abbrev read-list-μ-loop : read-list-lts.MeasureT-loop
 read-list-μ-loop doc nodes₀ pool₀ values left c name turn₀ nodes pool turn = to-read doc turn
 
 abbrev read-record-Inv-loop : read-record-lts.InvT-loop
-read-record-Inv-loop doc nodes₀ pool₀ values left c name turn₀ nodes pool turn =
-    (ns ps : List ℕ) → Turn-answer curly left values doc ns ps nodes₀ pool₀ name c turn₀
-    → Turn-answer curly left values doc ns ps nodes pool name c turn
+read-record-Inv-loop doc nodes₀ pool₀ values left c name turn₀ seen₀ nodes pool turn seen =
+    (ns ps : List ℕ) → Turn-answer curly seen₀ left values doc ns ps nodes₀ pool₀ name c turn₀
+    → Turn-answer curly seen left values doc ns ps nodes pool name c turn
 
 abbrev read-record-μ-loop : read-record-lts.MeasureT-loop
-read-record-μ-loop doc nodes₀ pool₀ values left c name turn₀ nodes pool turn = to-read doc turn
+read-record-μ-loop doc nodes₀ pool₀ values left c name turn₀ seen₀ nodes pool turn seen = to-read doc turn
 
 abbrev list-claims : ℕ → read-list-lts.Claims
 list-claims t = (first-part-reads.Asked, first-part-reads.Learnt, read-value-below t, read-value.Post, next-part-reads.Asked, next-part-reads.Learnt)
@@ -124,15 +124,15 @@ list-open
     → let at-loop = c .before .before .before in
     let after-first-part = at-loop .before .before .before in
     let at-start = after-first-part .before .before .before .before .before in
-    Turn-answer square (at-start .args .left) (at-start .args .values) (at-start .args .doc .now) ns ps (after-first-part .first-part .last .1 .0)
+    Turn-answer square 0 (at-start .args .left) (at-start .args .values) (at-start .args .doc .now) ns ps (after-first-part .first-part .last .1 .0)
     (at-start .args .pool .now) (at-start .args .name) (at-start .args .c) (after-first-part .first-part .result)
-    → Open-parts square (next-of square) 1 (at-start .args .left) (at-start .args .values) (at-start .args .doc .now) ns ps (at-loop .loop .nodes)
+    → Open-parts square 0 (next-of square) 1 (at-start .args .left) (at-start .args .values) (at-start .args .doc .now) ns ps (at-loop .loop .nodes)
     (at-loop .loop .pool) (at-start .args .c) (c .before .turn .given .0 .0) (c .before .turn .given .0 .1 .0)
 list-open t c ns ps h =
     let at-loop = c .before .before .before in
     let at-start = at-loop .before .before .before .before .before .before .before .before in
     subst (λ (u : Turn).
-    Turn-answer square (at-start .args .left) (at-start .args .values) (at-start .args .doc .now) ns ps (at-loop .loop .nodes) (at-loop .loop .pool)
+    Turn-answer square 0 (at-start .args .left) (at-start .args .values) (at-start .args .doc .now) ns ps (at-loop .loop .nodes) (at-loop .loop .pool)
     (at-start .args .name) (at-start .args .c) u)
     (c .before .turn .given .1)
     (at-loop .loop .inv ns ps h)
@@ -142,14 +142,14 @@ list-here
     : (t : ℕ) (c : read-list-lts.After-known-told (list-claims t) (read-list-at t) read-list.Post read-list-Inv-loop read-list-μ-loop)
     → let at-loop = c .before .before .before in
     let at-start = at-loop .before .before .before .before .before .before .before .before in
-    Open-parts square (next-of square) 1 (at-start .args .left) (at-start .args .values) (at-start .args .doc .now) (at-start .args .nodes .now)
+    Open-parts square 0 (next-of square) 1 (at-start .args .left) (at-start .args .values) (at-start .args .doc .now) (at-start .args .nodes .now)
     (at-start .args .pool .now) (at-loop .loop .nodes) (at-loop .loop .pool) (at-start .args .c) (c .before .turn .given .0 .0)
     (c .before .turn .given .0 .1 .0)
 list-here t c =
     let after-first-part = c .before .before .before .before .before .before in
     let at-start = after-first-part .before .before .before .before .before in
     list-open t c (at-start .args .nodes .now) (at-start .args .pool .now)
-    (after-first-part .first-part .ensures square refl refl (at-start .args .left) (at-start .args .pool .now))
+    (after-first-part .first-part .ensures square refl refl 0 (at-start .args .left) (at-start .args .pool .now))
 
 list-used
     : (t : ℕ) (c : read-list-lts.After-known-told (list-claims t) (read-list-at t) read-list.Post read-list-Inv-loop read-list-μ-loop)
@@ -185,7 +185,7 @@ list-behind
     let after-turn = after-read-value .before .before .before .before in
     let at-loop = after-turn .before .before in
     let at-start = at-loop .before .before .before .before .before .before .before .before in
-    Open-parts square (behind-of square) 0 (at-start .args .left) (at-start .args .values) (at-start .args .doc .now) (at-start .args .nodes .now)
+    Open-parts square 0 (behind-of square) 0 (at-start .args .left) (at-start .args .values) (at-start .args .doc .now) (at-start .args .nodes .now)
     (at-start .args .pool .now) (after-read-value .read-value .last .1 .0) (after-read-value .read-value .last .1 .1 .0) (at-start .args .c)
     (c .before .r .given .0 .0) (after-turn .turn .given .0 .1 .0 + c .before .r .given .0 .1 .0 + 1)
 list-behind t c =
@@ -202,15 +202,17 @@ record-open
     → let at-loop = c .before .before .before in
     let after-first-part = at-loop .before .before .before in
     let at-start = after-first-part .before .before .before .before .before in
-    Turn-answer curly (at-start .args .left) (at-start .args .values) (at-start .args .doc .now) ns ps (after-first-part .first-part .last .1 .0)
+    Turn-answer curly 0 (at-start .args .left) (at-start .args .values) (at-start .args .doc .now) ns ps (after-first-part .first-part .last .1 .0)
     (at-start .args .pool .now) (at-start .args .name) (at-start .args .c) (after-first-part .first-part .result)
-    → Open-parts curly (next-of curly) 1 (at-start .args .left) (at-start .args .values) (at-start .args .doc .now) ns ps (at-loop .loop .nodes)
+    → Open-parts curly (at-loop .loop .seen) (next-of curly) 1 (at-start .args .left) (at-start .args .values) (at-start .args .doc .now) ns ps
+    (at-loop .loop .nodes)
     (at-loop .loop .pool) (at-start .args .c) (c .before .turn .given .0 .0) (c .before .turn .given .0 .1 .0)
 record-open t c ns ps h =
     let at-loop = c .before .before .before in
     let at-start = at-loop .before .before .before .before .before .before .before .before in
     subst (λ (u : Turn).
-    Turn-answer curly (at-start .args .left) (at-start .args .values) (at-start .args .doc .now) ns ps (at-loop .loop .nodes) (at-loop .loop .pool)
+    Turn-answer curly (at-loop .loop .seen) (at-start .args .left) (at-start .args .values) (at-start .args .doc .now) ns ps
+    (at-loop .loop .nodes) (at-loop .loop .pool)
     (at-start .args .name) (at-start .args .c) u)
     (c .before .turn .given .1)
     (at-loop .loop .inv ns ps h)
@@ -220,14 +222,15 @@ record-here
     : (t : ℕ) (c : read-record-lts.After-known-told (record-claims t) (read-record-at t) read-record.Post read-record-Inv-loop read-record-μ-loop)
     → let at-loop = c .before .before .before in
     let at-start = at-loop .before .before .before .before .before .before .before .before in
-    Open-parts curly (next-of curly) 1 (at-start .args .left) (at-start .args .values) (at-start .args .doc .now) (at-start .args .nodes .now)
+    Open-parts curly (at-loop .loop .seen) (next-of curly) 1 (at-start .args .left) (at-start .args .values) (at-start .args .doc .now)
+    (at-start .args .nodes .now)
     (at-start .args .pool .now) (at-loop .loop .nodes) (at-loop .loop .pool) (at-start .args .c) (c .before .turn .given .0 .0)
     (c .before .turn .given .0 .1 .0)
 record-here t c =
     let after-first-part = c .before .before .before .before .before .before in
     let at-start = after-first-part .before .before .before .before .before in
     record-open t c (at-start .args .nodes .now) (at-start .args .pool .now)
-    (after-first-part .first-part .ensures curly refl refl (at-start .args .left) (at-start .args .pool .now))
+    (after-first-part .first-part .ensures curly refl refl 0 (at-start .args .left) (at-start .args .pool .now))
 
 record-used
     : (t : ℕ) (c : read-record-lts.After-known-told (record-claims t) (read-record-at t) read-record.Post read-record-Inv-loop read-record-μ-loop)
@@ -256,8 +259,9 @@ name-here
     let at-loop = after-turn .before .before in
     let at-start = at-loop .before .before .before .before .before .before .before .before in
     Reads-name (at-start .args .doc .now) (at-loop .loop .nodes) (at-loop .loop .pool) (after-read-name .read-name .last .1 .1 .0)
-    (at-start .args .c .begun + 1) (after-turn .turn .given .0 .0)
-    (Name-is.Done (c .before .at .given .0 .0) (c .before .at .given .0 .1 .0) (c .before .at .given .0 .1 .1 .0))
+    (at-start .args .c .begun + 1) (at-loop .loop .seen) (after-turn .turn .given .0 .0)
+    (Name-is.Done (c .before .at .given .0 .0) (c .before .at .given .0 .1 .0) (c .before .at .given .0 .1 .1 .0)
+    (c .before .at .given .0 .1 .1 .1 .0))
 name-here t c =
     let after-read-name = c .before .before .before .before .before in
     let after-turn = after-read-name .before .before .before .before .before in
@@ -265,7 +269,7 @@ name-here t c =
     let at-start = at-loop .before .before .before .before .before .before .before .before in
     subst (λ (z : NameRead).
     Reads-name (at-start .args .doc .now) (at-loop .loop .nodes) (at-loop .loop .pool) (after-read-name .read-name .last .1 .1 .0)
-    (at-start .args .c .begun + 1) (after-turn .turn .given .0 .0) z)
+    (at-start .args .c .begun + 1) (at-loop .loop .seen) (after-turn .turn .given .0 .0) z)
     (c .before .at .given .1) (after-read-name .read-name .ensures)
 
 member-ready
@@ -311,7 +315,8 @@ record-behind
     let after-turn = after-at .before .before .before .before .before .before .before .before .before in
     let at-loop = after-turn .before .before in
     let at-start = at-loop .before .before .before .before .before .before .before .before in
-    Open-parts curly (behind-of curly) 0 (at-start .args .left) (at-start .args .values) (at-start .args .doc .now) (at-start .args .nodes .now)
+    Open-parts curly (after-at .at .given .0 .1 .1 .1 .0) (behind-of curly) 0 (at-start .args .left) (at-start .args .values) (at-start .args .doc .now)
+    (at-start .args .nodes .now)
     (at-start .args .pool .now) (after-read-value .read-value .last .1 .0) (after-read-value .read-value .last .1 .1 .0) (at-start .args .c)
     (c .before .r .given .0 .0) (after-turn .turn .given .0 .1 .0 + after-at .at .given .0 .1 .1 .0 + c .before .r .given .0 .1 .0 + 2)
 record-behind t c =
@@ -400,7 +405,7 @@ read-list-loop-again t c =
     let at-loop = after-known-told .before .before .before in
     let at-start = at-loop .before .before .before .before .before .before .before .before in
     λ ns ps h.
-    c .before .before .next-part .ensures .answer square refl refl (at-start .args .left) (at-start .args .values) ns ps
+    c .before .before .next-part .ensures .answer square refl refl 0 (at-start .args .left) (at-start .args .values) ns ps
     (after-read-value .read-value .last .1 .1 .0)
     (element-read (at-start .args .c) (after-known-told .before .turn .given .0 .0) (list-used t after-known-told) (list-open t after-known-told ns ps h)
     (list-read t after-known-told2))
@@ -410,11 +415,11 @@ read-list-returns-2 t c =
     let at-loop = c .before .before .before in
     let at-start = at-loop .before .before .before .before .before .before .before .before in
     subst (λ (u : Turn).
-    Turn-answer square (at-start .args .left) (at-start .args .values) (at-start .args .doc .now) (at-start .args .nodes .now) (at-start .args .pool .now)
+    Turn-answer square 0 (at-start .args .left) (at-start .args .values) (at-start .args .doc .now) (at-start .args .nodes .now) (at-start .args .pool .now)
     (at-loop .loop .nodes) (at-loop .loop .pool) (at-start .args .name) (at-start .args .c) u)
     (c .before .turn2 .given .1)
     (at-loop .loop .inv (at-start .args .nodes .now) (at-start .args .pool .now)
-    (at-loop .before .before .before .first-part .ensures square refl refl (at-start .args .left) (at-start .args .pool .now)))
+    (at-loop .before .before .before .first-part .ensures square refl refl 0 (at-start .args .left) (at-start .args .pool .now)))
 
 read-record-first-part-requires
     : (t : ℕ) → read-record-lts.Need-first-part-requires (record-claims t) (read-record-at t) read-record.Post read-record-Inv-loop read-record-μ-loop
@@ -526,7 +531,8 @@ read-record-loop-again t c =
     let at-loop = after-known-told .before .before .before in
     let at-start = at-loop .before .before .before .before .before .before .before .before in
     λ ns ps h.
-    c .before .before .next-part .ensures .answer curly refl refl (at-start .args .left) (at-start .args .values) ns ps
+    c .before .before .next-part .ensures .answer curly refl refl (after-known-told2 .before .at .given .0 .1 .1 .1 .0)
+    (at-start .args .left) (at-start .args .values) ns ps
     (after-read-value .read-value .last .1 .1 .0)
     (member-read (at-start .args .c) (after-known-told .before .turn .given .0 .0) (record-room t after-known-told) (record-used t after-known-told)
     (record-open t after-known-told ns ps h) (after-known-told2 .before .at .given .0 .0) (name-here t after-known-told2)
@@ -542,18 +548,20 @@ read-record-returns-2 t c =
     (record-here t after-known-told)
     (subst (λ (z : NameRead).
     Reads-name (at-start .args .doc .now) (at-loop .loop .nodes) (at-loop .loop .pool) (after-read-name .read-name .last .1 .1 .0)
-    (at-start .args .c .begun + 1) (after-known-told .before .turn .given .0 .0) z) (c .before .number .given .1) (after-read-name .read-name .ensures))
+    (at-start .args .c .begun + 1) (at-loop .loop .seen) (after-known-told .before .turn .given .0 .0) z)
+    (c .before .number .given .1) (after-read-name .read-name .ensures))
 
 read-record-returns-3 : (t : ℕ) → read-record-lts.Need-returns-3 (record-claims t) (read-record-at t) read-record.Post read-record-Inv-loop read-record-μ-loop
 read-record-returns-3 t c =
     let at-loop = c .before .before .before in
     let at-start = at-loop .before .before .before .before .before .before .before .before in
     subst (λ (u : Turn).
-    Turn-answer curly (at-start .args .left) (at-start .args .values) (at-start .args .doc .now) (at-start .args .nodes .now) (at-start .args .pool .now)
+    Turn-answer curly (at-loop .loop .seen) (at-start .args .left) (at-start .args .values) (at-start .args .doc .now)
+    (at-start .args .nodes .now) (at-start .args .pool .now)
     (at-loop .loop .nodes) (at-loop .loop .pool) (at-start .args .name) (at-start .args .c) u)
     (c .before .turn2 .given .1)
     (at-loop .loop .inv (at-start .args .nodes .now) (at-start .args .pool .now)
-    (at-loop .before .before .before .first-part .ensures curly refl refl (at-start .args .left) (at-start .args .pool .now)))
+    (at-loop .before .before .before .first-part .ensures curly refl refl 0 (at-start .args .left) (at-start .args .pool .now)))
 
 read-value-returns : (t : ℕ) → read-value-lts.Need-returns (value-claims t) (read-value-at t) read-value.Post
 read-value-returns t c =

@@ -1,37 +1,31 @@
--- `number::decimal::decimal_length` meets its contract. The loop's invariant is `Counting`. Assumes nothing.
-use Prim.Native.Nat.{_+_, _-_}
+-- `number::decimal::decimal_length` meets its contract: its bits say how many digits it has. Assumes nothing.
+use borrow.Author.Needs.{needs}
 use native.Mathlib.Omega.{arith}
 use Rattle.definitions.specs.Number.{most-coefficient}
-use Rattle.number.proofs.Counting.{Counting, counts, counts-on, counted}
+use Rattle.number.proofs.Counting.{bits-fit, digits-fit, counted-below, counted-from}
 use Rattle.number.proofs.decimal.decimal_length.Statement.{statement}
 use Rattle.number.proofs.decimal.decimal_length.Tie as tie
 
-abbrev Inv-loop : tie.InvT-loop
-Inv-loop n power₀ count₀ power count = Counting n power count
-
-abbrev μ-loop : tie.MeasureT-loop
-μ-loop n power₀ count₀ power count = n + 1 - power
-
-loop-holds : tie.Need-loop-holds Inv-loop μ-loop
-loop-holds c = counts _
-
-mul-power : tie.Need-mul-power Inv-loop μ-loop
+cast-bits : tie.Need-cast-bits
 unfolding most-coefficient
-mul-power c = omega arith
+cast-bits c = omega (arith, bits-fit (c .args .n) (omega arith))
 
-add-count : tie.Need-add-count Inv-loop μ-loop
+sub-bits : tie.Need-sub-bits
 unfolding most-coefficient
-add-count c = omega arith
+sub-bits c = bits-fit (c .args .n) (omega arith)
 
-loop-less : tie.Need-loop-less Inv-loop μ-loop
-loop-less c = omega arith
+power-requires : tie.Need-power-requires
+unfolding most-coefficient
+power-requires c κs = digits-fit (c .args .n) (omega arith)
 
-loop-again : tie.Need-loop-again Inv-loop μ-loop
-loop-again c = counts-on (c .before .loop .inv) (c .loop-test .taken)
+returns : tie.Need-returns
+unfolding most-coefficient
+returns c = counted-below (c .before .before .args .n) (omega arith) (rw (c .before .power .ensures) at (c .if1 .taken))
 
-returns : tie.Need-returns Inv-loop μ-loop
-returns c = counted (c .before .loop .inv) (c .loop-test .left)
+returns-2 : tie.Need-returns-2
+unfolding most-coefficient
+returns-2 c = counted-from (c .before .before .args .n) (omega arith) (rw (c .before .power .ensures) at (c .if1 .left))
 
 pub decimal-length-spec : {M : Type 1} → statement M
 decimal-length-spec =
-    tie.close (tie.spec Inv-loop μ-loop loop-holds mul-power add-count loop-less loop-again returns)
+    tie.close (tie.spec cast-bits sub-bits (λ c. search needs) power-requires (λ c. search needs) returns returns-2)

@@ -1,16 +1,14 @@
 -- The proof of the cycle of calls {read_element, read_form, read_members}. The nesting left falls: a shape's measure is twice what is left,
--- its parts', whose shapes have one less, lies between. The loop's invariant says what has been read of the members, whatever the
--- tables were before: `Turn-answer`. Assumes nothing.
-use Prim.Native.Nat.{ℕ, _+_, _*_, _<_}
-use mathlib.Core.Path.{sym, subst}
-use mathlib.Core.List.{List}
+-- its parts', whose shapes have one less, lies between. The loop's invariant says what has been read of the members:
+-- `Members-so-far`. Assumes nothing.
+use Prim.Native.Nat.{ℕ, _+_, _-_, _*_, _<_}
+use lib.ListN.{length}
 use native.Mathlib.Omega.{arith}
 use borrow.Author.Needs.{needs}
-use Rattle.shape_reader.specs.declared.reading.Cursor.{Cursor}
-use Rattle.shape_reader.specs.declared.members.Turn.{Turn}
-use Rattle.shape_reader.specs.ShapeParts.{Turn-answer}
 use Rattle.shape_reader.proofs.ElementForms.{element-read, element-none}
-use Rattle.shape_reader.proofs.MemberForms.{members-start, member-ready, member-refused, done, form-ready, member-read, to-read, reads-less}
+use Rattle.shape_reader.proofs.MemberForms.{Members-so-far, no-members, turn-ready, member-turn, last-turn}
+use Rattle.shape_reader.proofs.MemberForms.{turn-further, member-ready, member-refused, done, form-ready}
+use Rattle.shape_reader.proofs.MemberForms.{member-open-still, behind-bracket, member-read}
 use Rattle.shape_reader.proofs.WholeForms.{open-refused, opens, inner-ready, element-refused, members-ready, members-refused, row-bounds, form-read}
 use borrow.Fn.Kinds.{In}
 use borrow.Fn.PlainCycle.{Measures, is, falls, and}
@@ -23,7 +21,7 @@ use Rattle.shape_reader.proofs.forms.+read_element+read_form+read_membe
 use Rattle.shape_reader.proofs.forms.read_members.Reads as read-members
 use Rattle.shape_reader.proofs.forms.read_members.Kinds as read-members-kinds
 use Rattle.shape_reader.proofs.forms.+read_element+read_form+read_members.Lts-read_members as read-members-lts
-use Rattle.shape_reader.proofs.members.behind_member.Reads as behind-member-reads
+use Rattle.shape_reader.proofs.members.close_member.Reads as close-member-reads
 use Rattle.shape_reader.proofs.members.next_member.Reads as next-member-reads
 use Rattle.shape_reader.proofs.opening.open_form.Reads as open-form-reads
 use Rattle.shapes.proofs.has.Reads as has-reads
@@ -88,7 +86,7 @@ read-form-claims t = (
 
 abbrev read-members-claims : ℕ → read-members-lts.Claims
 read-members-claims t =
-    (next-member-reads.Asked, next-member-reads.Learnt, read-form-below t, read-form.Post, behind-member-reads.Asked, behind-member-reads.Learnt)
+    (next-member-reads.Asked, next-member-reads.Learnt, read-form-below t, read-form.Post, close-member-reads.Asked, close-member-reads.Learnt)
 
 read-element-read-form-requires : (t : ℕ) → read-element-lts.Need-read-form-requires (read-element-claims t) (read-element-at t) read-element.Post
 read-element-read-form-requires t c κs =
@@ -119,13 +117,13 @@ read-element-returns-2 t c =
 
 read-form-open-form-requires : (t : ℕ) → read-form-lts.Need-open-form-requires (read-form-claims t) (read-form-at t) read-form.Post
 read-form-open-form-requires t c κs =
-    let at-start = c .before .before .before .before in
-    at-start .pre .1 .placed
+    let at-start = c .before .before .before in
+    at-start .pre .1 .placed .within
 
 read-form-add-read-element : (t : ℕ) → read-form-lts.Need-add-read-element (read-form-claims t) (read-form-at t) read-form.Post
 read-form-add-read-element t c =
-    let after-open-form = c .before .before .before .before .before .before in
-    let at-start = after-open-form .before .before .before .before .before in
+    let after-open-form = c .before .before .before .before in
+    let at-start = after-open-form .before .before .before .before in
     omega (
       arith,
       opens (at-start .args .name) (at-start .args .c) (at-start .pre .1) (after-open-form .open-form .ensures) (c .before .before .kinds .given .1) .begun,
@@ -135,8 +133,8 @@ read-form-add-read-element t c =
 read-form-sub-read-element : (t : ℕ) → read-form-lts.Need-sub-read-element (read-form-claims t) (read-form-at t) read-form.Post
 read-form-sub-read-element t c =
     let after-kinds = c .before .before .before .before in
-    let after-open-form = after-kinds .before .before .before .before in
-    let at-start = after-open-form .before .before .before .before .before in
+    let after-open-form = after-kinds .before .before in
+    let at-start = after-open-form .before .before .before .before in
     omega (
       arith,
       opens (at-start .args .name) (at-start .args .c) (at-start .pre .1) (after-open-form .open-form .ensures) (after-kinds .kinds .given .1) .nested,
@@ -145,8 +143,8 @@ read-form-sub-read-element t c =
 read-form-read-element-requires : (t : ℕ) → read-form-lts.Need-read-element-requires (read-form-claims t) (read-form-at t) read-form.Post
 read-form-read-element-requires t c κs =
     let after-kinds = c .before .before .before .before in
-    let after-open-form = after-kinds .before .before .before .before in
-    let at-start = after-open-form .before .before .before .before .before in (
+    let after-open-form = after-kinds .before .before in
+    let at-start = after-open-form .before .before .before .before in (
       omega (
         arith,
         at-start .pre .0,
@@ -159,8 +157,8 @@ read-form-returns : (t : ℕ) → read-form-lts.Need-returns (read-form-claims t
 read-form-returns t c =
     let after-read-element = c .before .before .before .before .before .before in
     let after-kinds = after-read-element .before .before .before .before .before in
-    let after-open-form = after-kinds .before .before .before .before in
-    let at-start = after-open-form .before .before .before .before .before in
+    let after-open-form = after-kinds .before .before in
+    let at-start = after-open-form .before .before .before .before in
     element-refused (at-start .args .name) (at-start .args .c) (at-start .pre .1) (after-open-form .open-form .ensures) (after-kinds .kinds .given .1)
     (after-read-element .read-element .ensures) (c .enum-told .given .1)
 
@@ -174,8 +172,8 @@ read-form-sub-read-members : (t : ℕ) → read-form-lts.Need-sub-read-members (
 read-form-sub-read-members t c =
     let after-pool2 = c .before .before .before .before .before .before in
     let after-kinds = after-pool2 .before .before .before .before .before .before .before .before in
-    let after-open-form = after-kinds .before .before .before .before in
-    let at-start = after-open-form .before .before .before .before .before in
+    let after-open-form = after-kinds .before .before in
+    let at-start = after-open-form .before .before .before .before in
     omega (
       arith,
       opens (at-start .args .name) (at-start .args .c) (at-start .pre .1) (after-open-form .open-form .ensures) (after-kinds .kinds .given .1) .nested,
@@ -185,8 +183,8 @@ read-form-read-members-requires : (t : ℕ) → read-form-lts.Need-read-members-
 read-form-read-members-requires t c κs =
     let after-read-element = c .before .before .before .before .before .before .before .before .before in
     let after-kinds = after-read-element .before .before .before .before .before in
-    let after-open-form = after-kinds .before .before .before .before in
-    let at-start = after-open-form .before .before .before .before .before in (
+    let after-open-form = after-kinds .before .before in
+    let at-start = after-open-form .before .before .before .before in (
       omega (
         arith,
         at-start .pre .0,
@@ -202,8 +200,8 @@ read-form-returns-2 t c =
     let after-e = after-read-members .before .before .before .before in
     let after-read-element = after-e .before .before .before .before .before .before in
     let after-kinds = after-read-element .before .before .before .before .before in
-    let after-open-form = after-kinds .before .before .before .before in
-    let at-start = after-open-form .before .before .before .before .before in
+    let after-open-form = after-kinds .before .before in
+    let at-start = after-open-form .before .before .before .before in
     members-refused (at-start .args .name) (at-start .args .c) (at-start .pre .1) (after-open-form .open-form .ensures) (after-kinds .kinds .given .1)
     (after-read-element .read-element .ensures) (after-e .e .given .1) (after-read-members .read-members .ensures) (c .enum-told2 .given .1)
 
@@ -220,8 +218,8 @@ read-form-mul-put-row t c =
     let after-e = after-read-members .before .before .before .before in
     let after-read-element = after-e .before .before .before .before .before .before in
     let after-kinds = after-read-element .before .before .before .before .before in
-    let after-open-form = after-kinds .before .before .before .before in
-    let at-start = after-open-form .before .before .before .before .before in
+    let after-open-form = after-kinds .before .before in
+    let at-start = after-open-form .before .before .before .before in
     omega (
       arith,
       row-bounds (at-start .args .name) (at-start .args .c) (at-start .pre .1) (after-open-form .open-form .ensures) (after-kinds .kinds .given .1)
@@ -237,8 +235,8 @@ read-form-sub-put-row t c =
     let after-e = after-read-members .before .before .before .before in
     let after-read-element = after-e .before .before .before .before .before .before in
     let after-kinds = after-read-element .before .before .before .before .before in
-    let after-open-form = after-kinds .before .before .before .before in
-    let at-start = after-open-form .before .before .before .before .before in
+    let after-open-form = after-kinds .before .before in
+    let at-start = after-open-form .before .before .before .before in
     omega (
       arith,
       row-bounds (at-start .args .name) (at-start .args .c) (at-start .pre .1) (after-open-form .open-form .ensures) (after-kinds .kinds .given .1)
@@ -252,8 +250,8 @@ read-form-mul-put-row-2 t c =
     let after-e = after-read-members .before .before .before .before in
     let after-read-element = after-e .before .before .before .before .before .before in
     let after-kinds = after-read-element .before .before .before .before .before in
-    let after-open-form = after-kinds .before .before .before .before in
-    let at-start = after-open-form .before .before .before .before .before in
+    let after-open-form = after-kinds .before .before in
+    let at-start = after-open-form .before .before .before .before in
     omega (
       arith,
       row-bounds (at-start .args .name) (at-start .args .c) (at-start .pre .1) (after-open-form .open-form .ensures) (after-kinds .kinds .given .1)
@@ -269,8 +267,8 @@ read-form-put-row-requires t c κs =
     let after-e = after-read-members .before .before .before .before in
     let after-read-element = after-e .before .before .before .before .before .before in
     let after-kinds = after-read-element .before .before .before .before .before in
-    let after-open-form = after-kinds .before .before .before .before in
-    let at-start = after-open-form .before .before .before .before .before in (
+    let after-open-form = after-kinds .before .before in
+    let at-start = after-open-form .before .before .before .before in (
       row-bounds (at-start .args .name) (at-start .args .c) (at-start .pre .1) (after-open-form .open-form .ensures) (after-kinds .kinds .given .1)
           (after-read-element .read-element .ensures) (after-e .e .given .1) (after-read-members .read-members .ensures) (after-m .m .given .1) .3,
       omega (
@@ -289,8 +287,8 @@ read-form-returns-3 t c =
     let after-e = after-read-members .before .before .before .before in
     let after-read-element = after-e .before .before .before .before .before .before in
     let after-kinds = after-read-element .before .before .before .before .before in
-    let after-open-form = after-kinds .before .before .before .before in
-    let at-start = after-open-form .before .before .before .before .before in
+    let after-open-form = after-kinds .before .before in
+    let at-start = after-open-form .before .before .before .before in
     form-read (at-start .args .name) (at-start .args .c) (at-start .pre .1) (after-open-form .open-form .ensures) (after-kinds .kinds .given .1)
     (after-read-element .read-element .ensures) (after-e .e .given .1) (after-read-members .read-members .ensures) (after-m .m .given .1)
     (c .before .before .put-row .ensures)
@@ -303,45 +301,40 @@ read-form-same-length-6 t c = read-form-returns-3 t c .sized .pool-kept
 
 read-form-returns-4 : (t : ℕ) → read-form-lts.Need-returns-4 (read-form-claims t) (read-form-at t) read-form.Post
 read-form-returns-4 t c =
-    let after-open-form = c .before .before .before .before .before in
-    let at-start = after-open-form .before .before .before .before .before in
+    let after-open-form = c .before .before .before in
+    let at-start = after-open-form .before .before .before .before in
     open-refused (at-start .args .name) (at-start .args .c) (at-start .pre .1) (after-open-form .open-form .ensures) (c .before .number .given .1)
 
-read-form-same-length-7 : (t : ℕ) → read-form-lts.Need-same-length-7 (read-form-claims t) (read-form-at t) read-form.Post
-read-form-same-length-7 t c = read-form-returns-4 t c .sized .pool-kept
-
 abbrev read-members-Inv-loop : read-members-lts.InvT-loop
-read-members-Inv-loop text shapes₀ pool₀ values left kinds turn₀ shapes pool turn =
-    (c : Cursor) (ss ps : List ℕ) → Turn-answer left values text ss ps shapes₀ pool₀ (kinds .kinds) c turn₀
-    → Turn-answer left values text ss ps shapes pool (kinds .kinds) c turn
+read-members-Inv-loop text shapes₀ pool₀ values left kinds first₀ latest₀ here₀ shapes pool first latest here =
+    Members-so-far left values text shapes₀ pool₀ shapes pool (kinds .kinds) here₀ here first latest
 
 abbrev read-members-μ-loop : read-members-lts.MeasureT-loop
-read-members-μ-loop text shapes₀ pool₀ values left kinds turn₀ shapes pool turn = to-read text turn
+read-members-μ-loop text shapes₀ pool₀ values left kinds first₀ latest₀ here₀ shapes pool first latest here = length text - here .at
+
+read-members-loop-holds
+    : (t : ℕ) → read-members-lts.Need-loop-holds (read-members-claims t) (read-members-at t) read-members.Post read-members-Inv-loop read-members-μ-loop
+read-members-loop-holds t c =
+    let at-start = c .before .before .before in
+    no-members (at-start .args .left) (at-start .args .kinds .kinds) (at-start .args .c) (at-start .pre .1)
 
 read-members-next-member-requires
     : (t : ℕ)
     → read-members-lts.Need-next-member-requires (read-members-claims t) (read-members-at t) read-members.Post read-members-Inv-loop read-members-μ-loop
 read-members-next-member-requires t c κs =
-    let at-start = c .before .before .before .before in
-    at-start .pre .1 .placed
-
-read-members-loop-holds
-    : (t : ℕ) → read-members-lts.Need-loop-holds (read-members-claims t) (read-members-at t) read-members.Post read-members-Inv-loop read-members-μ-loop
-read-members-loop-holds t c = λ k ss ps h. h
+    let at-start = c .before .before .before .before .before in
+    turn-ready (at-start .args .c) (c .before .loop .here) (c .before .loop .inv) (at-start .pre .1) .placed
 
 read-members-read-form-requires
     : (t : ℕ) → read-members-lts.Need-read-form-requires (read-members-claims t) (read-members-at t) read-members.Post read-members-Inv-loop read-members-μ-loop
 read-members-read-form-requires t c κs =
-    let after-turn = c .before .before .before in
-    let at-loop = after-turn .before .before in
-    let at-start = at-loop .before .before .before .before .before .before .before .before in (
+    let after-from = c .before .before .before in
+    let after-next-member = after-from .before .before .before .before in
+    let at-loop = after-next-member .before .before in
+    let at-start = at-loop .before .before .before .before in (
       omega (arith, at-start .pre .0),
-      member-ready (at-start .args .c) (after-turn .turn .given .0 .0)
-          (subst (λ (u : Turn).
-          Turn-answer (at-start .args .left) (at-start .args .values) (at-start .args .text .now) (at-start .args .shapes .now) (at-start .args .pool .now)
-          (at-loop .loop .shapes) (at-loop .loop .pool) (at-start .args .kinds .kinds) (at-start .args .c) u) (after-turn .turn .given .1)
-          (at-loop .loop .inv (at-start .args .c) (at-start .args .shapes .now) (at-start .args .pool .now)
-          (members-start (at-start .args .left) (at-start .args .c) (at-start .pre .1) (at-loop .before .before .before .next-member .ensures))))
+      member-ready (at-start .args .c) (after-from .from .given .0 .0)
+          (member-turn (at-start .args .c) (at-loop .loop .here) (at-loop .loop .inv) (after-next-member .next-member .ensures) (after-from .from .given .1))
           (at-start .pre .1),
     )
 
@@ -349,96 +342,112 @@ read-members-returns
     : (t : ℕ) → read-members-lts.Need-returns (read-members-claims t) (read-members-at t) read-members.Post read-members-Inv-loop read-members-μ-loop
 read-members-returns t c =
     let after-read-form = c .before .before .before .before .before .before in
-    let after-turn = after-read-form .before .before .before .before in
-    let at-loop = after-turn .before .before in
-    let at-start = at-loop .before .before .before .before .before .before .before .before in
-    member-refused (at-start .args .c) (after-turn .turn .given .0 .0)
-    (subst (λ (u : Turn).
-    Turn-answer (at-start .args .left) (at-start .args .values) (at-start .args .text .now) (at-start .args .shapes .now) (at-start .args .pool .now)
-    (at-loop .loop .shapes) (at-loop .loop .pool) (at-start .args .kinds .kinds) (at-start .args .c) u) (after-turn .turn .given .1)
-    (at-loop .loop .inv (at-start .args .c) (at-start .args .shapes .now) (at-start .args .pool .now)
-    (members-start (at-start .args .left) (at-start .args .c) (at-start .pre .1) (at-loop .before .before .before .next-member .ensures))))
+    let after-from = after-read-form .before .before .before .before in
+    let after-next-member = after-from .before .before .before .before in
+    let at-loop = after-next-member .before .before in
+    let at-start = at-loop .before .before .before .before in
+    member-refused (at-start .args .c) (after-from .from .given .0 .0)
+    (member-turn (at-start .args .c) (at-loop .loop .here) (at-loop .loop .inv) (after-next-member .next-member .ensures) (after-from .from .given .1))
     (after-read-form .read-form .ensures) (c .enum-told .given .1)
 
 read-members-same-length
     : (t : ℕ) → read-members-lts.Need-same-length (read-members-claims t) (read-members-at t) read-members.Post read-members-Inv-loop read-members-μ-loop
-read-members-same-length t c = read-members-returns t c .sized .shapes-kept
+read-members-same-length t c =
+    read-members-returns t c .sized .shapes-kept
 
 read-members-same-length-2
     : (t : ℕ) → read-members-lts.Need-same-length-2 (read-members-claims t) (read-members-at t) read-members.Post read-members-Inv-loop read-members-μ-loop
-read-members-same-length-2 t c = read-members-returns t c .sized .pool-kept
+read-members-same-length-2 t c =
+    read-members-returns t c .sized .pool-kept
 
-read-members-behind-member-requires
+read-members-close-member-requires
     : (t : ℕ)
-    → read-members-lts.Need-behind-member-requires (read-members-claims t) (read-members-at t) read-members.Post read-members-Inv-loop read-members-μ-loop
-read-members-behind-member-requires t c κs =
-    let after-read-form = c .before .before .before .before .before .before .before .before in
-    let after-turn = after-read-form .before .before .before .before in
-    let at-loop = after-turn .before .before in
-    let at-start = at-loop .before .before .before .before .before .before .before .before in
-    form-ready (at-start .args .c) (after-turn .turn .given .0 .0)
-    (subst (λ (u : Turn).
-    Turn-answer (at-start .args .left) (at-start .args .values) (at-start .args .text .now) (at-start .args .shapes .now) (at-start .args .pool .now)
-    (at-loop .loop .shapes) (at-loop .loop .pool) (at-start .args .kinds .kinds) (at-start .args .c) u) (after-turn .turn .given .1)
-    (at-loop .loop .inv (at-start .args .c) (at-start .args .shapes .now) (at-start .args .pool .now)
-    (members-start (at-start .args .left) (at-start .args .c) (at-start .pre .1) (at-loop .before .before .before .next-member .ensures))))
-    (after-read-form .read-form .ensures) (c .before .before .r .given .1) (at-start .pre .1) .placed
+    → read-members-lts.Need-close-member-requires (read-members-claims t) (read-members-at t) read-members.Post read-members-Inv-loop read-members-μ-loop
+read-members-close-member-requires t c κs =
+    let after-read-form = c .before .before .before .before .before .before .before in
+    let after-from = after-read-form .before .before .before .before in
+    let after-next-member = after-from .before .before .before .before in
+    let at-loop = after-next-member .before .before in
+    let at-start = at-loop .before .before .before .before in
+    form-ready (at-start .args .c) (after-from .from .given .0 .0)
+    (member-turn (at-start .args .c) (at-loop .loop .here) (at-loop .loop .inv) (after-next-member .next-member .ensures) (after-from .from .given .1))
+    (after-read-form .read-form .ensures) (c .before .r .given .1) (at-start .pre .1) .placed .within
+
+read-members-returns-2
+    : (t : ℕ) → read-members-lts.Need-returns-2 (read-members-claims t) (read-members-at t) read-members.Post read-members-Inv-loop read-members-μ-loop
+read-members-returns-2 t c =
+    let after-r = c .before .before .before .before in
+    let after-read-form = after-r .before .before .before .before .before .before in
+    let after-from = after-read-form .before .before .before .before in
+    let after-next-member = after-from .before .before .before .before in
+    let at-loop = after-next-member .before .before in
+    let at-start = at-loop .before .before .before .before in
+    member-open-still (at-start .args .c) (after-from .from .given .0 .0)
+    (member-turn (at-start .args .c) (at-loop .loop .here) (at-loop .loop .inv) (after-next-member .next-member .ensures) (after-from .from .given .1))
+    (after-read-form .read-form .ensures) (after-r .r .given .1) (c .before .before .close-member .ensures) (c .enum-told2 .given .1)
+
+read-members-same-length-3
+    : (t : ℕ) → read-members-lts.Need-same-length-3 (read-members-claims t) (read-members-at t) read-members.Post read-members-Inv-loop read-members-μ-loop
+read-members-same-length-3 t c =
+    read-members-returns-2 t c .sized .shapes-kept
+
+read-members-same-length-4
+    : (t : ℕ) → read-members-lts.Need-same-length-4 (read-members-claims t) (read-members-at t) read-members.Post read-members-Inv-loop read-members-μ-loop
+read-members-same-length-4 t c =
+    read-members-returns-2 t c .sized .pool-kept
 
 read-members-loop-less
     : (t : ℕ) → read-members-lts.Need-loop-less (read-members-claims t) (read-members-at t) read-members.Post read-members-Inv-loop read-members-μ-loop
 read-members-loop-less t c =
-    let after-behind-member = c .before .before in
-    let after-r = after-behind-member .before .before .before in
+    let after-r = c .before .before .before .before .before in
     let after-read-form = after-r .before .before .before .before .before .before in
-    let after-turn = after-read-form .before .before .before .before in
-    let at-loop = after-turn .before .before in
-    let at-start = at-loop .before .before .before .before .before .before .before .before in
-    subst (λ (u : Turn). to-read (at-start .args .text .now) (after-behind-member .behind-member .result) < to-read (at-start .args .text .now) u)
-    (sym (after-turn .turn .given .1))
-    (reads-less (after-turn .turn .given .0 .0) (after-r .r .given .0 .0)
-    (done (at-start .args .c) (after-turn .turn .given .0 .0)
-    (subst (λ (u : Turn).
-    Turn-answer (at-start .args .left) (at-start .args .values) (at-start .args .text .now) (at-start .args .shapes .now) (at-start .args .pool .now)
-    (at-loop .loop .shapes) (at-loop .loop .pool) (at-start .args .kinds .kinds) (at-start .args .c) u) (after-turn .turn .given .1)
-    (at-loop .loop .inv (at-start .args .c) (at-start .args .shapes .now) (at-start .args .pool .now)
-    (members-start (at-start .args .left) (at-start .args .c) (at-start .pre .1) (at-loop .before .before .before .next-member .ensures))))
-    (after-read-form .read-form .ensures) (after-r .r .given .1))
-    (after-behind-member .behind-member .ensures))
+    let after-from = after-read-form .before .before .before .before in
+    let after-next-member = after-from .before .before .before .before in
+    let at-loop = after-next-member .before .before in
+    let at-start = at-loop .before .before .before .before in
+    let d = behind-bracket (at-start .args .c) (after-from .from .given .0 .0)
+    (member-turn (at-start .args .c) (at-loop .loop .here) (at-loop .loop .inv) (after-next-member .next-member .ensures) (after-from .from .given .1))
+    (after-read-form .read-form .ensures) (after-r .r .given .1) (c .before .before .before .close-member .ensures) (c .before .e .given .1) in
+    omega (
+      arith,
+      turn-further (at-start .args .c) (at-loop .loop .here) (at-loop .loop .inv) (after-next-member .next-member .ensures) (after-from .from .given .1),
+      done (at-start .args .c) (after-from .from .given .0 .0)
+          (member-turn (at-start .args .c) (at-loop .loop .here) (at-loop .loop .inv) (after-next-member .next-member .ensures) (after-from .from .given .1))
+          (after-read-form .read-form .ensures) (after-r .r .given .1) .goes .moves .ahead,
+      d .further,
+      d .within,
+    )
 
 read-members-loop-again
     : (t : ℕ) → read-members-lts.Need-loop-again (read-members-claims t) (read-members-at t) read-members.Post read-members-Inv-loop read-members-μ-loop
 read-members-loop-again t c =
     let after-r = c .before .before .before .before .before in
     let after-read-form = after-r .before .before .before .before .before .before in
-    let after-turn = after-read-form .before .before .before .before in
-    let at-loop = after-turn .before .before in
-    let at-start = at-loop .before .before .before .before .before .before .before .before in
-    λ k ss ps h.
-    member-read k (after-turn .turn .given .0 .0)
-    (subst (λ (u : Turn).
-    Turn-answer (at-start .args .left) (at-start .args .values) (at-start .args .text .now) ss ps (at-loop .loop .shapes) (at-loop .loop .pool)
-    (at-start .args .kinds .kinds) k u) (after-turn .turn .given .1)
-    (at-loop .loop .inv k ss ps h))
-    (after-read-form .read-form .ensures) (after-r .r .given .1) (c .before .before .behind-member .ensures)
+    let after-from = after-read-form .before .before .before .before in
+    let after-next-member = after-from .before .before .before .before in
+    let at-loop = after-next-member .before .before in
+    let at-start = at-loop .before .before .before .before in
+    member-read (at-start .args .c) (after-from .from .given .0 .0)
+    (member-turn (at-start .args .c) (at-loop .loop .here) (at-loop .loop .inv) (after-next-member .next-member .ensures) (after-from .from .given .1))
+    (after-read-form .read-form .ensures) (after-r .r .given .1) (c .before .before .before .close-member .ensures) (c .before .e .given .1)
 
-read-members-returns-2
-    : (t : ℕ) → read-members-lts.Need-returns-2 (read-members-claims t) (read-members-at t) read-members.Post read-members-Inv-loop read-members-μ-loop
-read-members-returns-2 t c =
-    let at-loop = c .before .before .before in
-    let at-start = at-loop .before .before .before .before .before .before .before .before in
-    subst (λ (u : Turn).
-    Turn-answer (at-start .args .left) (at-start .args .values) (at-start .args .text .now) (at-start .args .shapes .now) (at-start .args .pool .now)
-    (at-loop .loop .shapes) (at-loop .loop .pool) (at-start .args .kinds .kinds) (at-start .args .c) u) (c .before .turn2 .given .1)
-    (at-loop .loop .inv (at-start .args .c) (at-start .args .shapes .now) (at-start .args .pool .now)
-    (members-start (at-start .args .left) (at-start .args .c) (at-start .pre .1) (at-loop .before .before .before .next-member .ensures)))
+read-members-returns-3
+    : (t : ℕ) → read-members-lts.Need-returns-3 (read-members-claims t) (read-members-at t) read-members.Post read-members-Inv-loop read-members-μ-loop
+read-members-returns-3 t c =
+    let after-next-member = c .before .before .before .before .before in
+    let at-loop = after-next-member .before .before in
+    let at-start = at-loop .before .before .before .before in
+    last-turn (at-start .args .c) (at-loop .loop .here) (at-loop .loop .inv) (after-next-member .next-member .ensures) (c .before .answer .given .1)
 
-read-members-same-length-3
-    : (t : ℕ) → read-members-lts.Need-same-length-3 (read-members-claims t) (read-members-at t) read-members.Post read-members-Inv-loop read-members-μ-loop
-read-members-same-length-3 t c = read-members-returns-2 t c .sized .shapes-kept
+read-members-same-length-5
+    : (t : ℕ) → read-members-lts.Need-same-length-5 (read-members-claims t) (read-members-at t) read-members.Post read-members-Inv-loop read-members-μ-loop
+read-members-same-length-5 t c =
+    read-members-returns-3 t c .sized .shapes-kept
 
-read-members-same-length-4
-    : (t : ℕ) → read-members-lts.Need-same-length-4 (read-members-claims t) (read-members-at t) read-members.Post read-members-Inv-loop read-members-μ-loop
-read-members-same-length-4 t c = read-members-returns-2 t c .sized .pool-kept
+read-members-same-length-6
+    : (t : ℕ) → read-members-lts.Need-same-length-6 (read-members-claims t) (read-members-at t) read-members.Post read-members-Inv-loop read-members-μ-loop
+read-members-same-length-6 t c =
+    read-members-returns-3 t c .sized .pool-kept
 
 pub +read-element+read-form+read-members-spec : {M : Type 1} → statement M
 +read-element+read-form+read-members-spec =
@@ -477,25 +486,28 @@ pub +read-element+read-form+read-members-spec : {M : Type 1} → statement M
     (read-form-same-length-5 t)
     (read-form-same-length-6 t)
     (read-form-returns-3 t)
-    (read-form-same-length-7 t)
     (read-form-returns-4 t))
     λ t. read-members-lts.spec (read-members-claims t)
     (read-members-at t)
     read-members.Post
     read-members-Inv-loop
     read-members-μ-loop
-    (read-members-next-member-requires t)
     (read-members-loop-holds t)
+    (read-members-next-member-requires t)
     (λ c. search needs)
     (read-members-read-form-requires t)
     (λ c. search needs) (λ c. search needs)
     (read-members-same-length t)
     (read-members-same-length-2 t)
     (read-members-returns t)
-    (read-members-behind-member-requires t)
-    (read-members-loop-less t)
-    (read-members-loop-again t)
-    (λ c. search needs)
+    (read-members-close-member-requires t)
+    (λ c. search needs) (λ c. search needs)
     (read-members-same-length-3 t)
     (read-members-same-length-4 t)
     (read-members-returns-2 t)
+    (read-members-loop-less t)
+    (read-members-loop-again t)
+    (λ c. search needs)
+    (read-members-same-length-5 t)
+    (read-members-same-length-6 t)
+    (read-members-returns-3 t)

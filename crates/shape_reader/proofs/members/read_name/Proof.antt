@@ -1,43 +1,47 @@
 -- `shape_reader::members::read_name` meets its contract. Assumes nothing.
 use borrow.Author.Needs.{needs}
-use Rattle.shape_reader.proofs.Steps.{next-room}
+use mathlib.Core.Path.{refl}
+use Rattle.tokens.specs.WordValues.{joined, word-value, fits}
+use Rattle.shape_reader.proofs.Steps.{next-room, member-bytes}
 use Rattle.shape_reader.proofs.MemberReading.{no-member-word, name-room, no-name, a-name}
 use Rattle.shape_reader.proofs.members.read_name.Statement.{statement}
 use Rattle.shape_reader.proofs.members.read_name.Tie as tie
 
-next-requires : tie.Need-next-requires
-next-requires c κs =
-    let after-expect = c .before .before .before .before .before .before in
-    let at-start = after-expect .before .before .before .before .before in
-    next-room (name-room (after-expect .expect .ensures) (c .before .before .behind .given .1) (at-start .pre))
+next-text-requires : tie.Need-next-text-requires
+unfolding word-value joined fits
+next-text-requires c κs =
+    let after-expect = c .before .before .before .before in
+    next-room
+    (name-room (after-expect .expect .ensures member-bytes refl refl) (c .before .before .behind .given .1) (after-expect .before .before .before .pre))
 
 returns : tie.Need-returns
+unfolding word-value joined fits
 returns c =
-    let after-next = c .before .before .before .before in
-    let after-expect = after-next .before .before .before .before .before .before .before in
-    no-name (after-expect .expect .ensures) (after-next .before .before .before .behind .given .1) (after-next .next .ensures)
-    (c .before .match2 .keys2) (c .place .ensures)
+    let after-next-text = c .before .before .before .before .before in
+    let after-expect = after-next-text .before .before .before .before .before in
+    a-name (after-expect .expect .ensures member-bytes refl refl) (after-next-text .before .before .before .behind .given .1)
+    (after-next-text .next-text .ensures) (c .before .place .given .1)
 
 returns-2 : tie.Need-returns-2
+unfolding word-value joined fits
 returns-2 c =
-    let after-next = c .before .before .before .before .before in
-    let after-expect = after-next .before .before .before .before .before .before .before in
-    a-name (after-expect .expect .ensures) (after-next .before .before .before .behind .given .1) (after-next .next .ensures) (c .before .t .given .1)
+    let after-next-text = c .before .before .before .before .before in
+    let after-expect = after-next-text .before .before .before .before .before in
+    no-name (after-expect .expect .ensures member-bytes refl refl) (after-next-text .before .before .before .behind .given .1)
+    (after-next-text .next-text .ensures) (c .before .place2 .given .1)
 
 returns-3 : tie.Need-returns-3
-returns-3 c =
-    let after-expect = c .before .before .before .before .before in
-    no-member-word (after-expect .expect .ensures) (c .before .place2 .given .1)
+unfolding word-value joined fits
+returns-3 c = no-member-word (c .before .before .before .expect .ensures member-bytes refl refl) (c .before .place3 .given .1)
 
 pub read-name-spec : {M : Type 1} → statement M
 read-name-spec =
     tie.close
     (tie.spec
-    (λ c. search needs) (λ c κs. search needs) (λ c. search needs)
-    next-requires
-    (λ c. search needs) (λ c κs. search needs) (λ c. search needs)
+    (λ c κs. search needs) (λ c. search needs)
+    next-text-requires
+    (λ c. search needs) (λ c. search needs) (λ c. search needs) (λ c. search needs)
     returns
-    (λ c. search needs) (λ c. search needs)
-    returns-2
     (λ c. search needs)
+    returns-2
     returns-3)

@@ -1,51 +1,39 @@
 -- `shape_reader::opening::expect` meets its contract. Assumes nothing.
 use borrow.Author.Needs.{needs}
 use mathlib.Core.Path.{sym, _∙_}
-use Rattle.shape_reader.proofs.Steps.{next-room}
-use Rattle.shape_reader.proofs.Openings.{word-missing, found-word, word-there, word-other}
 use native.Mathlib.Omega.{arith}
+use Rattle.shape_reader.proofs.Openings.{word-missing, found-word, word-there, word-other}
 use Rattle.shape_reader.proofs.opening.expect.Statement.{statement}
 use Rattle.shape_reader.proofs.opening.expect.Tie as tie
 
-next-requires : tie.Need-next-requires
-next-requires c κs =
-    let at-start = c .before .before .before .before in
-    next-room (at-start .pre)
+word-value-requires : tie.Need-word-value-requires
+word-value-requires c κs = let f = found-word (c .before .before .before .next-word .ensures) (c .before .place .given .1) in
+    (omega (arith, f .ahead), f .within)
 
 returns : tie.Need-returns
 returns c =
-    let after-next = c .before .before .before .before in
-    let at-start = after-next .before .before .before .before .before in
-    word-missing (after-next .next .ensures) (at-start .args .word .now) (c .before .match .keys2) (c .place .ensures)
-
-is-word-requires : tie.Need-is-word-requires
-is-word-requires c κs =
-    let after-next = c .before .before .before .before .before in
-    let f = found-word (after-next .next .ensures) (c .before .t .given .1) in (omega (arith, f .ahead), f .within)
+    let after-next-word = c .before .before .before .before .before in
+    λ w f e.
+    word-there (after-next-word .next-word .ensures) w (c .before .before .before .place .given .1)
+    (c .before .word-value .ensures .is w f (c .if1 .taken ∙ e))
 
 returns-2 : tie.Need-returns-2
 returns-2 c =
-    let after-next = c .before .before .before .before .before .before .before in
-    let at-start = after-next .before .before .before .before .before in
-    word-there (after-next .next .ensures) (at-start .args .word .now) (c .before .before .before .t .given .1)
-    (sym (c .if1 .taken) ∙ c .before .is-word .ensures)
+    let after-next-word = c .before .before .before .before .before in
+    λ w f e.
+    word-other (after-next-word .next-word .ensures) w (c .before .before .before .place .given .1)
+    (c .before .word-value .ensures .other w f (λ i. c .if1 .left (i ∙ sym e)))
 
 returns-3 : tie.Need-returns-3
-returns-3 c =
-    let after-next = c .before .before .before .before .before .before .before in
-    let at-start = after-next .before .before .before .before .before in
-    word-other (after-next .next .ensures) (at-start .args .word .now) (c .before .before .before .t .given .1)
-    (sym (c .if1 .left) ∙ c .before .is-word .ensures)
+returns-3 c = λ w f e. word-missing (c .before .before .before .next-word .ensures) w (c .before .place2 .given .1)
 
 pub expect-spec : {M : Type 1} → statement M
 expect-spec =
     tie.close
     (tie.spec
-    next-requires
-    (λ c. search needs) (λ c κs. search needs) (λ c. search needs)
+    (λ c κs. search needs) (λ c. search needs)
+    word-value-requires
+    (λ c. search needs)
     returns
-    is-word-requires
-    (λ c. search needs)
     returns-2
-    (λ c. search needs)
     returns-3)

@@ -1,34 +1,16 @@
 -- `tokens::expect::next_opening` meets its contract. Assumes nothing.
 use borrow.Author.Needs.{needs}
-use Prim.Native.Nat.{ℕ}
-use mathlib.Core.List.{List, [], _∷_}
-use types.Run.{miss}
 use Rattle.tokens.specs.Expecting.{an-opening}
-use Rattle.tokens.proofs.Expected.{next-kept, token-is, lacks}
+use Rattle.tokens.proofs.Expected.{first-opening, lacks-first}
 use Rattle.tokens.proofs.expect.next_opening.Statement.{statement}
 use Rattle.tokens.proofs.expect.next_opening.Tie as tie
 
 returns : tie.Need-returns
-returns c =
-    let at-match = c .before in
-    let at-next = at-match .before .before .before in
-    let others : List ℕ = 1 ∷ 2 ∷ 3 ∷ 4 ∷ 5 ∷ [] in
-    record {
-      answer = lacks an-opening others (at-next .next .ensures) (λ i. miss others 0 tt i) (at-match .match .keys2) (c .place .ensures);
-      kept = next-kept (at-next .next .ensures);
-    }
+returns c = record { answer = first-opening (c .before .before .skip-space .ensures) (c .before .first-byte .ensures) (c .if1 .taken) }
 
 returns-2 : tie.Need-returns-2
 returns-2 c =
-    let at-t = c .before in
-    let at-next = at-t .before .before .before .before in
-    record { answer = token-is (at-next .next .ensures) (at-t .t .given .1); kept = next-kept (at-next .next .ensures) }
+    record { answer = lacks-first (c .before .before .skip-space .ensures) (c .before .first-byte .ensures) an-opening 0x28 (λ y e. e) (c .if1 .left) }
 
 pub next-opening-spec : {M : Type 1} → statement M
-next-opening-spec =
-    tie.close
-    (tie.spec
-    (λ c κs. search needs) (λ c. search needs) (λ c κs. search needs) (λ c. search needs)
-    returns
-    (λ c. search needs)
-    returns-2)
+next-opening-spec = tie.close (tie.spec (λ c κs. search needs) (λ c κs. search needs) returns returns-2)

@@ -1,34 +1,20 @@
 -- `tokens::expect::next_word` meets its contract. Assumes nothing.
 use borrow.Author.Needs.{needs}
-use Prim.Native.Nat.{ℕ}
-use mathlib.Core.List.{List, [], _∷_}
-use types.Run.{miss}
+use native.Mathlib.Omega.{arith}
 use Rattle.tokens.specs.Expecting.{a-word}
-use Rattle.tokens.proofs.Expected.{next-kept, token-is, lacks}
+use Rattle.tokens.proofs.Lexing.{found-word, no-word-there}
+use Rattle.tokens.proofs.Expected.{lacks}
 use Rattle.tokens.proofs.expect.next_word.Statement.{statement}
 use Rattle.tokens.proofs.expect.next_word.Tie as tie
 
 returns : tie.Need-returns
 returns c =
-    let at-match = c .before in
-    let at-next = at-match .before .before .before in
-    let others : List ℕ = 0 ∷ 1 ∷ 2 ∷ 4 ∷ 5 ∷ [] in
-    record {
-      answer = lacks a-word others (at-next .next .ensures) (λ i. miss others 3 tt i) (at-match .match .keys2) (c .place .ensures);
-      kept = next-kept (at-next .next .ensures);
-    }
+    let runs = c .before .word-end .ensures in
+    record { answer = found-word (c .before .before .skip-space .ensures) (omega (arith, c .if1 .taken, runs .within)) (c .if1 .taken) runs }
 
 returns-2 : tie.Need-returns-2
 returns-2 c =
-    let at-t = c .before in
-    let at-next = at-t .before .before .before .before in
-    record { answer = token-is (at-next .next .ensures) (at-t .t .given .1); kept = next-kept (at-next .next .ensures) }
+    record { answer = lacks a-word (c .before .before .skip-space .ensures) (no-word-there (c .before .word-end .ensures) (omega (arith, c .if1 .left))) }
 
 pub next-word-spec : {M : Type 1} → statement M
-next-word-spec =
-    tie.close
-    (tie.spec
-    (λ c κs. search needs) (λ c. search needs) (λ c κs. search needs) (λ c. search needs)
-    returns
-    (λ c. search needs)
-    returns-2)
+next-word-spec = tie.close (tie.spec (λ c κs. search needs) (λ c κs. search needs) returns returns-2)
