@@ -135,8 +135,16 @@ fn settle(negative: bool, coefficient: u64, digits: usize, end: usize) -> Number
     }
 }
 
+// Reads the longest run of bytes from `at` on that begins a number, a byte at a time.
+fn slow_number(doc: &[u8], at: usize) -> NumberRead
+    requires { ⌜ at ≤ length (now doc) ⌝ }
+    ensures { λ r. ⌜ Reads-number (now (doc .entry)) at r ⌝ }
+{
+    read_on(doc, at, NumberPhase::Begin, numeral::no_digits())
+}
+
 // Reads the longest run of bytes from `at` on that begins a number: at once where it is a number without an exponent, as
-// most are, and else a byte at a time.
+// most are, and else a byte at a time. One place calls it, so that it is compiled into the reader of documents.
 pub fn read_number(doc: &[u8], at: usize) -> NumberRead
     requires { ⌜ at ≤ length (now doc) ⌝ }
     ensures { λ r. ⌜ Reads-number (now (doc .entry)) at r ⌝ }
@@ -146,7 +154,7 @@ pub fn read_number(doc: &[u8], at: usize) -> NumberRead
     let point = whole_end(doc, start);
     let end = fraction_end(doc, point);
     if (point == start) | (end == point + 1) | may_go_on(doc, end) {
-        return read_on(doc, at, NumberPhase::Begin, numeral::no_digits());
+        return slow_number(doc, at);
     }
     let whole = digits::digits_value(doc, start, point, 0);
     if end == point {

@@ -1,6 +1,6 @@
 // Numbers that are whole words, in shape texts and readers.
 ghost use Rattle.number.specs.NumberWord.{Word-answer};
-use crate::read_number;
+use crate::slow_number;
 
 // What a word spells.
 pub enum WordRead {
@@ -17,7 +17,7 @@ pub enum WordRead {
 pub fn read_word(word: &[u8]) -> WordRead
     ensures read { λ r. ⌜ Word-answer (now (word .entry)) r ⌝ }
 {
-    let n = read_number(word, 0);
+    let n = slow_number(word, 0);
     if n.end != word.len() {
         return WordRead::Nothing;
     }

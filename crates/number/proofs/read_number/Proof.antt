@@ -1,7 +1,7 @@
 -- `number::read_number` meets its contract: a number without an exponent by its parts, and any other a byte at a time. Assumes nothing.
 use native.Mathlib.Omega.{arith}
 use borrow.Author.Needs.{needs}
-use Rattle.number.proofs.DigitRuns.{behind-place, reads-number}
+use Rattle.number.proofs.DigitRuns.{behind-place}
 use Rattle.number.proofs.Parts.{whole-digits, fraction-digits, start-before, first-before, reads-int-number, reads-decimal-number}
 use Rattle.number.proofs.read_number.Statement.{statement}
 use Rattle.number.proofs.read_number.Tie as tie
@@ -20,9 +20,6 @@ fraction-end-requires c κs = whole-digits (c .whole-end .ensures) .within
 
 add-if1 : tie.Need-add-if1
 add-if1 c = omega (arith, whole-digits (c .before .whole-end .ensures) .within)
-
-returns : tie.Need-returns
-returns c = reads-number (c .read-on .ensures _ (c .before .no-digits .ensures))
 
 digits-value-requires : tie.Need-digits-value-requires
 digits-value-requires c κs =
@@ -79,8 +76,7 @@ read-number-spec =
     whole-end-requires
     fraction-end-requires
     add-if1
-    (λ c κs. search needs) (λ c κs. search needs) (λ c κs. search needs)
-    returns
+    (λ c κs. search needs) (λ c κs. search needs) (λ c. c .slow-number .ensures)
     digits-value-requires
     (λ c κs. search needs)
     returns-2
