@@ -5,15 +5,15 @@ use native.Mathlib.Decide.{decLt}
 use native.Mathlib.Omega.{arith}
 use mathlib.Core.Path.{_≡_, refl, sym, ap, ap₂, _∙_, subst}
 use lib.Arith.{digits-lt}
-use lib.ListN.{getD}
+use lib.ListN.{length, getD}
 use lib.Pow.{pow-add}
 use Rattle.definitions.specs.Bytes.{Bytes}
 use Rattle.pool.specs.Lanes.{lane}
 use Rattle.pool.specs.LaneLaws.{lane-shr, lane-shr-out}
-use Rattle.number.specs.NumberCode.{All-digits, Digit-lanes, onto, Taken, lanes-value, past-coefficient}
+use Rattle.number.specs.NumberCode.{All-digits, Digit-lanes, Has-room, First-count, onto, Taken, lanes-value, past-coefficient}
 use Rattle.number.proofs.Caps.{shifted-cap}
 use Rattle.number.proofs.Rows.{row-bounds}
-use Rattle.number.proofs.DigitRuns.{digits-front}
+use Rattle.number.proofs.DigitRuns.{digits-front, digits-back}
 
 -- ---- one by one
 
@@ -77,14 +77,19 @@ onto-small doc at (suc n) d =
     let m = row-bounds 48 57 (getD doc (at + n) 0) (d .each (at + n) (omega arith) (omega arith)) in
     omega (arith, pow-suc 10 n, onto-small doc at n (digits-front (omega arith) (omega arith) d), m .0, m .1)
 
+-- m digits behind a coefficient make it one of at most t digits
+grown-small
+    : {doc : Bytes} {at m c : ℕ} (t : ℕ) → All-digits doc at (at + m) → m ≤ t → c < 10 ^ (t - m) → c * 10 ^ m + onto doc at m 0 < 10 ^ t
+grown-small {doc} {at} {m} {c} t d h l =
+    let whole : 10 ^ (t - m) * 10 ^ m ≡ 10 ^ t =
+    sym (pow-add 10 (t - m) m) ∙ ap (λ (n : ℕ). 10 ^ n) (let q : t - m + m ≡ t = omega arith in q)
+    in
+    subst (λ (n : ℕ). c * 10 ^ m + onto doc at m 0 < n) whole (digits-lt l (onto-small doc at m d))
+
 -- where there is room for so many digits, no cap is reached
 module _ {doc : Bytes} {at m c : ℕ} (d : All-digits doc at (at + m)) (h : m ≤ 18) (l : c < 10 ^ (18 - m)) where
   room : c * 10 ^ m + onto doc at m 0 < past-coefficient
-  room =
-      let whole : 10 ^ (18 - m) * 10 ^ m ≡ past-coefficient =
-      sym (pow-add 10 (18 - m) m) ∙ ap (λ (n : ℕ). 10 ^ n) (let q : 18 - m + m ≡ 18 = omega arith in q)
-      in
-      subst (λ (n : ℕ). c * 10 ^ m + onto doc at m 0 < n) whole (digits-lt l (onto-small doc at m d))
+  room = grown-small 18 d h l
 
   pub many-room : c * 10 ^ m < past-coefficient
   many-room = omega (arith, room)
@@ -168,39 +173,85 @@ module _ {doc : Bytes} {at x : ℕ} (v : Digit-lanes doc at x) where
         ∙ value-of doc at (x / 2 ^ (64 - 8 * m)) (8 - m) shifted-out m m (le-refl m) shifted-down
 
 -- up to eight digits
-module _ {doc : Bytes} {at x c q : ℕ} (end : ℕ) (d : All-digits doc at end) (v : Digit-lanes doc at x) (hx : x < 2 ^ 64) (h : end - at ≤ 8)
-    (e : q ≡ 10 ^ (18 - (end - at))) (l : c < q) where
-  counted : All-digits doc at (at + (end - at))
-  counted = let same : at + (end - at) ≡ end = omega (arith, d .behind) in rw same d
+module _ {doc : Bytes} {at m x c : ℕ} (d : All-digits doc at (at + m)) (v : Digit-lanes doc at x) (hx : x < 2 ^ 64) (h : m ≤ 8)
+    (l : c < 10 ^ (18 - m)) where
+  pub short-small : (j : ℕ) → j < 8 → lane (x / 2 ^ (64 - 8 * m)) j < 10
+  short-small = first-small v hx m h d
 
-  below : c < 10 ^ (18 - (end - at))
-  below = rw e at l
-
-  pub short-small : (j : ℕ) → j < 8 → lane (x / 2 ^ (64 - 8 * (end - at))) j < 10
-  short-small = first-small v hx (end - at) h counted
-
-  module _ {p : ℕ} (f : p ≡ 10 ^ (end - at)) where
-    pub short-room : c * p < 2 ^ 64
-    short-room = rw f (omega (arith, many-room counted (omega arith) below))
-
-    module _ {r : ℕ} (g : r ≡ lanes-value (x / 2 ^ (64 - 8 * (end - at))) 8) where
+  module _ {p : ℕ} (f : p ≡ 10 ^ m) where
+    module _ {r : ℕ} (g : r ≡ lanes-value (x / 2 ^ (64 - 8 * m)) 8) where
       pub short-fit : c * p + r < 2 ^ 64
-      short-fit = rw f (omega (arith, many-fit counted (omega arith) below (g ∙ first-value v hx (end - at) h counted)))
+      short-fit = rw f (omega (arith, many-fit d (omega arith) l (g ∙ first-value v hx m h d)))
 
-      pub short-taken : Taken doc at (end - at) c (c * p + r)
-      short-taken = rw f (taken-many counted (omega arith) below (g ∙ first-value v hx (end - at) h counted))
+      pub short-grown : c * p + r ≡ c * 10 ^ m + onto doc at m 0
+      short-grown = ap₂ (λ (k n : ℕ). c * k + n) f (g ∙ first-value v hx m h d)
 
--- eight digits and more
-module _ {doc : Bytes} {at end x c : ℕ} (d : All-digits doc at end) (v : Digit-lanes doc at x) (h : 8 < end - at) (l : c < 10000000000) where
-  eight-first : All-digits doc at (at + 8)
-  eight-first = digits-front (omega arith) (omega arith) d
+pub short-room : {doc : Bytes} {at m c p : ℕ} → All-digits doc at (at + m) → m ≤ 8 → c < 10 ^ (18 - m) → p ≡ 10 ^ m → c * p < 2 ^ 64
+short-room d h l f = rw f (omega (arith, many-room d (omega arith) l))
 
-  pub long-small : (j : ℕ) → j < 8 → lane x j < 10
-  long-small = eight-small v eight-first
+-- as many of up to sixteen digits as come first
+module _ {n m : ℕ} (f : First-count n m) (pos : 0 < n) (h : n ≤ 16) where
+  bounds : (0 < m) × (m ≤ 8) × (m ≤ n)
+  bounds = go (decLt 8 n)
+    where
+      go : Dec (8 < n) → (0 < m) × (m ≤ 8) × (m ≤ n)
+      go (yes l) = let e = f .part l in (omega arith, omega arith, omega arith)
+      go (no l) = let e = f .all (omega arith) in (omega arith, omega arith, omega arith)
 
-  module _ {r : ℕ} (g : r ≡ lanes-value x 8) where
-    pub long-fit : c * 100000000 + r < 2 ^ 64
-    long-fit = omega (arith, many-fit {m = 8} eight-first (omega arith) l (g ∙ eight-value v eight-first))
+  pub first-ready
+      : {doc : Bytes} {at c : ℕ} (end : ℕ) → n ≡ end - at → Has-room doc at n c → All-digits doc at end
+      → (0 < m) × (m ≤ 8) × Has-room doc at m c × All-digits doc at (at + m)
+  first-ready end e room d =
+      let b = bounds in (
+        b .0,
+        b .1,
+        record { few = omega (arith, b .1); word = room .word; below = lt-of-lt-of-le (room .below) (pow-le-pow-right (omega arith) (omega (arith, b .2))) },
+        digits-front (omega arith) (omega (arith, b .2, d .behind)) d,
+      )
 
-    pub long-taken : {c₂ : ℕ} → Taken doc (at + 8) (end - (at + 8)) (c * 100000000 + r) c₂ → Taken doc at (end - at) c c₂
-    long-taken t = taken-join (omega arith) (taken-many {m = 8} eight-first (omega arith) l (g ∙ eight-value v eight-first)) t
+-- a coefficient with up to sixteen digits, of which m come first
+module _ {doc : Bytes} {at c c₁ : ℕ} (end m : ℕ) (d : All-digits doc at end) (h : end - at ≤ 16) (l : c < 10 ^ (18 - (end - at)))
+    (e : c₁ ≡ c * 10 ^ m + onto doc at m 0) where
+  -- these are all
+  pub first-taken : m ≡ end - at → Taken doc at (end - at) c c₁
+  first-taken q =
+      let all : at + (end - at) ≡ end = omega (arith, d .behind) in
+      rw (e, q) (taken-many {m = end - at} (rw all d) (omega arith) l refl)
+
+  -- eight are left
+  module _ (q : m + 8 ≡ end - at) where
+    front : All-digits doc at (at + m)
+    front = digits-front (omega arith) (omega arith) d
+
+    last : All-digits doc (at + m) (at + m + 8)
+    last = let same : at + m + 8 ≡ end = omega (arith, d .behind) in rw same (digits-back (omega arith) (omega arith) d)
+
+    ten : 18 - (end - at) ≡ 10 - m
+    ten = omega arith
+
+    below : c₁ < 10000000000
+    below = rw e (grown-small 10 front (omega arith) (rw ten at l))
+
+    pub last-within : at + m + 8 ≤ length doc
+    last-within = last .within
+
+    pub last-room : c₁ * 100000000 < 2 ^ 64
+    last-room = omega (arith, below)
+
+    module _ {x : ℕ} (v : Digit-lanes doc (at + m) x) where
+      pub last-small : (j : ℕ) → j < 8 → lane x j < 10
+      last-small = eight-small v last
+
+      module _ {r : ℕ} (g : r ≡ lanes-value x 8) where
+        pub last-fit : c₁ * 100000000 + r < 2 ^ 64
+        last-fit = omega (arith, many-fit {m = 8} last (omega arith) below (g ∙ eight-value v last))
+
+        pub last-taken : Taken doc at (end - at) c (c₁ * 100000000 + r)
+        last-taken =
+            let eight : end - (at + m) ≡ 8 = omega arith in
+            taken-join {m = m} {c₁ = c₁} (omega arith)
+            (rw e (taken-many {m = m} front (omega arith) small refl))
+            (rw eight (taken-many {m = 8} last (omega arith) below (g ∙ eight-value v last)))
+          where
+            small : c < 10 ^ (18 - m)
+            small = lt-of-lt-of-le l (pow-le-pow-right (omega arith) (omega arith))

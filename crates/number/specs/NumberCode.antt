@@ -1,5 +1,5 @@
 -- How the code's phases and numerals stand for those of the definitions. Assumes nothing.
-use Prim.Native.Nat.{ℕ, zero, suc, _+_, _-_, _*_, _≤_, _<_, min}
+use Prim.Native.Nat.{ℕ, zero, suc, _+_, _-_, _*_, _^_, _≤_, _<_, min}
 use mathlib.Core.Path.{_≡_}
 use mathlib.Core.Bool.{Bool, true, false}
 use mathlib.Core.Option.{Option, none, some}
@@ -141,6 +141,17 @@ onto doc at (suc n) k = onto doc at n k * 10 + (getD doc (at + n) 0 - 48)
 -- the same of coefficients that stay at the cap: c becomes c′
 pub record Taken (doc : Bytes) (at n c c′ : ℕ) : Type 0 where
   pub capped : (k : ℕ) → c ≡ min k past-coefficient → c′ ≡ min (onto doc at n k) past-coefficient
+
+-- n digits from a place on can be taken by words onto the coefficient c
+pub record Has-room (doc : Bytes) (at n c : ℕ) : Type 0 where
+  pub few : n ≤ 16
+  pub word : at + 8 ≤ length doc
+  pub below : c < 10 ^ (18 - n)
+
+-- m of n digits come first: none or eight are left
+pub record First-count (n m : ℕ) : Type 0 where
+  pub all : n ≤ 8 → m ≡ n
+  pub part : 8 < n → m + 8 ≡ n
 
 -- the bytes of x are the values of the digits among the eight bytes from a place on
 pub record Digit-lanes (doc : Bytes) (at x : ℕ) : Type 0 where

@@ -1,10 +1,11 @@
 // Digits that stand one behind the other, eight at a time.
 ghost use mathlib.Core.Path.{_≡_};
-ghost use Prim.Native.Nat.{ℕ, _+_, _-_, _≤_, _<_};
+ghost use mathlib.Core.Bool.{true};
+ghost use Prim.Native.Nat.{ℕ, _+_, _-_, _*_, _^_, _≤_, _<_};
 ghost use lib.ListN.{length};
 ghost use Rattle.definitions.specs.Bytes.{between};
 ghost use Rattle.pool.specs.Lanes.{Marks, lane};
-ghost use Rattle.number.specs.NumberCode.{All-digits, Taken, Digit-lanes, lanes-value};
+ghost use Rattle.number.specs.NumberCode.{All-digits, Taken, Digit-lanes, Has-room, First-count, onto, lanes-value};
 use crate::decimal::power;
 use crate::numeral::shifted_on;
 use crate::phase::is_digit;
@@ -80,36 +81,50 @@ fn slow_value(doc: &[u8], at: usize, end: usize, start: u64) -> u64
     coefficient
 }
 
-// The coefficient with up to eight digits at once, where it stays below the cap and eight bytes can be read, and else one by one.
-fn short_value(doc: &[u8], at: usize, end: usize, start: u64) -> u64
-    requires { ⌜ (at < end) × All-digits (now doc) at end ⌝ }
-    ensures { λ r. ⌜ Taken (now (doc .entry)) at (end - at) start r ⌝ }
+// Whether so many digits from a place on can be taken by words: at most sixteen, where eight bytes can be read and the
+// coefficient stays below the cap.
+fn has_room(doc: &[u8], at: usize, count: usize, start: u64) -> bool
+    requires { ⌜ at ≤ length (now doc) ⌝ }
+    ensures { λ r. ⌜ (r ≡ true → Has-room (now (doc .entry)) at count start) ⌝ }
 {
-    let count = end - at;
-    if 8 < count {
-        return slow_value(doc, at, end, start);
+    if 16 < count {
+        return false;
     }
     if doc.len() - at < 8 {
-        return slow_value(doc, at, end, start);
+        return false;
     }
-    if power(18 - count) <= start {
-        return slow_value(doc, at, end, start);
-    }
-    let digits = digits_at(doc, at) >> (64 - 8 * count);
-    start * power(count) + eight_digits(digits)
+    start < power(18 - count)
 }
 
-// The coefficient with the digits from one place up to another.
+// How many of up to sixteen digits come first, so that none or eight are left.
+fn first_count(count: usize) -> usize
+    ensures { λ r. ⌜ First-count count r ⌝ }
+{
+    if count <= 8 { count } else { count - 8 }
+}
+
+// The coefficient with up to eight digits.
+fn short_value(doc: &[u8], at: usize, count: usize, start: u64) -> u64
+    requires { ⌜ (0 < count) × (count ≤ 8) × Has-room (now doc) at count start × All-digits (now doc) at (at + count) ⌝ }
+    ensures { λ r. ⌜ r ≡ start * 10 ^ count + onto (now (doc .entry)) at count 0 ⌝ }
+{
+    let moved = start * power(count);
+    moved + eight_digits(digits_at(doc, at) >> (64 - 8 * count))
+}
+
+// The coefficient with the digits from one place up to another: by one word or two where they can be taken so, else one by one.
 pub fn digits_value(doc: &[u8], at: usize, end: usize, start: u64) -> u64
     requires { ⌜ (at < end) × All-digits (now doc) at end ⌝ }
     ensures { λ r. ⌜ Taken (now (doc .entry)) at (end - at) start r ⌝ }
 {
-    if end - at <= 8 {
-        return short_value(doc, at, end, start);
-    }
-    if 10000000000 <= start {
+    let count = end - at;
+    if !has_room(doc, at, count, start) {
         return slow_value(doc, at, end, start);
     }
-    let first = start * 100000000 + eight_digits(digits_at(doc, at));
-    short_value(doc, at + 8, end, first)
+    let few = first_count(count);
+    let first = short_value(doc, at, few, start);
+    if count <= 8 {
+        return first;
+    }
+    first * 100000000 + eight_digits(digits_at(doc, at + few))
 }
