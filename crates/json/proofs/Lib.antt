@@ -4,6 +4,7 @@ pub mod White
 pub mod Spelling
 pub mod Answers
 pub mod Scalars
+pub mod NumberLengths
 pub mod Literals
 pub mod Names
 pub mod Seen

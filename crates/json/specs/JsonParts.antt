@@ -167,6 +167,11 @@ pub record Scalar-byte (b : ℕ) : Type 0 where
   pub no-list : b ≡ 0x5B → ⊥
   pub no-record : b ≡ 0x7B → ⊥
 
+-- a number that was read from a place on is as long as plain JSON, if it is not zero
+pub record As-read (at : ℕ) (x : NumberRead) : Type 0 where
+  pub behind : at ≤ x .end
+  pub long : (x .coefficient ≡ 0 → ⊥) → length (plain-number (number-in x)) ≡ x .end - at
+
 -- the row of a number is put, and reading goes on behind it
 pub record Puts-number (nodes nodes′ : List ℕ) (c : Cursor) (name : ℕ) (x : NumberRead) (r : ValueRead) : Type 0 where
   pub row

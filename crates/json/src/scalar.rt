@@ -4,7 +4,8 @@ ghost use Prim.Native.Nat.{ℕ, _+_, _*_, _^_, _≤_, _<_};
 ghost use mathlib.Core.List.{List};
 ghost use lib.ListN.{length, getD};
 ghost use Rattle.definitions.specs.Json.{Gap};
-ghost use Rattle.json.specs.JsonParts.{Judges-full, Matches, Literal, Table-placed, Ready, Reads, Puts-number, No-row, Scalar-byte};
+ghost use Rattle.definitions.specs.Plain.{plain-number};
+ghost use Rattle.json.specs.JsonParts.{Judges-full, Matches, Literal, Table-placed, Ready, Reads, As-read, Puts-number, No-row, Scalar-byte};
 ghost use Rattle.number.specs.NumberRead.{number-in};
 ghost use Rattle.number.specs.NumberWrite.{Bounded};
 use crate::reading::Cursor;
@@ -115,13 +116,24 @@ fn read_text_value(
     }
 }
 
+// How long a number is as plain JSON: as it was read, but for a zero, whose minus goes.
+fn written_length(at: usize, x: NumberRead) -> usize
+    requires { ⌜ Bounded (number-in x) × As-read at x ⌝ }
+    ensures { λ r. ⌜ r ≡ length (plain-number (number-in x)) ⌝ }
+{
+    if x.coefficient == 0 {
+        return number::number_length(x.negative, x.coefficient, x.scale);
+    }
+    x.end - at
+}
+
 // Puts the row of a number that refusals 4 and 6 are not for.
 fn put_number(nodes: &mut [u64], c: Cursor, name: u64, x: NumberRead) -> ValueRead
-    requires { ⌜ (3 * c .begun + 3 ≤ length (now nodes)) × (c .begun < 2 ^ 60) × Bounded (number-in x) ⌝ }
+    requires { ⌜ (3 * c .begun + 3 ≤ length (now nodes)) × (c .begun < 2 ^ 60) × Bounded (number-in x) × As-read (c .at) x ⌝ }
     ensures put { λ r. ⌜ Puts-number (now (nodes .entry)) (now (nodes .exit)) c name x r ⌝ }
 {
     let bits = nodes::number_bits(x.negative, x.scale);
-    let written = number::number_length(x.negative, x.coefficient, x.scale);
+    let written = written_length(c.at, x);
     let head = nodes::head_word(nodes::NUMBER, bits, written);
     nodes::put_row(nodes, 3 * c.begun, head, x.coefficient, name);
     let to = Cursor {

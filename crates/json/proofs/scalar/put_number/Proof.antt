@@ -20,6 +20,9 @@ number-bits-requires : tie.Need-number-bits-requires
 unfolding most-scale
 number-bits-requires c κs = omega (arith, c .before .pre .2 .scale)
 
+written-length-requires : tie.Need-written-length-requires
+written-length-requires c κs = (c .before .before .pre .2, c .before .before .pre .3)
+
 head-word-requires : tie.Need-head-word-requires
 unfolding most-scale
 head-word-requires c κs =
@@ -29,7 +32,7 @@ head-word-requires c κs =
       at-start .pre .2 .scale,
       c .before .number-bits .ensures,
       sign-small (at-start .args .x .negative),
-      c .number-length .ensures,
+      c .written-length .ensures,
       plain-short (number-in (at-start .args .x)) (at-start .pre .2),
     )
 
@@ -44,10 +47,10 @@ returns c =
           ∙ ap (λ (h : ℕ). with-row (at-start .args .nodes .now) (at-start .args .c .begun) h (at-start .args .x .coefficient) (at-start .args .name))
           (after-head-word .head-word .ensures
           ∙ head-word-is (Value.number (number-in (at-start .args .x))) refl (after-head-word .before .before .number-bits .ensures)
-          (after-head-word .before .number-length .ensures));
+          (after-head-word .before .written-length .ensures));
       answer =
           ap (λ (n : ℕ). Done (record { at = at-start .args .x .end; begun = at-start .args .c .begun + 1; top = at-start .args .c .top }) n)
-          (after-head-word .before .number-length .ensures);
+          (after-head-word .before .written-length .ensures);
       short = plain-short (number-in (at-start .args .x)) (at-start .pre .2);
     }
 
@@ -56,7 +59,7 @@ put-number-spec =
     tie.close
     (tie.spec
     number-bits-requires
-    (λ c κs. search needs)
+    written-length-requires
     head-word-requires
     (λ c. search needs) (λ c κs. search needs) (λ c. search needs) (λ c. search needs)
     returns)

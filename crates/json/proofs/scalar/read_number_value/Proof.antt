@@ -2,6 +2,7 @@
 use borrow.Author.Needs.{needs}
 use native.Mathlib.Omega.{arith}
 use Rattle.json.proofs.Scalars.{number-none, number-beyond, number-full, number-read, number-broken, number-broken-full, number-bounded}
+use Rattle.json.proofs.NumberLengths.{number-as-read}
 use Rattle.json.proofs.scalar.read_number_value.Statement.{statement}
 use Rattle.json.proofs.scalar.read_number_value.Tie as tie
 
@@ -37,6 +38,8 @@ put-number-requires c κs =
       omega (arith, free .0, at-start .pre .0 .rows),
       omega (arith, free .0, at-start .pre .0 .few),
       number-bounded (after-read-number .read-number .ensures) (c .before .before .if3 .left),
+      number-as-read (at-start .pre .0 .within) (after-read-number .read-number .ensures) (c .before .before .before .if2 .taken)
+          (c .before .before .if3 .left),
     )
 
 returns-4 : tie.Need-returns-4
