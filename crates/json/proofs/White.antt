@@ -78,12 +78,22 @@ skipped {doc} {at} {i} s w =
 
 -- ---- the byte behind it
 
+-- right there
+pub token-here : {doc : Bytes} {at b : ℕ} → getD doc at 256 ≡ b → b < 256 → Token doc at b (at + 1)
+token-here {doc} {at} e h =
+    let inside : at < length doc = byte-inside doc at e h in
+    record {
+      run = λ l n kept g. ap (λ (r : Bytes). scan l n kept (gap g) r) (byte-here doc at e h);
+      ahead = omega arith;
+      within = omega arith;
+    }
+
 pub token
     : {doc : Bytes} {at i b : ℕ} → Skips doc at i → getD doc i 256 ≡ b → b < 256 → Token doc at b (i + 1)
 token {doc} {at} {i} s e h =
-    let inside : i < length doc = byte-inside doc i e h in
+    let t = token-here {doc = doc} {at = i} e h in
     record {
-      run = λ l n kept g. s .run l n kept g ∙ ap (λ (r : Bytes). scan l n kept (gap g) r) (byte-here doc i e h);
-      ahead = omega arith;
-      within = omega arith;
+      run = λ l n kept g. s .run l n kept g ∙ t .run l n kept g;
+      ahead = omega (arith, s .from, t .ahead);
+      within = t .within;
     }

@@ -85,6 +85,10 @@ fn read_colon(doc: &[u8], at: usize) -> Colon
     requires { ⌜ at ≤ length (now doc) ⌝ }
     ensures read { λ r. ⌜ Colon-answer (now (doc .entry)) at r ⌝ }
 {
+    // nearly always right there
+    if peek(doc, at) == 0x3A {
+        return Colon::At { next: at + 1 };
+    }
     let i = skip_white(doc, at);
     if peek(doc, i) == 0x3A {
         Colon::At { next: i + 1 }

@@ -84,6 +84,15 @@ pub fn next_part(
     requires { ⌜ Behind-ready (now doc) (now nodes) c kind closing to written ⌝ }
     ensures gone { λ r. ⌜ Goes-on (now (doc .entry)) (now (nodes .entry)) (now (nodes .exit)) c kind closing name to written r ⌝ }
 {
+    // nearly always a comma, and right there
+    if peek(doc, to.at) == COMMA {
+        let from = Cursor {
+            at: to.at + 1,
+            begun: to.begun,
+            top: to.top,
+        };
+        return Turn::More { from, written };
+    }
     let i = skip_white(doc, to.at);
     let b = peek(doc, i);
     if b == COMMA {
