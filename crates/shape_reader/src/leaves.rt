@@ -1,5 +1,6 @@
 // Shapes without parts as they are written: in one line, a space before each kind word. They are seen by words of eight bytes; whatever
-// is laid out in another way is read word by word.
+// is laid out in another way is read word by word. A constant has the bytes that stand beside it, the first in the lowest place, and kind
+// words with the space before them.
 ghost use Prim.Native.Nat.{_≤_};
 ghost use lib.ListN.{length};
 ghost use Rattle.shape_reader.specs.Leaves.{Other-kinds, Stands-leaf, Finds-leaf};
@@ -12,8 +13,8 @@ pub enum Leaf {
     Other,
 }
 
-// The kinds without null that stand at a place, up to the closing bracket.
-fn other_kinds(text: &[u8], at: usize) -> Leaf
+// The kinds of numbers that stand at a place, up to the closing bracket.
+fn number_kinds(text: &[u8], at: usize) -> Leaf
     requires { ⌜ at ≤ length (now text) ⌝ }
     ensures told { λ r. ⌜ Other-kinds (now (text .entry)) at r ⌝ }
 {
@@ -21,14 +22,6 @@ fn other_kinds(text: &[u8], at: usize) -> Leaf
         return Leaf::Other;
     }
     let x = tokens::standing::eight_at(text, at);
-    let six = x % 0x1000000000000;
-    // text)
-    if six == 0x297478657420 {
-        return Leaf::Of {
-            kinds: Shape::TEXT,
-            end: at + 6,
-        };
-    }
     // int)
     if x % 0x10000000000 == 0x29746E6920 {
         return Leaf::Of {
@@ -36,23 +29,42 @@ fn other_kinds(text: &[u8], at: usize) -> Leaf
             end: at + 5,
         };
     }
+    // int dec
+    if x == 0x63656420746E6920 {
+        if text[at + 8] == b')' {
+            let kinds = Shape {
+                kinds: Shape::INT.kinds + Shape::DEC.kinds,
+            };
+            return Leaf::Of { kinds, end: at + 9 };
+        }
+    }
+    Leaf::Other
+}
+
+// The kinds without null that stand at a place, up to the closing bracket.
+fn other_kinds(text: &[u8], at: usize) -> Leaf
+    requires { ⌜ at ≤ length (now text) ⌝ }
+    ensures told { λ r. ⌜ Other-kinds (now (text .entry)) at r ⌝ }
+{
+    if text.len() - at < 8 {
+        return Leaf::Other;
+    }
+    let x = tokens::standing::eight_at(text, at) % 0x1000000000000;
+    // text)
+    if x == 0x297478657420 {
+        return Leaf::Of {
+            kinds: Shape::TEXT,
+            end: at + 6,
+        };
+    }
     // bool)
-    if six == 0x296C6F6F6220 {
+    if x == 0x296C6F6F6220 {
         return Leaf::Of {
             kinds: Shape::BOOL,
             end: at + 6,
         };
     }
-    // int dec
-    if x == 0x63656420746E6920 {
-        if text[at + 8] == b')' {
-            return Leaf::Of {
-                kinds: Shape { kinds: 12 },
-                end: at + 9,
-            };
-        }
-    }
-    Leaf::Other
+    number_kinds(text, at)
 }
 
 // The shape without parts whose bracket stands at a place.
