@@ -9,4 +9,5 @@ pub mod Going
 pub mod ElementForms
 pub mod MemberForms
 pub mod WholeForms
+pub mod LeafForms
 pub mod ShapeTexts

@@ -33,9 +33,9 @@ use Rattle.shape_reader.specs.declared.members.Turn.{Turn}
 use Rattle.shape_reader.specs.declared.members.Turn.the-variants.{More, Stop}
 use Rattle.tokens.specs.Expecting.{a-closing, a-text, Kept, Text-placed, Bracket-answer, Expects-closing, Brackets-answer}
 use Rattle.tokens.specs.Expecting.{Expects-bracket, Quoted-answer, Expects-text}
-use Rattle.shape_reader.specs.ShapeParts.{reading, Expected-answer, Expects, Kinds-held, parts, Latest, none-yet}
+use Rattle.shape_reader.specs.ShapeParts.{reading, member-bytes, Expected-answer, Expects, Kinds-held, parts, Latest, none-yet}
 use Rattle.shape_reader.specs.ShapeParts.{latest-is, Named-answer, Reads-name, Names-answer, Names-member, Turn-is, Turns, Closes-member}
-use Rattle.shape_reader.proofs.Steps.{goes-on, misplaced-found, lacking, lacking-both, member-bytes, only-member, member-goes}
+use Rattle.shape_reader.proofs.Steps.{goes-on, misplaced-found, lacking, lacking-both, only-member, member-goes}
 use Rattle.shape_reader.proofs.KindSets.{has-rec-kind}
 use Rattle.tokens.specs.ReadingLaws.{no-closing, no-text, placed-on}
 

@@ -29,9 +29,9 @@ use Rattle.shape_reader.specs.declared.opening.ShapeOpening.{ShapeOpenin
 use Rattle.shape_reader.specs.declared.opening.ShapeOpening.the-variants as Opening-is
 use Rattle.shape_reader.specs.declared.opening.ShapeHead.the-variants as Head-is
 use Rattle.tokens.specs.Expecting.{an-opening, a-word, sort, Bracket-answer, Word-answer, Expects-opening, Expects-word, Judges-full}
-use Rattle.shape_reader.specs.ShapeParts.{reading, Limited, Expected-answer, Expects, Shape-begun}
+use Rattle.shape_reader.specs.ShapeParts.{reading, Limited, shape-bytes, Expected-answer, Expects, Shape-begun}
 use Rattle.shape_reader.specs.ShapeParts.{Opening-answer, Begins-shape, Kinds-answer, Reads-kinds, Opens-form}
-use Rattle.shape_reader.proofs.Steps.{goes-on, opens-on, opens-full, misplaced-found, lacking, shape-bytes, only-shape, shape-goes}
+use Rattle.shape_reader.proofs.Steps.{goes-on, opens-on, opens-full, misplaced-found, lacking, only-shape, shape-goes}
 
 -- ---- a fixed word
 

@@ -2,7 +2,7 @@
 use Prim.Native.Nat.{ℕ, suc, _+_, _-_, _≤_}
 use mathlib.Core.Path.{_≡_, refl, ap}
 use mathlib.Core.Bool.{true, false}
-use mathlib.Core.List.{List, [], _∷_}
+use mathlib.Core.List.{List}
 use native.Mathlib.Omega.{arith}
 use lib.ListN.{length}
 use Rattle.definitions.specs.declared.Limits.{Limits}
@@ -22,7 +22,7 @@ use Rattle.pool.specs.PoolLaws.{bytes-words}
 use Rattle.tokens.specs.TokenRead.{Found}
 use Rattle.tokens.specs.ReadingLaws as Laws
 use Rattle.tokens.specs.Expecting.{Text-placed as Ready-at, Sort, an-opening, a-closing, a-word, sort, Lacks, More-at}
-use Rattle.shape_reader.specs.ShapeParts.{reading, Only}
+use Rattle.shape_reader.specs.ShapeParts.{reading, Only, shape-bytes, member-bytes}
 
 -- ---- the pool has room for every token
 
@@ -102,14 +102,6 @@ module _ (l : Limits) (n : ℕ) {text : Bytes} {at : ℕ} where
   more-text s x = Laws.more-text step finished l n (whole s) x (λ t. refl)
 
 -- ---- fixed words
-
--- the bytes of `shape`
-abbrev pub shape-bytes : Bytes
-shape-bytes = 0x73 ∷ 0x68 ∷ 0x61 ∷ 0x70 ∷ 0x65 ∷ []
-
--- the bytes of `member`
-abbrev pub member-bytes : Bytes
-member-bytes = 0x6D ∷ 0x65 ∷ 0x6D ∷ 0x62 ∷ 0x65 ∷ 0x72 ∷ []
 
 pub only-shape : (o : Around) → Only (shape-word o) (word shape-bytes)
 unfolding want-step want-named want-word where-some look-word shape-words bytes

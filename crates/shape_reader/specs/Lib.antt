@@ -1,2 +1,3 @@
 pub mod ShapeParts
+pub mod Leaves
 pub mod ShapeReads

@@ -3,7 +3,7 @@
 use Prim.Native.Nat.{ℕ, suc, _+_, _*_, _≤_, _<_}
 use mathlib.Core.Path.{_≡_}
 use mathlib.Core.Bool.{Bool, true, false}
-use mathlib.Core.List.{List, [], _++_}
+use mathlib.Core.List.{List, [], _∷_, _++_}
 use mathlib.Core.Option.{Option, none, some}
 use lib.Dec.{ltb}
 use lib.ListN.{length, take}
@@ -52,6 +52,14 @@ abbrev pub Only : Want → Tokens.Token → Type 0
 Only w t = (u : Tokens.Token) → (u ≡ t → ⊥) → want-step w u ≡ misplaced
 
 -- ---- a fixed word
+
+-- the bytes of `shape`
+abbrev pub shape-bytes : Bytes
+shape-bytes = 0x73 ∷ 0x68 ∷ 0x61 ∷ 0x70 ∷ 0x65 ∷ []
+
+-- the bytes of `member`
+abbrev pub member-bytes : Bytes
+member-bytes = 0x6D ∷ 0x65 ∷ 0x6D ∷ 0x62 ∷ 0x65 ∷ 0x72 ∷ []
 
 -- the word w stands there up to an end; or what stands there is refused wherever only w may stand
 abbrev pub Expected-answer : Bytes → ℕ → Bytes → Expected → Type 0

@@ -1,5 +1,7 @@
 // Shapes, their elements and their members: the shape reader calls the readers of its parts, which call it back; the nesting left falls.
 ghost use Rattle.shape_reader.specs.ShapeParts.{Ready, Reads-form, Reads-element, Reads-members};
+use crate::leaves::Leaf;
+use crate::leaves::find_leaf;
 use crate::members::Turn;
 use crate::members::close_member;
 use crate::members::next_member;
@@ -30,6 +32,34 @@ fn read_element(
     }
 }
 
+// Reads the shape of a member as `read_form` does; most have no parts and are read in place.
+fn read_member(
+    text: &[u8],
+    shapes: &mut [u64],
+    pool: &mut [u64],
+    values: usize,
+    left: usize,
+    c: Cursor,
+    name: u64,
+) -> FormRead
+    requires { ⌜ Ready (now text) (now shapes) (now pool) values c ⌝ }
+    ensures read { λ r. ⌜ Reads-form left values (now (text .entry)) (now (shapes .entry)) (now (pool .entry)) (now (shapes .exit))
+        (now (pool .exit)) name c r ⌝ }
+{
+    match find_leaf(text, values, left, c) {
+        Leaf::Of { kinds, end } => {
+            shapes::put_row(shapes, 2 * c.begun, kinds, 2, name);
+            let to = Cursor {
+                at: end,
+                begun: c.begun + 1,
+                top: c.top,
+            };
+            FormRead::Done { to }
+        }
+        Leaf::Other => read_form(text, shapes, pool, values, left, c, name),
+    }
+}
+
 // Reads the members of a shape of these kinds and its closing bracket, with so much nesting left inside the shape.
 fn read_members(
     text: &[u8],
@@ -50,7 +80,7 @@ fn read_members(
     loop {
         match next_member(text, pool, kinds, first, latest, here) {
             Turn::More { from, name } => {
-                let r = read_form(text, shapes, pool, values, left, from, name);
+                let r = read_member(text, shapes, pool, values, left, from, name);
                 let FormRead::Done { to } = r else {
                     return r;
                 };

@@ -3,6 +3,7 @@ ghost use Rattle.shape_reader.specs.ShapeReads.{Tables, Reads-shape};
 
 mod forms; // shapes, their elements and their members
 mod kinds; // the kind words of a shape
+mod leaves; // shapes without parts
 mod members; // what comes behind kinds, elements and members
 mod opening; // how a shape begins
 mod reading; // where reading stands, and what it comes to

@@ -8,7 +8,7 @@ ghost use Rattle.pool.specs.Pool.{text-in};
 ghost use Rattle.tokens.specs.Expecting.{Text-placed};
 ghost use Rattle.shape_reader.specs.ShapeParts.{Latest, Reads-name, Names-member, Turns, Closes-member};
 use crate::opening::Expected;
-use crate::opening::expect;
+use crate::opening::member_word;
 use crate::reading::Cursor;
 use crate::reading::FormRead;
 use pool::Comparison;
@@ -49,8 +49,7 @@ fn read_name(text: &[u8], pool: &mut [u64], at: usize, top: usize) -> Named
     requires { ⌜ Text-placed (now text) (now pool) at top ⌝ }
     ensures read { λ r. ⌜ Reads-name (now (text .entry)) (now (pool .entry)) (now (pool .exit)) at top r ⌝ }
 {
-    // member
-    match expect(text, at, 0x6D656D62657206) {
+    match member_word(text, at) {
         Expected::At { end: behind } => match tokens::expect::next_text(text, behind, pool, top) {
             Quotation::At { place, end, bytes } => Named::Name {
                 at: place,

@@ -5,7 +5,7 @@ ghost use Prim.Native.Nat.{_≤_};
 ghost use lib.ListN.{length};
 ghost use Rattle.definitions.specs.Bytes.{Bytes};
 ghost use Rattle.tokens.specs.WordValues.{word-value, fits};
-ghost use Rattle.shape_reader.specs.ShapeParts.{Expects, Begins-shape, Opens-form};
+ghost use Rattle.shape_reader.specs.ShapeParts.{shape-bytes, member-bytes, Expects, Begins-shape, Opens-form};
 use crate::kinds::Kinds;
 use crate::kinds::read_kinds;
 use crate::reading::Cursor;
@@ -20,7 +20,7 @@ pub enum Expected {
 }
 
 // Reads a word that must come, by its number.
-pub fn expect(text: &[u8], at: usize, word: u64) -> Expected
+fn expect(text: &[u8], at: usize, word: u64) -> Expected
     requires { ⌜ at ≤ length (now text) ⌝ }
     ensures read { λ r. ⌜ ((w : Bytes) → fits 7 w ≡ true → word ≡ word-value w → Expects (now (text .entry)) at w r) ⌝ }
 {
@@ -34,6 +34,28 @@ pub fn expect(text: &[u8], at: usize, word: u64) -> Expected
         }
         Spelled::Missing { place } => Expected::Missing { place },
     }
+}
+
+// Reads the word `shape`.
+fn shape_word(text: &[u8], at: usize) -> Expected
+    requires { ⌜ at ≤ length (now text) ⌝ }
+    ensures read { λ r. ⌜ Expects (now (text .entry)) at shape-bytes r ⌝ }
+{
+    if tokens::standing::stands(text, at, 0x6570616873, 0x10000000000, 5) {
+        return Expected::At { end: at + 5 };
+    }
+    expect(text, at, 0x736861706505)
+}
+
+// Reads the word `member`.
+pub fn member_word(text: &[u8], at: usize) -> Expected
+    requires { ⌜ at ≤ length (now text) ⌝ }
+    ensures read { λ r. ⌜ Expects (now (text .entry)) at member-bytes r ⌝ }
+{
+    if tokens::standing::stands(text, at, 0x7265626D656D, 0x1000000000000, 6) {
+        return Expected::At { end: at + 6 };
+    }
+    expect(text, at, 0x6D656D62657206)
 }
 
 pub enum ShapeOpening {
@@ -52,8 +74,7 @@ fn begin(text: &[u8], values: usize, left: usize, c: Cursor) -> ShapeOpening
             if tokens::expect::is_full(values, left, c.begun) {
                 return ShapeOpening::Refused { number: 8, place };
             }
-            // shape
-            match expect(text, place + 1, 0x736861706505) {
+            match shape_word(text, place + 1) {
                 Expected::At { end } => ShapeOpening::Behind { at: end },
                 Expected::Missing { place: at } => ShapeOpening::Refused {
                     number: 7,

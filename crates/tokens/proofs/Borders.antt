@@ -19,26 +19,6 @@ use Rattle.tokens.specs.TokenRead.{Space-answer, Border-answer, tokens-f
 
 -- ---- one byte
 
-pub not-space : {b : ℕ} → (b ≡ 0x20 → ⊥) → (b ≡ 0x09 → ⊥) → (b ≡ 0x0A → ⊥) → (b ≡ 0x0D → ⊥) → ws-char b → ⊥
-not-space h i j k ws-char.space = h refl
-not-space h i j k ws-char.tab = i refl
-not-space h i j k ws-char.line-feed = j refl
-not-space h i j k ws-char.carriage-return = k refl
-
--- a byte above all of them
-pub above-space : {b : ℕ} → 0x20 < b → ws-char b → ⊥
-above-space h = not-space (λ e. omega (arith, e)) (λ e. omega (arith, e)) (λ e. omega (arith, e)) (λ e. omega (arith, e))
-
--- one above the brackets too is a word's
-pub above-border : {b : ℕ} → 0x29 < b → Word-byte b
-above-border h =
-    record {
-      no-white-space = above-space (omega arith);
-      no-opening = λ e. omega (arith, e);
-      no-closing = λ e. omega (arith, e);
-      no-quote = λ e. omega (arith, e);
-    }
-
 -- a byte that is no bracket and no quote ends a word where it is white space
 pub border-space : {b : ℕ} (r : Bool) → (b ≡ 0x28 → ⊥) → (b ≡ 0x29 → ⊥) → (b ≡ 0x22 → ⊥) → Space-answer b r → Border-answer b r
 border-space true h i j w = λ x. x .no-white-space w

@@ -23,7 +23,7 @@ pub data Digits : Bytes → Type 0 where
   no-digits : Digits []
   digit : {b : ℕ} {w : Bytes} → b < 256 → Digits w → Digits (b ∷ w)
 
-fits-digits : (n : ℕ) (v : Bytes) → fits n v ≡ true → Digits v × (length v ≤ n)
+pub fits-digits : (n : ℕ) (v : Bytes) → fits n v ≡ true → Digits v × (length v ≤ n)
 unfolding fits
 fits-digits n [] e = (no-digits, omega arith)
 fits-digits zero (b ∷ v) e = absurd (let z : _≡_ {A = ℕ} 0 1 = cc (e) in omega arith)

@@ -6,6 +6,7 @@ ghost use Rattle.tokens.specs.TokenRead.{Space-answer, Border-answer, Sk
 ghost use Rattle.tokens.specs.WordValues.{Word-told};
 
 pub mod expect; // a token of one sort that must come
+pub mod standing; // what stands at a place, seen eight bytes at a time
 
 // JSON white space.
 fn is_space(b: u8) -> bool
@@ -49,7 +50,7 @@ fn is_border(b: u8) -> bool
 }
 
 // Where white space ends that begins at a place.
-fn skip_space(text: &[u8], at: usize) -> usize
+pub fn skip_space(text: &[u8], at: usize) -> usize
     requires { ⌜ at ≤ length (now text) ⌝ }
     ensures skipped { λ r. ⌜ Skips (now (text .entry)) at r ⌝ }
 {

@@ -1,6 +1,7 @@
 -- `tokens::is_border` meets its contract. Assumes nothing.
 use borrow.Author.Needs.{needs}
-use Rattle.tokens.proofs.Borders.{above-border, border-space}
+use Rattle.tokens.specs.StandingLaws.{above-border}
+use Rattle.tokens.proofs.Borders.{border-space}
 use Rattle.tokens.proofs.is_border.Statement.{statement}
 use Rattle.tokens.proofs.is_border.Tie as tie
 

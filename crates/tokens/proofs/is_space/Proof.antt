@@ -1,7 +1,7 @@
 -- `tokens::is_space` meets its contract. Assumes nothing.
 use mathlib.Core.Path.{sym, subst}
 use Rattle.laws.specs.Rfc8259.{ws-char}
-use Rattle.tokens.proofs.Borders.{above-space, not-space}
+use Rattle.tokens.specs.StandingLaws.{above-space, not-space}
 use Rattle.tokens.proofs.is_space.Statement.{statement}
 use Rattle.tokens.proofs.is_space.Tie as tie
 

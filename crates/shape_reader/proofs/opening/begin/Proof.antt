@@ -1,11 +1,9 @@
 -- `shape_reader::opening::begin` meets its contract. Assumes nothing.
 use borrow.Author.Needs.{needs}
-use mathlib.Core.Path.{refl, subst}
+use mathlib.Core.Path.{subst}
 use mathlib.Core.Bool.{Bool}
 use native.Mathlib.Omega.{arith}
 use Rattle.tokens.specs.Expecting.{Judges-full}
-use Rattle.tokens.specs.WordValues.{joined, word-value, fits}
-use Rattle.shape_reader.proofs.Steps.{shape-bytes}
 use Rattle.shape_reader.proofs.Openings.{bracket-missing, found-bracket, bracket-full, shape-begun, shape-missing}
 use Rattle.shape_reader.proofs.opening.begin.Statement.{statement}
 use Rattle.shape_reader.proofs.opening.begin.Tie as tie
@@ -19,8 +17,8 @@ returns c =
     (subst (λ (b : Bool). Judges-full (at-start .args .values) (at-start .args .left) (at-start .args .c .begun) b) (c .if1 .taken)
     (c .before .is-full .ensures))
 
-add-expect : tie.Need-add-expect
-add-expect c =
+add-shape-word : tie.Need-add-shape-word
+add-shape-word c =
     let after-next-opening = c .before .before .before .before .before in
     let at-start = after-next-opening .before .before in
     omega (
@@ -30,15 +28,14 @@ add-expect c =
       at-start .good .0 .0,
     )
 
-expect-requires : tie.Need-expect-requires
-expect-requires c κs =
+shape-word-requires : tie.Need-shape-word-requires
+shape-word-requires c κs =
     let after-next-opening = c .before .before .before .before .before in
     let at-start = after-next-opening .before .before in
     found-bracket (at-start .args .values) (at-start .args .left) (at-start .args .c) (after-next-opening .next-opening .ensures)
     (c .before .before .before .place .given .1) .within
 
 returns-2 : tie.Need-returns-2
-unfolding word-value joined fits
 returns-2 c =
     let else1 = c .before .before .before .before in
     let after-next-opening = else1 .before .before .before .before .before in
@@ -47,10 +44,9 @@ returns-2 c =
     (else1 .before .before .before .place .given .1)
     (subst (λ (b : Bool). Judges-full (at-start .args .values) (at-start .args .left) (at-start .args .c .begun) b) (else1 .if1 .left)
     (else1 .before .is-full .ensures))
-    (c .before .before .before .expect .ensures shape-bytes refl refl) (c .before .end .given .1)
+    (c .before .before .before .shape-word .ensures) (c .before .end .given .1)
 
 returns-3 : tie.Need-returns-3
-unfolding word-value joined fits
 returns-3 c =
     let else1 = c .before .before .before .before in
     let after-next-opening = else1 .before .before .before .before .before in
@@ -59,7 +55,7 @@ returns-3 c =
     (else1 .before .before .before .place .given .1)
     (subst (λ (b : Bool). Judges-full (at-start .args .values) (at-start .args .left) (at-start .args .c .begun) b) (else1 .if1 .left)
     (else1 .before .is-full .ensures))
-    (c .before .before .before .expect .ensures shape-bytes refl refl) (c .before .at .given .1)
+    (c .before .before .before .shape-word .ensures) (c .before .at .given .1)
 
 returns-4 : tie.Need-returns-4
 returns-4 c =
@@ -73,8 +69,8 @@ begin-spec =
     (tie.spec
     (λ c κs. search needs) (λ c. search needs) (λ c κs. search needs)
     returns
-    add-expect
-    expect-requires
+    add-shape-word
+    shape-word-requires
     (λ c. search needs) (λ c. search needs) (λ c. search needs)
     returns-2
     returns-3
