@@ -89,7 +89,12 @@ fn is_deeper(shapes: &[u64], row: usize, left: usize) -> bool
     if left == 0 {
         return true;
     }
-    let end = row + shapes::size(shapes, row);
+    let size = shapes::size(shapes, row);
+    // no shape has more levels than forms
+    if size / 2 <= left {
+        return false;
+    }
+    let end = row + size;
     let mut i = row + 2;
     while i < end {
         if is_deeper(shapes, i, left - 1) {
