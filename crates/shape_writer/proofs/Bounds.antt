@@ -145,5 +145,5 @@ text-bound {shapes} d =
       w,
     )
 
-pub printable : {shapes pool : List ℕ} → Deliverable shapes pool → Printable shapes pool 0 0 0
+pub printable : {shapes pool : List ℕ} → Deliverable shapes pool → Printable shapes pool 0 0 0 (2 ^ 64)
 printable d = record { shape = d .shape; holds = d .holds; room = omega (arith, text-bound d); deep = omega arith }

@@ -1,7 +1,7 @@
 -- How a form begins: the words of its kinds. Assumes nothing.
 use Prim.Native.Nat.{ℕ, _+_}
 use native.Mathlib.Omega.{arith}
-use mathlib.Core.Path.{_≡_, refl, sym, ap₂}
+use mathlib.Core.Path.{_≡_, refl, sym, ap, ap₂, _∙_}
 use mathlib.Core.Bool.{Bool, true, false, true≢false}
 use mathlib.Core.List.{[], _++_, append-assoc, append-nil}
 use lib.ListN.{length, length-append}
@@ -13,7 +13,7 @@ use Rattle.shapes.specs.ShapesLaws.{has-kind}
 use Rattle.shape_writer.specs.Prints.{Prints}
 use Rattle.shape_writer.specs.PrintsLaws.{prints-then, prints-as}
 use Rattle.shape_writer.specs.Layout.{word-of, head-text}
-use Rattle.shape_writer.specs.Writing.{Prints-word}
+use Rattle.shape_writer.specs.Writing.{Prints-word, Length-of-word}
 
 pub word-there : (b : Bool) (w : Bytes) → b ≡ true → w ≡ word-of b w
 unfolding word-of
@@ -46,6 +46,12 @@ pub word-to
     → Prints o o₁ at (word-of (has-bit kinds n) v) r
 word-to {kinds = kinds} n v p e f =
     prints-as (ap₂ (λ (i : ℕ) (s : Bytes). word-of (has-bit kinds i) s) e f) (p .printed)
+
+-- its length
+pub length-to
+    : {kinds k n r : ℕ} (i : ℕ) (v : Bytes) → Length-of-word kinds k n r → k ≡ i → length v ≡ n
+    → r ≡ length (word-of (has-bit kinds i) v)
+length-to {kinds} i v l e f = l .measured v f ∙ ap (λ (j : ℕ). length (word-of (has-bit kinds j) v)) e
 
 -- a head printed word by word
 pub prints-head

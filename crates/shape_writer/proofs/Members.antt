@@ -54,7 +54,7 @@ first {shapes} {pool} {i} {end} {fs} h l = go (fields-left (h .listed .stand) l)
           };
         }
 
-none-left : {shapes pool : List ℕ} {i end : ℕ} {fs : Fields} (around : ℕ) → Holds-fields shapes pool i end fs → end ≤ i → write-fields fs around ≡ []
+pub none-left : {shapes pool : List ℕ} {i end : ℕ} {fs : Fields} (around : ℕ) → Holds-fields shapes pool i end fs → end ≤ i → write-fields fs around ≡ []
 unfolding write
 none-left {fs = no-fields} around h l = refl
 none-left {fs = field n s fs} around h l = absurd (let z : ⊥ = omega (arith, fields-some (h .listed .stand), l) in z)
@@ -66,7 +66,7 @@ module _ {shapes pool : List ℕ} {i end : ℕ} {fs : Fields} (f : First shapes 
   unfolding write label-text bytes
   member-text = ap (λ (gs : Fields). write-fields gs around) (f .same)
 
-  length-member
+  pub length-member
       : length (write-fields fs around)
       ≡ length (label-text (f .name) around) + length (write (f .shape) (suc around)) + 1 + length (write-fields (f .rest) around)
   length-member =
@@ -78,6 +78,13 @@ module _ {shapes pool : List ℕ} {i end : ℕ} {fs : Fields} (f : First shapes 
       (λ (n : ℕ). n + length (write-fields (f .rest) around))
       (length-append (label-text (f .name) around ++ write (f .shape) (suc around)) (41 ∷ [])
       ∙ ap (λ (n : ℕ). n + 1) (length-append (label-text (f .name) around) (write (f .shape) (suc around))))
+
+module _ {shapes pool : List ℕ} {i end : ℕ} {fs : Fields} (f : First shapes pool i end fs) where
+  pub first-some : 2 ≤ size-at shapes i
+  first-some = omega (arith, holds-size (f .holds), forms-some (f .shape))
+
+  pub first-within : i + size-at shapes i ≤ length shapes
+  first-within = omega (arith, holds-size (f .holds), holds-within (f .holds))
 
 -- ---- the loop
 
@@ -111,7 +118,7 @@ regroup-member d l w c r = simp append-assoc
 
 module _
     {shapes pool : List ℕ} {row end around : ℕ} {out₀ : Bytes} {at : ℕ} {out : Bytes} {i j : ℕ}
-    (w : Printable-fields shapes pool row end at around)
+    (w : Printable-fields shapes pool row end at around (2 ^ 64))
     (l : Loop shapes pool row end around out₀ at out i j)
   where
     pub now-going : Going shapes pool row end around out₀ at (w .fields) out i j
@@ -156,7 +163,7 @@ module _
       pub inner-room : around + 3 < 2 ^ 64
       inner-room = omega (arith, room, length-label (turn .name) around)
 
-      pub label-printable : {k : ℕ} → k ≡ getD shapes (i + 1) 0 → Printable-label pool k j around
+      pub label-printable : {k : ℕ} → k ≡ getD shapes (i + 1) 0 → Printable-label pool k j around (2 ^ 64)
       label-printable e =
           record {
             text = turn .name;
@@ -168,7 +175,7 @@ module _
         label-printed : (t : Bytes) → Holds-text pool (getD shapes (i + 1) 0) t → Prints out out₁ j (label-text t around) j₁
         label-printed t h = x t (subst (λ (k : ℕ). Holds-text pool k t) (sym e) h)
 
-        pub form-printable : Printable shapes pool i j₁ (around + 1)
+        pub form-printable : Printable shapes pool i j₁ (around + 1) (2 ^ 64)
         form-printable =
             record {
               shape = turn .shape;
@@ -226,11 +233,8 @@ module _
                         ∙ g .whole;
                   }
 
-      pub turn-size : size-at shapes i ≡ 2 * forms (turn .shape)
-      turn-size = holds-size (turn .holds)
-
       pub turn-some : 2 ≤ size-at shapes i
-      turn-some = omega (arith, turn-size, forms-some (turn .shape))
+      turn-some = first-some turn
 
       pub turn-within : i + size-at shapes i ≤ length shapes
-      turn-within = omega (arith, turn-size, holds-within (turn .holds))
+      turn-within = first-within turn

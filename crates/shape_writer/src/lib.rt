@@ -2,13 +2,16 @@
 // a shape.
 ghost use mathlib.Core.Path.{_≡_};
 ghost use mathlib.Core.Bool.{false};
-ghost use Rattle.shape_writer.specs.Writing.{Printable, Prints-form, Length-of-form, Printable-fields, Prints-fields};
+ghost use Prim.Native.Nat.{_^_};
+ghost use Rattle.shape_writer.specs.Writing.{Printable, Prints-form, Length-of-form, Printable-fields, Prints-fields, Length-of-fields};
 ghost use Rattle.shape_writer.specs.Writing.{Standing, Tells-deeper, Deliverable, Measures, Delivers-answer, Delivers-output};
 
 mod print; // the parts of a shape text
 
 use definitions::Answer;
 use definitions::Limits;
+use print::head_length;
+use print::label_length;
 use print::print;
 use print::print_head;
 use print::print_label;
@@ -31,7 +34,7 @@ fn print_members(
     pool: &[u64],
     around: usize,
 ) -> usize
-    requires { ⌜ Printable-fields (now shapes) (now pool) row end at around ⌝ }
+    requires { ⌜ Printable-fields (now shapes) (now pool) row end at around (2 ^ 64) ⌝ }
     ensures printed { λ r. ⌜ Prints-fields (now (shapes .entry)) (now (pool .entry)) row end around (now (out .entry)) (now (out .exit)) at r ⌝ }
 {
     let mut i = row;
@@ -55,7 +58,7 @@ fn write_form(
     pool: &[u64],
     around: usize,
 ) -> usize
-    requires { ⌜ Printable (now shapes) (now pool) row at around ⌝ }
+    requires { ⌜ Printable (now shapes) (now pool) row at around (2 ^ 64) ⌝ }
     ensures printed { λ r. ⌜ Prints-form (now (shapes .entry)) (now (pool .entry)) row around (now (out .entry)) (now (out .exit)) at r ⌝ }
 {
     let kinds = shapes::kinds(shapes, row);
@@ -72,13 +75,48 @@ fn write_form(
     print_members(out, j, shapes, first, end, pool, inner)
 }
 
-// How long the form of the shape at a row is, with so many forms around it: printed where there is no room.
-fn form_length(shapes: &[u64], row: usize, pool: &[u64], around: usize) -> usize
-    requires { ⌜ Printable (now shapes) (now pool) row 0 around ⌝ }
+// How long the members are whose rows stand from a row up to an end, with the bracket that closes their shape.
+fn members_length(shapes: &[u64], row: usize, end: usize, pool: &[u64], around: usize) -> usize
+    requires { ⌜ Printable-fields (now shapes) (now pool) row end 0 around (2 ^ 64) ⌝ }
+    ensures measured { λ r. ⌜ Length-of-fields (now (shapes .entry)) (now (pool .entry)) row end around r ⌝ }
+{
+    let mut i = row;
+    let mut length: usize = 1;
+    while i < end {
+        length += label_length(pool, shapes::name(shapes, i), around);
+        length += inner_length(shapes, i, pool, around + 1) + 1;
+        i += shapes::size(shapes, i);
+    }
+    length
+}
+
+// How long the form of a member's shape is. Most hold no other shape, and are measured without a call.
+fn inner_length(shapes: &[u64], row: usize, pool: &[u64], around: usize) -> usize
+    requires { ⌜ Printable (now shapes) (now pool) row 0 around (2 ^ 64) ⌝ }
     ensures measured { λ r. ⌜ Length-of-form (now (shapes .entry)) (now (pool .entry)) row around r ⌝ }
 {
-    let mut none: [u8; 1] = [0];
-    write_form(&mut none, 0, shapes, row, pool, around)
+    if shapes::size(shapes, row) == 2 {
+        return head_length(shapes::kinds(shapes, row)) + 1;
+    }
+    form_length(shapes, row, pool, around)
+}
+
+// How long the form of the shape at a row is, with so many forms around it.
+fn form_length(shapes: &[u64], row: usize, pool: &[u64], around: usize) -> usize
+    requires { ⌜ Printable (now shapes) (now pool) row 0 around (2 ^ 64) ⌝ }
+    ensures measured { λ r. ⌜ Length-of-form (now (shapes .entry)) (now (pool .entry)) row around r ⌝ }
+{
+    let kinds = shapes::kinds(shapes, row);
+    let first = row + 2;
+    let end = row + shapes::size(shapes, row);
+    let inner = around + 1;
+    let head = head_length(kinds);
+    if shapes::has(kinds, Shape::LIST) {
+        let next = first + shapes::size(shapes, first);
+        let element = form_length(shapes, first, pool, inner);
+        return head + 1 + inner + element + members_length(shapes, next, end, pool, inner);
+    }
+    head + members_length(shapes, first, end, pool, inner)
 }
 
 // Whether the shape at a row is nested deeper than so many levels.

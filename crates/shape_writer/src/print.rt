@@ -8,6 +8,7 @@ ghost use Rattle.shapes.specs.Shapes.{has-bit};
 ghost use Rattle.shape_writer.specs.Prints.{Prints};
 ghost use Rattle.shape_writer.specs.Layout.{word-of, head-text};
 ghost use Rattle.shape_writer.specs.Writing.{Prints-word, Printable-name, Prints-name, Printable-label, Prints-label};
+ghost use Rattle.shape_writer.specs.Writing.{Length-of-word, Length-of-label};
 use shapes::Shape;
 
 // Prints bytes from a place on, and answers the place behind them.
@@ -95,11 +96,38 @@ fn print_name(out: &mut [u8], at: usize, pool: &[u64], k: u64) -> usize
 
 // Prints what stands before the shape of a member, whose name is at a reference.
 pub fn print_label(out: &mut [u8], at: usize, pool: &[u64], k: u64, around: usize) -> usize
-    requires { ⌜ Printable-label (now pool) k at around ⌝ }
+    requires { ⌜ Printable-label (now pool) k at around (2 ^ 64) ⌝ }
     ensures printed { λ r. ⌜ Prints-label (now (pool .entry)) k around (now (out .entry)) (now (out .exit)) at r ⌝ }
 {
     let mut j = print_line(out, at, around);
     j = print(out, j, b"(member ");
     j = print_name(out, j, pool, k);
     print_line(out, j, around + 1)
+}
+
+// How long the word of a kind is, n bytes, where a set of kinds has it.
+fn word_length(kinds: Shape, kind: Shape, n: usize) -> usize
+    ensures measured { λ r. ⌜ Length-of-word (kinds .kinds) (kind .kinds) n r ⌝ }
+    ensures bounded { λ r. ⌜ r ≤ n ⌝ }
+{
+    if shapes::has(kinds, kind) { n } else { 0 }
+}
+
+// How long the beginning of a form is whose shape has these kinds.
+pub fn head_length(kinds: Shape) -> usize
+    ensures measured { λ r. ⌜ r ≡ length (head-text (kinds .kinds)) ⌝ }
+{
+    let single = word_length(kinds, Shape::NULL, 5)
+        + word_length(kinds, Shape::BOOL, 5)
+        + word_length(kinds, Shape::TEXT, 5);
+    let number = word_length(kinds, Shape::INT, 4) + word_length(kinds, Shape::DEC, 4);
+    6 + single + number + word_length(kinds, Shape::LIST, 5) + word_length(kinds, Shape::REC, 4)
+}
+
+// How long it is what stands before the shape of a member, whose name is at a reference.
+pub fn label_length(pool: &[u64], k: u64, around: usize) -> usize
+    requires { ⌜ Printable-label (now pool) k 0 around (2 ^ 64) ⌝ }
+    ensures measured { λ r. ⌜ Length-of-label (now (pool .entry)) k around r ⌝ }
+{
+    text::text_length(pool, nodes::text_word(k), nodes::text_bytes(k)) + 2 * around + 11
 }
