@@ -1,4 +1,4 @@
--- A form as what the writer prints: its head, its element, its members and a bracket. Assumes nothing.
+-- A form as what the writer writes: its head, its element, its members and a bracket. Assumes nothing.
 use Prim.Native.Nat.{ℕ, suc, _+_, _*_, _%_, _≤_}
 use native.Mathlib.Numerals.{add-one}
 use native.Mathlib.Omega.{arith}

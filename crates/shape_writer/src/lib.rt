@@ -2,20 +2,21 @@
 // a shape.
 ghost use mathlib.Core.Path.{_≡_};
 ghost use mathlib.Core.Bool.{false};
-ghost use Prim.Native.Nat.{_^_};
-ghost use Rattle.shape_writer.specs.Writing.{Printable, Prints-form, Length-of-form, Printable-fields, Prints-fields, Length-of-fields};
+ghost use Prim.Native.Nat.{_+_, _^_};
+ghost use lib.ListN.{length};
+ghost use Rattle.shape_writer.specs.Writing.{Printable, Writes-form, Length-of-form, Printable-fields, Writes-fields, Length-of-fields};
 ghost use Rattle.shape_writer.specs.Writing.{Standing, Tells-deeper, Deliverable, Measures, Delivers-answer, Delivers-output};
 
-mod print; // the parts of a shape text
+mod parts; // the parts of a shape text
 
 use definitions::Answer;
 use definitions::Limits;
-use print::head_length;
-use print::label_length;
-use print::print;
-use print::print_head;
-use print::print_label;
-use print::print_line;
+use parts::head_length;
+use parts::label_length;
+use parts::write_head;
+use parts::write_label;
+use parts::write_line;
+use plain::write_bytes;
 use shapes::Shape;
 
 // What judging a shape for refusal 11 comes to.
@@ -24,8 +25,8 @@ pub enum Measured {
     Fits { length: usize },
 }
 
-// Prints the members whose rows stand from a row up to an end, and the bracket that closes their shape.
-fn print_members(
+// Writes the members whose rows stand from a row up to an end, and the bracket that closes their shape.
+fn write_members(
     out: &mut [u8],
     at: usize,
     shapes: &[u64],
@@ -34,18 +35,37 @@ fn print_members(
     pool: &[u64],
     around: usize,
 ) -> usize
-    requires { ⌜ Printable-fields (now shapes) (now pool) row end at around (2 ^ 64) ⌝ }
-    ensures printed { λ r. ⌜ Prints-fields (now (shapes .entry)) (now (pool .entry)) row end around (now (out .entry)) (now (out .exit)) at r ⌝ }
+    requires { ⌜ Printable-fields (now shapes) (now pool) row end at around (length (now out) + 1) ⌝ }
+    ensures written { λ r. ⌜ Writes-fields (now (shapes .entry)) (now (pool .entry)) row end around (now (out .entry)) (now (out .exit)) at r ⌝ }
 {
     let mut i = row;
     let mut j = at;
     while i < end {
-        j = print_label(out, j, pool, shapes::name(shapes, i), around);
-        j = write_form(out, j, shapes, i, pool, around + 1);
-        j = print(out, j, b")");
+        j = write_label(out, j, pool, shapes::name(shapes, i), around);
+        j = write_inner(out, j, shapes, i, pool, around + 1);
+        j = write_bytes(out, j, b")");
         i += shapes::size(shapes, i);
     }
-    print(out, j, b")")
+    write_bytes(out, j, b")")
+}
+
+// Writes the form of a member's shape. Most hold no other shape, and are written without a call.
+fn write_inner(
+    out: &mut [u8],
+    at: usize,
+    shapes: &[u64],
+    row: usize,
+    pool: &[u64],
+    around: usize,
+) -> usize
+    requires { ⌜ Printable (now shapes) (now pool) row at around (length (now out) + 1) ⌝ }
+    ensures written { λ r. ⌜ Writes-form (now (shapes .entry)) (now (pool .entry)) row around (now (out .entry)) (now (out .exit)) at r ⌝ }
+{
+    if shapes::size(shapes, row) == 2 {
+        let j = write_head(out, at, shapes::kinds(shapes, row));
+        return write_bytes(out, j, b")");
+    }
+    write_form(out, at, shapes, row, pool, around)
 }
 
 // Writes the form of the shape at a row, with so many forms around it, from a place on where the output has room for all
@@ -58,21 +78,21 @@ fn write_form(
     pool: &[u64],
     around: usize,
 ) -> usize
-    requires { ⌜ Printable (now shapes) (now pool) row at around (2 ^ 64) ⌝ }
-    ensures printed { λ r. ⌜ Prints-form (now (shapes .entry)) (now (pool .entry)) row around (now (out .entry)) (now (out .exit)) at r ⌝ }
+    requires { ⌜ Printable (now shapes) (now pool) row at around (length (now out) + 1) ⌝ }
+    ensures written { λ r. ⌜ Writes-form (now (shapes .entry)) (now (pool .entry)) row around (now (out .entry)) (now (out .exit)) at r ⌝ }
 {
     let kinds = shapes::kinds(shapes, row);
     let first = row + 2;
     let end = row + shapes::size(shapes, row);
     let inner = around + 1;
-    let j = print_head(out, at, kinds);
+    let j = write_head(out, at, kinds);
     if shapes::has(kinds, Shape::LIST) {
         let next = first + shapes::size(shapes, first);
-        let k = print_line(out, j, inner);
+        let k = write_line(out, j, inner);
         let m = write_form(out, k, shapes, first, pool, inner);
-        return print_members(out, m, shapes, next, end, pool, inner);
+        return write_members(out, m, shapes, next, end, pool, inner);
     }
-    print_members(out, j, shapes, first, end, pool, inner)
+    write_members(out, j, shapes, first, end, pool, inner)
 }
 
 // How long the members are whose rows stand from a row up to an end, with the bracket that closes their shape.
@@ -175,7 +195,7 @@ pub fn deliver(output: &mut [u8], shapes: &[u64], pool: &[u64], limits: Limits) 
         return answer(15, length);
     }
     let end = write_form(output, 0, shapes, 0, pool, 0);
-    print(output, end, b"\n");
+    write_bytes(output, end, b"\n");
     answer(0, length)
 }
 

@@ -26,8 +26,8 @@ use Rattle.shape_writer.proofs.+form_length+inner_length+members_length
 use Rattle.shape_writer.proofs.members_length.Reads as members-length
 use Rattle.shape_writer.proofs.members_length.Kinds as members-length-kinds
 use Rattle.shape_writer.proofs.+form_length+inner_length+members_length.Lts-members_length as members-length-lts
-use Rattle.shape_writer.proofs.print.head_length.Reads as head-length-reads
-use Rattle.shape_writer.proofs.print.label_length.Reads as label-length-reads
+use Rattle.shape_writer.proofs.parts.head_length.Reads as head-length-reads
+use Rattle.shape_writer.proofs.parts.label_length.Reads as label-length-reads
 use Rattle.shapes.proofs.has.Reads as has-reads
 use Rattle.shapes.proofs.kinds.Reads as kinds-reads
 use Rattle.shapes.proofs.name.Reads as name-reads

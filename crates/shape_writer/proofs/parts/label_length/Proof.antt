@@ -1,11 +1,11 @@
--- `shape_writer::print::label_length` meets its contract. Assumes nothing.
+-- `shape_writer::parts::label_length` meets its contract. Assumes nothing.
 use native.Mathlib.Omega.{arith}
 use mathlib.Core.Path.{ap}
 use borrow.Author.Needs.{needs}
 use lib.ListN.{length}
 use Rattle.shape_writer.proofs.Names.{name-within, name-plain, length-label}
-use Rattle.shape_writer.proofs.print.label_length.Statement.{statement}
-use Rattle.shape_writer.proofs.print.label_length.Tie as tie
+use Rattle.shape_writer.proofs.parts.label_length.Statement.{statement}
+use Rattle.shape_writer.proofs.parts.label_length.Tie as tie
 
 text-length-requires : tie.Need-text-length-requires
 text-length-requires c κs =

@@ -1,11 +1,11 @@
--- `shape_writer::print::head_length` meets its contract. Assumes nothing.
+-- `shape_writer::parts::head_length` meets its contract. Assumes nothing.
 use native.Mathlib.Omega.{arith}
 use mathlib.Core.Path.{refl}
 use borrow.Author.Needs.{needs}
 use Rattle.definitions.specs.Bytes.{bytes}
 use Rattle.shape_writer.proofs.Heads.{length-head, length-to}
-use Rattle.shape_writer.proofs.print.head_length.Statement.{statement}
-use Rattle.shape_writer.proofs.print.head_length.Tie as tie
+use Rattle.shape_writer.proofs.parts.head_length.Statement.{statement}
+use Rattle.shape_writer.proofs.parts.head_length.Tie as tie
 
 returns : tie.Need-returns
 unfolding bytes

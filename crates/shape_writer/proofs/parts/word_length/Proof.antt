@@ -1,12 +1,12 @@
--- `shape_writer::print::word_length` meets its contract. Assumes nothing.
+-- `shape_writer::parts::word_length` meets its contract. Assumes nothing.
 use native.Mathlib.Omega.{arith}
 use mathlib.Core.Path.{sym, ap, _∙_}
 use borrow.Author.Needs.{needs}
 use lib.ListN.{length}
 use Rattle.shapes.specs.Shapes.{has-bit}
 use Rattle.shape_writer.proofs.Heads.{word-there, word-gone}
-use Rattle.shape_writer.proofs.print.word_length.Statement.{statement}
-use Rattle.shape_writer.proofs.print.word_length.Tie as tie
+use Rattle.shape_writer.proofs.parts.word_length.Statement.{statement}
+use Rattle.shape_writer.proofs.parts.word_length.Tie as tie
 
 returns : tie.Need-returns
 returns c =
