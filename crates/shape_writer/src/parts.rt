@@ -98,7 +98,7 @@ pub fn head_length(kinds: Shape) -> usize
     6 + single + number + word_length(kinds, Shape::LIST, 5) + word_length(kinds, Shape::REC, 4)
 }
 
-// How long it is what stands before the shape of a member, whose name is at a reference.
+// The length of what stands before the shape of a member, whose name is at a reference.
 pub fn label_length(pool: &[u64], k: u64, around: usize) -> usize
     requires { ⌜ Printable-label (now pool) k 0 around (2 ^ 64) ⌝ }
     ensures measured { λ r. ⌜ Length-of-label (now (pool .entry)) k around r ⌝ }
