@@ -145,5 +145,6 @@ text-bound {shapes} d =
       w,
     )
 
-pub printable : {shapes pool : List ℕ} → Deliverable shapes pool → Printable shapes pool 0 0 0
-printable d = record { shape = d .shape; holds = d .holds; room = omega (arith, text-bound d); deep = omega arith }
+pub printable
+    : {shapes pool : List ℕ} (d : Deliverable shapes pool) {below : ℕ} → length (write (d .shape) 0) < below → Printable shapes pool 0 0 0 below
+printable d l = record { shape = d .shape; holds = d .holds; room = omega (arith, l); deep = omega arith }

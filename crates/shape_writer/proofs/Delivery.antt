@@ -13,13 +13,13 @@ use Rattle.definitions.specs.Bytes.{Bytes, bytes}
 use Rattle.definitions.specs.Shape.{Shape, forms, levels}
 use Rattle.definitions.specs.ShapeText.{write, write-shape}
 use Rattle.definitions.specs.Operations.{Judged, passed, stopped, Text-out, to-write, Done, refusal, output-short, written, shape-out, deliver, finish}
+use Rattle.text.specs.Writes.{Writes}
+use Rattle.text.specs.WritesLaws.{writes-then}
 use Rattle.shapes.specs.Shapes.{size-at}
 use Rattle.shape_writer.specs.declared.Measured.{Measured}
 use Rattle.shape_writer.specs.declared.Measured.the-variants.{Over, Fits}
-use Rattle.shape_writer.specs.Prints.{Prints}
-use Rattle.shape_writer.specs.PrintsLaws.{prints-then}
 use Rattle.shapes.specs.Held.{Holds-shape}
-use Rattle.shape_writer.specs.Writing.{Length-of-form, Prints-form, Tells-deeper, Measures, Delivers-answer, Delivers-output}
+use Rattle.shape_writer.specs.Writing.{Length-of-form, Writes-form, Tells-deeper, Deliverable, Measures, Delivers-answer, Delivers-output}
 use Rattle.shape_writer.proofs.Forms.{holds-size}
 
 -- ---- refusal 11
@@ -118,6 +118,10 @@ module _ (shapes pool : List ℕ) (l : Limits) (out : Bytes) {m : Measured} (j :
       → (shape-out l s ≡ passed (to-write (write-shape s) 0)) × (n ≡ length (write-shape s))
   fitted e s h = subst (Measures shapes pool l) e j s h
 
+  -- the length told is that of the text and its line feed
+  pub fitting : (d : Deliverable shapes pool) {n : ℕ} → m ≡ Fits n → n ≡ length (write (d .shape) 0) + 1
+  fitting d e = fitted e (d .shape) (d .holds) .1 ∙ length-shape (d .shape)
+
   pub delivers-short
       : {n : ℕ} {r : Answer} → m ≡ Fits n → length out < n
       → r ≡ record { number = 15; text = 0; place = 0; length = n; steps = 0; yes = false }
@@ -133,8 +137,8 @@ module _ (shapes pool : List ℕ) (l : Limits) (out : Bytes) {m : Measured} (j :
 
   pub delivers-written
       : {n k i : ℕ} {r : Answer} {o₁ o₂ : Bytes} → m ≡ Fits n → n ≤ length out
-      → Prints-form shapes pool 0 0 out o₁ 0 k
-      → Prints o₁ o₂ k (0x0A ∷ []) i
+      → Writes-form shapes pool 0 0 out o₁ 0 k
+      → Writes o₁ o₂ k (0x0A ∷ []) i
       → r ≡ record { number = 0; text = 0; place = 0; length = n; steps = 0; yes = false }
       → Delivers-answer shapes pool l out r × Delivers-output shapes pool l out o₂
   unfolding finish deliver written
@@ -147,14 +151,14 @@ module _ (shapes pool : List ℕ) (l : Limits) (out : Bytes) {m : Measured} (j :
       ∙ ap (λ (o : Bytes). record { answer = written n 0 false; output = o }) (sym (front s h))
       ∙ ap (λ (a : Answer). record { answer = a; output = o₂ }) (sym f)))
     where
-      both : (s : Shape) → Holds-shape shapes pool 0 s → Prints out o₂ 0 (write s 0 ++ (0x0A ∷ [])) i
-      both s h = prints-then (p s h) q
+      both : (s : Shape) → Holds-shape shapes pool 0 s → Writes out o₂ 0 (write s 0 ++ (0x0A ∷ [])) i
+      both s h = writes-then (omega arith) (p s h) q
 
       end : (s : Shape) → Holds-shape shapes pool 0 s → i ≡ n
       end s h = omega (arith, both s h .end, length-append (write s 0) (0x0A ∷ []), length-shape s, fitted e s h .1)
 
       front : (s : Shape) → Holds-shape shapes pool 0 s → o₂ ≡ write-shape s ++ drop n out
       front s h =
-          both s h .written (omega (arith, end s h, t)) .bytes
+          both s h .bytes
           ∙ ap (λ (a : ℕ). write s 0 ++ (0x0A ∷ []) ++ drop a out) (end s h)
           ∙ ap (λ (b : Bytes). b ++ drop n out) (shape-bytes s)

@@ -1,5 +1,5 @@
 -- How deep a shape is nested, by the shapes that it holds: its element and those of its members. Assumes nothing.
-use Prim.Native.Nat.{ℕ, suc, _+_, _-_, _≤_, _<_, max}
+use Prim.Native.Nat.{ℕ, suc, _+_, _-_, _/_, _≤_, _<_, max}
 use native.Mathlib.Omega.{arith}
 use mathlib.Core.Path.{_≡_, refl, sym, ap, subst, _∙_}
 use mathlib.Core.Bool.{Bool, true, false}
@@ -7,7 +7,8 @@ use mathlib.Core.List.{List, [], _∷_, _++_, append-assoc}
 use borrow.Author.Tests.{ltb-true, ltb-false, lt-ltb, le-ltb}
 use lib.ListN.{length, drop, length-append}
 use lib.Seq.{drop-drop, drop-at}
-use Rattle.definitions.specs.Shape.{Shape, shape, no-list, list-of, Record, no-rec, rec-of, Fields, no-fields, field, levels, levels-fields}
+use Rattle.definitions.specs.Shape.{Shape, shape, Element, no-list, list-of, Record, no-rec, rec-of, Fields, no-fields, field}
+use Rattle.definitions.specs.Shape.{levels, levels-element, levels-record, levels-fields, forms, forms-element, forms-record, forms-fields}
 use Rattle.shapes.specs.Shapes.{Shape-rows, shape-rows, no-element-rows, element-rows, Record-rows, no-record-rows}
 use Rattle.shapes.specs.Shapes.{record-rows, Field-rows, no-field-rows, field-rows, Stands, size-at}
 use Rattle.shapes.specs.ShapesLaws.{forms-some, length-shape-rows, stands-size, stands-within}
@@ -223,6 +224,29 @@ levels-some (shape n b k x e r) = omega arith
 -- every shape is nested deeper than no level
 pub deeper-than-none : (shapes : List ℕ) (row : ℕ) {left : ℕ} → left ≡ 0 → Tells-deeper shapes row left true
 deeper-than-none shapes row {left} e p m s h = sym (lt-ltb left (levels s) (omega (arith, e, levels-some s)))
+
+-- each level has a form
+mutual
+  unfolding levels forms
+
+  levels-forms : (s : Shape) → levels s ≤ forms s
+  levels-forms (shape n b k x e r) = omega (arith, levels-element-forms e, levels-record-forms r)
+
+  levels-element-forms : (e : Element) → levels-element e ≤ forms-element e
+  levels-element-forms no-list = omega arith
+  levels-element-forms (list-of s) = levels-forms s
+
+  levels-record-forms : (r : Record) → levels-record r ≤ forms-record r
+  levels-record-forms no-rec = omega arith
+  levels-record-forms (rec-of fs) = levels-fields-forms fs
+
+  levels-fields-forms : (fs : Fields) → levels-fields fs ≤ forms-fields fs
+  levels-fields-forms no-fields = omega arith
+  levels-fields-forms (field n s fs) = omega (arith, levels-forms s, levels-fields-forms fs)
+
+-- no shape of so few forms is
+pub too-few : {shapes : List ℕ} {row left n : ℕ} → n ≡ size-at shapes row → n / 2 ≤ left → Tells-deeper shapes row left false
+too-few {left = left} e l p m s h = sym (le-ltb left (levels s) (omega (arith, e, l, stands-size h, levels-forms s)))
 
 pub standing-within : {shapes : List ℕ} {row : ℕ} (w : Standing shapes row) → row + size-at shapes row ≤ length shapes
 standing-within w = omega (arith, stands-size (w .stands), stands-within (w .stands))

@@ -1,4 +1,4 @@
--- A form as what the writer prints: its head, its element, its members and a bracket. Assumes nothing.
+-- A form as what the writer writes: its head, its element, its members and a bracket. Assumes nothing.
 use Prim.Native.Nat.{ℕ, suc, _+_, _*_, _%_, _≤_}
 use native.Mathlib.Numerals.{add-one}
 use native.Mathlib.Omega.{arith}
@@ -8,13 +8,13 @@ use mathlib.Core.List.{List, [], _∷_, _++_, append-assoc}
 use lib.ListN.{length, getD, drop, length-append}
 use Rattle.definitions.specs.Bytes.{Bytes, bytes}
 use Rattle.definitions.specs.Shape.{Kind, all-kinds, Numeric, Shape, shape, Element, no-list, list-of, Record}
-use Rattle.definitions.specs.Shape.{no-rec, rec-of, Fields, no-fields, has, has-list, forms, forms-element}
+use Rattle.definitions.specs.Shape.{no-rec, rec-of, Fields, no-fields, field, has, has-list, forms, forms-element}
 use Rattle.definitions.specs.ShapeText.{write, write-element, write-record, write-fields, write-kinds, new-line}
 use Rattle.shapes.specs.Shapes.{kind-bit, kind-bits, has-bit, Stands, Fields-stand, no-field-rows, size-at}
-use Rattle.shapes.specs.ShapesLaws.{stands-size, stands-within, stands-element, stands-members, members-at-is}
+use Rattle.shapes.specs.ShapesLaws.{forms-some, stands-size, stands-within, stands-element, stands-members, members-at-is}
 use Rattle.shape_writer.specs.Layout.{head-text}
 use Rattle.shapes.specs.Held.{Holds-shape, Holds-fields}
-use Rattle.shapes.specs.HeldLaws.{held-has, held-element}
+use Rattle.shapes.specs.HeldLaws.{held-kinds, held-has, held-element}
 use Rattle.shape_writer.proofs.Heads.{head-of-kinds}
 
 -- ---- members
@@ -170,6 +170,19 @@ module _ {shapes pool : List ℕ} {row : ℕ} (around : ℕ) where
         };
         text = unlisted-text n b x k r around (around + 1) (add-one around);
       }
+
+-- a shape that takes one row holds no other shape
+pub leaf-text
+    : {shapes pool : List ℕ} {row : ℕ} (around : ℕ) {s : Shape} → Holds-shape shapes pool row s → size-at shapes row ≡ 2
+    → head-text (getD shapes row 0 % 128) ++ bytes ")" ≡ write s around
+unfolding write forms fields-of
+leaf-text around {s = shape n b k x (list-of a) r} h e = absurd (let z : ⊥ = omega (arith, holds-size h, e, forms-some a) in z)
+leaf-text around {s = shape n b k x no-list (rec-of (field m a fs))} h e =
+    absurd (let z : ⊥ = omega (arith, holds-size h, e, forms-some a) in z)
+leaf-text around {s = shape n b k x no-list (rec-of no-fields)} h e =
+    ap (λ (i : ℕ). head-text i ++ bytes ")") (held-kinds h) ∙ unlisted-text n b x k (rec-of no-fields) around (suc around) refl
+leaf-text around {s = shape n b k x no-list no-rec} h e =
+    ap (λ (i : ℕ). head-text i ++ bytes ")") (held-kinds h) ∙ unlisted-text n b x k no-rec around (suc around) refl
 
 -- ---- lengths
 

@@ -3,6 +3,7 @@ pub mod Names
 pub mod Heads
 pub mod Forms
 pub mod Members
+pub mod Lengths
 pub mod Depth
 pub mod Bounds
 pub mod Delivery

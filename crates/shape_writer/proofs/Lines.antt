@@ -1,38 +1,55 @@
 -- Line feeds and indentation. Assumes nothing.
-use Prim.Native.Nat.{ℕ, _+_, _≤_, _<_}
+use Prim.Native.Nat.{ℕ, _+_, _-_, _≤_}
 use native.Mathlib.Omega.{arith}
-use mathlib.Core.Path.{_≡_, ap}
-use mathlib.Core.List.{[], _∷_, _++_}
+use mathlib.Core.Path.{_≡_, refl, ap, _∙_}
 use lib.ListN.{length, replicate, length-replicate, replicate-append-replicate}
 use Rattle.definitions.specs.Bytes.{Bytes, bytes}
 use Rattle.definitions.specs.ShapeText.{new-line}
-use Rattle.shape_writer.specs.Prints.{Prints}
-use Rattle.shape_writer.specs.PrintsLaws.{prints-none, prints-then, prints-as}
+use Rattle.text.specs.Writes.{Writes}
+use Rattle.text.specs.WritesLaws.{writes-none, writes-then, writes-as}
 
 pub length-new-line : (around : ℕ) → length (new-line around) ≡ 1 + around
 unfolding new-line bytes
 length-new-line around = omega (arith, length-replicate {A = ℕ} around 0x20)
 
--- i of the spaces are printed, up to place j
-pub record Spacing (out₀ : Bytes) (at around : ℕ) (out : Bytes) (j i : ℕ) : Type 0 where
-  pub printed : Prints out₀ out at (replicate i 0x20) j
-  pub within : i ≤ around
+-- all but so many of n spaces are written, up to place j
+pub record Spacing (out₀ : Bytes) (at n : ℕ) (out : Bytes) (j left : ℕ) : Type 0 where
+  pub written : Writes out₀ out at (replicate (n - left) 0x20) j
+  pub within : left ≤ n
+  pub same : length out ≡ length out₀
 
-pub spacing : (out : Bytes) (at around : ℕ) → Spacing out at around out at 0
-spacing out at around = record { printed = prints-none out at; within = omega arith }
+pub spacing : (out : Bytes) (at n : ℕ) → Spacing out at n out at n
+spacing out at n =
+    record {
+      written = writes-as (ap (λ (k : ℕ). replicate k 0x20) (let e : 0 ≡ n - n = omega arith in e)) (writes-none out at);
+      within = omega arith;
+      same = refl;
+    }
 
-module _ {out₀ : Bytes} {at around : ℕ} {out : Bytes} {j i : ℕ} (s : Spacing out₀ at around out j i) where
-  pub spacing-end : j ≡ at + i
-  spacing-end = omega (arith, s .printed .end, length-replicate {A = ℕ} i 0x20)
+module _
+    {out₀ : Bytes} {at n : ℕ} {out : Bytes} {j left : ℕ}
+    (s : Spacing out₀ at n out j left)
+    (room : at + n ≤ length out₀)
+  where
+    pub spacing-room : j + left ≤ length out
+    spacing-room = omega (arith, s .written .end, length-replicate {A = ℕ} (n - left) 0x20, s .within, s .same)
 
-  pub spacing-on : {out₁ : Bytes} {r : ℕ} → i < around → Prints out out₁ j (0x20 ∷ []) r → Spacing out₀ at around out₁ r (i + 1)
-  spacing-on h p =
-      record { printed = prints-as (replicate-append-replicate {A = ℕ} i 1 0x20) (prints-then (s .printed) p); within = omega arith }
+    -- so many more
+    spaces-then
+        : (k : ℕ) {out₁ : Bytes} {r : ℕ} → k ≤ left → Writes out out₁ j (replicate k 0x20) r → Writes out₀ out₁ at (replicate (n - (left - k)) 0x20) r
+    spaces-then k l w =
+        writes-as
+        (replicate-append-replicate {A = ℕ} (n - left) k 0x20
+        ∙ ap (λ (m : ℕ). replicate m 0x20) (let e : n - left + k ≡ n - (left - k) = omega (arith, s .within) in e))
+        (writes-then (omega arith) (s .written) w)
 
-  -- behind the line feed
-  pub spaced : {out′ : Bytes} {at′ : ℕ} → around ≤ i → Prints out′ out₀ at′ (0x0A ∷ []) at → Prints out′ out at′ (new-line around) j
-  unfolding new-line bytes
-  spaced h p =
-      prints-as
-      (ap (λ (n : ℕ). (0x0A ∷ []) ++ replicate n 0x20) (let e : i ≡ around = omega (arith, s .within) in e))
-      (prints-then p (s .printed))
+    pub spacing-on
+        : (k : ℕ) {out₁ : Bytes} {r : ℕ} → k ≤ left → Writes out out₁ j (replicate k 0x20) r → length out₁ ≡ length out
+        → Spacing out₀ at n out₁ r (left - k)
+    spacing-on k l w e = record { written = spaces-then k l w; within = omega (arith, s .within); same = e ∙ s .same }
+
+    -- the last of them
+    pub spaced : {out₁ : Bytes} {r : ℕ} (k : ℕ) → left ≡ k → Writes out out₁ j (replicate k 0x20) r → Writes out₀ out₁ at (replicate n 0x20) r
+    spaced k e w =
+        writes-as (ap (λ (m : ℕ). replicate m 0x20) (let f : n - (left - k) ≡ n = omega (arith, e) in f))
+        (spaces-then k (omega (arith, e)) w)

@@ -1,22 +1,22 @@
 -- What holds at each turn of the loop over members. Assumes nothing.
-use Prim.Native.Nat.{ℕ, suc, _+_, _*_, _^_, _≤_, _<_}
+use Prim.Native.Nat.{ℕ, suc, _+_, _^_, _≤_, _<_}
 use native.Mathlib.Numerals.{add-one}
 use native.Mathlib.Omega.{arith}
 use mathlib.Core.Path.{_≡_, refl, sym, ap, subst, _∙_}
 use mathlib.Core.List.{List, [], _∷_, _++_, append-assoc, append-nil}
 use lib.ListN.{length, getD, length-append}
 use Rattle.definitions.specs.Bytes.{Bytes, bytes}
-use Rattle.definitions.specs.Shape.{Shape, Fields, no-fields, field, forms}
+use Rattle.definitions.specs.Shape.{Shape, Fields, no-fields, field}
 use Rattle.definitions.specs.ShapeText.{write, write-fields}
+use Rattle.text.specs.Writes.{Writes}
+use Rattle.text.specs.WritesLaws.{writes-none, writes-then, writes-as}
 use Rattle.nodes.specs.Nodes.{Refers}
 use Rattle.plain.specs.Parts.{Holds-text}
 use Rattle.shapes.specs.Shapes.{Fields-stand, size-at}
 use Rattle.shapes.specs.ShapesLaws.{forms-some, stands-name, fields-left, Some-fields, some-fields, fields-first, fields-rest, fields-some}
-use Rattle.shape_writer.specs.Prints.{Prints}
-use Rattle.shape_writer.specs.PrintsLaws.{prints-none, prints-then, prints-as}
 use Rattle.shape_writer.specs.Layout.{label-text}
 use Rattle.shapes.specs.Held.{Holds-shape, Holds-fields}
-use Rattle.shape_writer.specs.Writing.{Printable, Prints-form, Printable-fields, Printable-label, Prints-label}
+use Rattle.shape_writer.specs.Writing.{Printable, Writes-form, Printable-fields, Printable-label, Writes-label}
 use Rattle.shape_writer.proofs.Names.{length-label}
 use Rattle.shape_writer.proofs.Forms.{holds-size, holds-within}
 
@@ -54,7 +54,7 @@ first {shapes} {pool} {i} {end} {fs} h l = go (fields-left (h .listed .stand) l)
           };
         }
 
-none-left : {shapes pool : List ℕ} {i end : ℕ} {fs : Fields} (around : ℕ) → Holds-fields shapes pool i end fs → end ≤ i → write-fields fs around ≡ []
+pub none-left : {shapes pool : List ℕ} {i end : ℕ} {fs : Fields} (around : ℕ) → Holds-fields shapes pool i end fs → end ≤ i → write-fields fs around ≡ []
 unfolding write
 none-left {fs = no-fields} around h l = refl
 none-left {fs = field n s fs} around h l = absurd (let z : ⊥ = omega (arith, fields-some (h .listed .stand), l) in z)
@@ -66,7 +66,7 @@ module _ {shapes pool : List ℕ} {i end : ℕ} {fs : Fields} (f : First shapes 
   unfolding write label-text bytes
   member-text = ap (λ (gs : Fields). write-fields gs around) (f .same)
 
-  length-member
+  pub length-member
       : length (write-fields fs around)
       ≡ length (label-text (f .name) around) + length (write (f .shape) (suc around)) + 1 + length (write-fields (f .rest) around)
   length-member =
@@ -79,15 +79,22 @@ module _ {shapes pool : List ℕ} {i end : ℕ} {fs : Fields} (f : First shapes 
       (length-append (label-text (f .name) around ++ write (f .shape) (suc around)) (41 ∷ [])
       ∙ ap (λ (n : ℕ). n + 1) (length-append (label-text (f .name) around) (write (f .shape) (suc around))))
 
+module _ {shapes pool : List ℕ} {i end : ℕ} {fs : Fields} (f : First shapes pool i end fs) where
+  pub first-some : 2 ≤ size-at shapes i
+  first-some = omega (arith, holds-size (f .holds), forms-some (f .shape))
+
+  pub first-within : i + size-at shapes i ≤ length shapes
+  first-within = omega (arith, holds-size (f .holds), holds-within (f .holds))
+
 -- ---- the loop
 
--- fs are the members from a row on; those left at row i are to be printed at place j, behind what is done
+-- fs are the members from a row on; those left at row i are to be written at place j, behind what is done
 pub record Going
     (shapes pool : List ℕ) (row end around : ℕ) (out₀ : Bytes) (at : ℕ) (fs : Fields) (out : Bytes) (i j : ℕ)
     : Type 0 where
   pub done : Bytes
   pub left : Fields
-  pub printed : Prints out₀ out at done j
+  pub written : Writes out₀ out at done j
   pub holds : Holds-fields shapes pool i end left
   pub whole : done ++ write-fields left around ≡ write-fields fs around
 
@@ -103,7 +110,7 @@ loop-begins shapes pool row end around out at =
     record {
       same = refl;
       ahead = omega arith;
-      going = λ fs h. record { done = []; left = fs; printed = prints-none out at; holds = h; whole = refl };
+      going = λ fs h. record { done = []; left = fs; written = writes-none out at; holds = h; whole = refl };
     }
 
 regroup-member : (d l w c r : Bytes) → d ++ l ++ w ++ c ++ r ≡ d ++ (l ++ w ++ c ++ r)
@@ -111,13 +118,16 @@ regroup-member d l w c r = simp append-assoc
 
 module _
     {shapes pool : List ℕ} {row end around : ℕ} {out₀ : Bytes} {at : ℕ} {out : Bytes} {i j : ℕ}
-    (w : Printable-fields shapes pool row end at around)
+    (w : Printable-fields shapes pool row end at around (length out₀ + 1))
     (l : Loop shapes pool row end around out₀ at out i j)
   where
+    start-within : at ≤ length out₀
+    start-within = omega (arith, w .room)
+
     pub now-going : Going shapes pool row end around out₀ at (w .fields) out i j
     now-going = l .going (w .fields) (w .holds)
 
-    left-room : j + length (write-fields (now-going .left) around) + 1 < 2 ^ 64
+    left-room : j + length (write-fields (now-going .left) around) + 1 ≤ length out₀
     unfolding bytes
     left-room =
         omega (
@@ -126,22 +136,22 @@ module _
           length-append (write-fields (w .fields) around) (41 ∷ []),
           ap length (now-going .whole),
           length-append (now-going .done) (write-fields (now-going .left) around),
-          now-going .printed .end,
+          now-going .written .end,
         )
 
-    pub close-room : j + 1 < 2 ^ 64
-    close-room = omega (arith, left-room)
+    pub close-room : j + 1 ≤ length out
+    close-room = omega (arith, left-room, l .same)
 
-    pub printed-all
-        : {out′ : Bytes} {r : ℕ} → end ≤ i → Prints out out′ j (41 ∷ []) r → (fs : Fields) → Holds-fields shapes pool row end fs
-        → Prints out₀ out′ at (write-fields fs around ++ bytes ")") r
+    pub written-all
+        : {out′ : Bytes} {r : ℕ} → end ≤ i → Writes out out′ j (41 ∷ []) r → (fs : Fields) → Holds-fields shapes pool row end fs
+        → Writes out₀ out′ at (write-fields fs around ++ bytes ")") r
     unfolding bytes
-    printed-all past p fs h =
+    written-all past p fs h =
         let g = l .going fs h in
-        prints-then
-        (prints-as
+        writes-then start-within
+        (writes-as
         (sym (append-nil (g .done)) ∙ ap (λ (s : Bytes). g .done ++ s) (sym (none-left around (g .holds) past)) ∙ g .whole)
-        (g .printed))
+        (g .written))
         p
 
     module _ (more : i < end) where
@@ -150,87 +160,82 @@ module _
       turn = first (now-going .holds) more
 
       room
-          : j + length (label-text (turn .name) around) + length (write (turn .shape) (suc around)) + 2 < 2 ^ 64
+          : j + length (label-text (turn .name) around) + length (write (turn .shape) (suc around)) + 2 ≤ length out₀
       room = omega (arith, left-room, length-member turn around)
 
-      pub inner-room : around + 3 < 2 ^ 64
+      pub inner-room : around + 3 ≤ length out₀
       inner-room = omega (arith, room, length-label (turn .name) around)
 
-      pub label-printable : {k : ℕ} → k ≡ getD shapes (i + 1) 0 → Printable-label pool k j around
+      pub label-printable : {k : ℕ} → k ≡ getD shapes (i + 1) 0 → Printable-label pool k j around (length out + 1)
       label-printable e =
           record {
             text = turn .name;
             holds = subst (λ (k : ℕ). Holds-text pool k (turn .name)) (sym e) (turn .label);
-            room = omega (arith, room);
+            room = omega (arith, room, l .same);
           }
 
-      module _ {k j₁ : ℕ} {out₁ : Bytes} (e : k ≡ getD shapes (i + 1) 0) (x : Prints-label pool k around out out₁ j j₁) where
-        label-printed : (t : Bytes) → Holds-text pool (getD shapes (i + 1) 0) t → Prints out out₁ j (label-text t around) j₁
-        label-printed t h = x t (subst (λ (k : ℕ). Holds-text pool k t) (sym e) h)
+      module _
+          {k j₁ : ℕ} {out₁ : Bytes} (e : k ≡ getD shapes (i + 1) 0)
+          (x : Writes-label pool k around out out₁ j j₁)
+          (same : length out₁ ≡ length out)
+        where
+          label-written : (t : Bytes) → Holds-text pool (getD shapes (i + 1) 0) t → Writes out out₁ j (label-text t around) j₁
+          label-written t h = x t (subst (λ (k : ℕ). Holds-text pool k t) (sym e) h)
 
-        pub form-printable : Printable shapes pool i j₁ (around + 1)
-        form-printable =
-            record {
-              shape = turn .shape;
-              holds = turn .holds;
-              room = subst (λ (n : ℕ). j₁ + length (write (turn .shape) n) < 2 ^ 64) (sym (add-one around))
-                  (omega (arith, room, label-printed (turn .name) (turn .label) .end));
-              deep = omega (arith, inner-room);
-            }
-
-        module _ {j₂ : ℕ} {out₂ : Bytes} (y : Prints-form shapes pool i (around + 1) out₁ out₂ j₁ j₂) where
-          form-printed : (s : Shape) → Holds-shape shapes pool i s → Prints out₁ out₂ j₁ (write s (suc around)) j₂
-          form-printed s h = prints-as (ap (write s) (add-one around)) (y s h)
-
-          pub bracket-room : j₂ + 1 < 2 ^ 64
-          bracket-room =
-              omega (
-                arith,
-                room,
-                label-printed (turn .name) (turn .label) .end,
-                form-printed (turn .shape) (turn .holds) .end,
-              )
-
-          pub loop-on
-              : {j₃ n : ℕ} {out₃ : Bytes} → Prints out₂ out₃ j₂ (41 ∷ []) j₃ → n ≡ size-at shapes i
-              → Loop shapes pool row end around out₀ at out₃ (i + n) j₃
-          loop-on {j₃} {n} {out₃} z f =
+          pub form-printable : length out₀ < 2 ^ 64 → Printable shapes pool i j₁ (around + 1) (length out₁ + 1)
+          form-printable big =
               record {
-                same = z .same
-                    ∙ form-printed (turn .shape) (turn .holds) .same
-                    ∙ label-printed (turn .name) (turn .label) .same
-                    ∙ l .same;
-                ahead = omega (arith, l .ahead);
-                going = λ fs h. step fs (l .going fs h);
+                shape = turn .shape;
+                holds = turn .holds;
+                room = subst (λ (n : ℕ). j₁ + length (write (turn .shape) n) < length out₁ + 1) (sym (add-one around))
+                    (omega (arith, room, label-written (turn .name) (turn .label) .end, same, l .same));
+                deep = omega (arith, inner-room, big);
               }
-            where
-              step : (fs : Fields) → Going shapes pool row end around out₀ at fs out i j → Going shapes pool row end around out₀ at fs out₃ (i + n) j₃
-              step fs g =
-                  let t = first (g .holds) more in
-                  record {
-                    done = g .done ++ label-text (t .name) around ++ write (t .shape) (suc around) ++ (41 ∷ []);
-                    left = t .rest;
-                    printed = prints-then
-                        (prints-then
-                        (prints-then (g .printed) (label-printed (t .name) (t .label)))
-                        (form-printed (t .shape) (t .holds)))
-                        z;
-                    holds = subst (λ (k : ℕ). Holds-fields shapes pool (i + k) end (t .rest)) (sym f) (t .more);
-                    whole = regroup-member
-                        (g .done)
-                        (label-text (t .name) around)
-                        (write (t .shape) (suc around))
-                        (41 ∷ [])
-                        (write-fields (t .rest) around)
-                        ∙ ap (λ (s : Bytes). g .done ++ s) (sym (member-text t around))
-                        ∙ g .whole;
-                  }
 
-      pub turn-size : size-at shapes i ≡ 2 * forms (turn .shape)
-      turn-size = holds-size (turn .holds)
+          module _ {j₂ : ℕ} {out₂ : Bytes} (y : Writes-form shapes pool i (around + 1) out₁ out₂ j₁ j₂) (same′ : length out₂ ≡ length out₁) where
+            form-written : (s : Shape) → Holds-shape shapes pool i s → Writes out₁ out₂ j₁ (write s (suc around)) j₂
+            form-written s h = writes-as (ap (write s) (add-one around)) (y s h)
 
-      pub turn-some : 2 ≤ size-at shapes i
-      turn-some = omega (arith, turn-size, forms-some (turn .shape))
+            pub bracket-room : j₂ + 1 ≤ length out₂
+            bracket-room =
+                omega (
+                  arith,
+                  room,
+                  label-written (turn .name) (turn .label) .end,
+                  form-written (turn .shape) (turn .holds) .end,
+                  same,
+                  same′,
+                  l .same,
+                )
 
-      pub turn-within : i + size-at shapes i ≤ length shapes
-      turn-within = omega (arith, turn-size, holds-within (turn .holds))
+            pub loop-on
+                : {j₃ n : ℕ} {out₃ : Bytes} → Writes out₂ out₃ j₂ (41 ∷ []) j₃ → length out₃ ≡ length out₂ → n ≡ size-at shapes i
+                → Loop shapes pool row end around out₀ at out₃ (i + n) j₃
+            loop-on {j₃} {n} {out₃} z same″ f =
+                record {
+                  same = same″ ∙ same′ ∙ same ∙ l .same;
+                  ahead = omega (arith, l .ahead);
+                  going = λ fs h. step fs (l .going fs h);
+                }
+              where
+                step : (fs : Fields) → Going shapes pool row end around out₀ at fs out i j → Going shapes pool row end around out₀ at fs out₃ (i + n) j₃
+                step fs g =
+                    let t = first (g .holds) more in
+                    record {
+                      done = g .done ++ label-text (t .name) around ++ write (t .shape) (suc around) ++ (41 ∷ []);
+                      left = t .rest;
+                      written = writes-then start-within
+                          (writes-then start-within
+                          (writes-then start-within (g .written) (label-written (t .name) (t .label)))
+                          (form-written (t .shape) (t .holds)))
+                          z;
+                      holds = subst (λ (k : ℕ). Holds-fields shapes pool (i + k) end (t .rest)) (sym f) (t .more);
+                      whole = regroup-member
+                          (g .done)
+                          (label-text (t .name) around)
+                          (write (t .shape) (suc around))
+                          (41 ∷ [])
+                          (write-fields (t .rest) around)
+                          ∙ ap (λ (s : Bytes). g .done ++ s) (sym (member-text t around))
+                          ∙ g .whole;
+                    }

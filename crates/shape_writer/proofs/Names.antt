@@ -1,5 +1,5 @@
 -- A name of the pool, and what stands around it before a member's shape. Assumes nothing.
-use Prim.Native.Nat.{ℕ, suc, _+_, _*_, _/_, _%_, _≤_}
+use Prim.Native.Nat.{ℕ, suc, _+_, _/_, _%_, _≤_}
 use native.Mathlib.Omega.{arith}
 use mathlib.Core.Path.{_≡_, sym, ap, ap₂, subst₂, _∙_}
 use mathlib.Core.List.{List, _++_}
@@ -7,9 +7,7 @@ use lib.ListN.{length, length-append}
 use Rattle.definitions.specs.Bytes.{Bytes, bytes}
 use Rattle.definitions.specs.Plain.{plain-text}
 use Rattle.definitions.specs.ShapeText.{new-line}
-use Rattle.laws.specs.StringWritten.{plain-most}
 use Rattle.pool.specs.Pool.{words, text-in}
-use Rattle.pool.specs.PoolLaws.{length-text-in}
 use Rattle.plain.specs.Parts.{Holds-text}
 use Rattle.plain.specs.TableLaws.{found}
 use Rattle.shape_writer.specs.Layout.{label-text}
@@ -21,11 +19,6 @@ module _ {pool : List ℕ} {k : ℕ} {t : Bytes} {w n : ℕ} (h : Holds-text poo
 
   pub name-plain : plain-text (text-in pool w n) ≡ plain-text t
   name-plain = ap₂ (λ (x y : ℕ). plain-text (text-in pool x y)) e f ∙ ap plain-text (found (h .pooled) (h .refers) .text)
-
-pub name-most
-    : (pool : List ℕ) (w n at size : ℕ) → w + words n ≤ length pool → at + (2 + 6 * n) ≤ size
-    → at + length (plain-text (text-in pool w n)) ≤ size
-name-most pool w n at size h l = omega (arith, plain-most (text-in pool w n), length-text-in pool w n h)
 
 pub length-label : (n : Bytes) (around : ℕ) → length (label-text n around) ≡ 1 + around + 8 + length (plain-text n) + (2 + around)
 unfolding label-text bytes

@@ -1,4 +1,4 @@
--- The parts of a shape text as the writer prints them, by the words of a row. Assumes nothing.
+-- The parts of a shape text as they are written, by the words of a row. Assumes nothing.
 use Prim.Native.Nat.{ℕ, suc}
 use mathlib.Core.Bool.{Bool, true, false}
 use mathlib.Core.List.{[], _++_}

@@ -1,5 +1,3 @@
-pub mod Prints
-pub mod PrintsLaws
 pub mod Layout
 pub mod Writing
 pub mod WritingLaws

@@ -9,68 +9,71 @@ use Rattle.definitions.specs.declared.Limits.{Limits}
 use Rattle.definitions.specs.declared.Answer.{Answer}
 use Rattle.definitions.specs.Bytes.{Bytes, bytes}
 use Rattle.definitions.specs.Shape.{Shape, Fields, levels}
-use Rattle.definitions.specs.Plain.{plain-text}
 use Rattle.definitions.specs.ShapeText.{write, write-fields, write-shape}
 use Rattle.definitions.specs.Operations.{passed, stopped, refusal, to-write, shape-out, finish}
+use Rattle.text.specs.Writes.{Writes}
 use Rattle.plain.specs.Parts.{Holds-text}
 use Rattle.shapes.specs.Shapes.{has-bit, Stands}
 use Rattle.shapes.specs.Held.{Holds-shape, Holds-fields}
 use Rattle.shape_writer.specs.declared.Measured.{Measured}
 use Rattle.shape_writer.specs.declared.Measured.the-variants.{Over, Fits}
-use Rattle.shape_writer.specs.Prints.{Prints}
 use Rattle.shape_writer.specs.Layout.{word-of, label-text}
 
 -- ---- what a writer asks and answers
 
--- a shape stands there, and the place behind its form is a number of 64 bits
-pub record Printable (shapes pool : List ℕ) (row at around : ℕ) : Type 0 where
+-- a shape stands there, and the place behind its form is below an end
+pub record Printable (shapes pool : List ℕ) (row at around below : ℕ) : Type 0 where
   pub shape : Shape
   pub holds : Holds-shape shapes pool row shape
-  pub room : at + length (write shape around) < 2 ^ 64
+  pub room : at + length (write shape around) < below
   pub deep : around + 1 < 2 ^ 64
 
--- the form of the shape that stands there is printed from a place on
-abbrev pub Prints-form : (shapes pool : List ℕ) (row around : ℕ) (out out′ : Bytes) (at r : ℕ) → Type 0
-Prints-form shapes pool row around out out′ at r =
-    (s : Shape) → Holds-shape shapes pool row s → Prints out out′ at (write s around) r
+-- the form of the shape that stands there is written from a place on
+abbrev pub Writes-form : (shapes pool : List ℕ) (row around : ℕ) (out out′ : Bytes) (at r : ℕ) → Type 0
+Writes-form shapes pool row around out out′ at r =
+    (s : Shape) → Holds-shape shapes pool row s → Writes out out′ at (write s around) r
 
 -- the length of its form
 abbrev pub Length-of-form : (shapes pool : List ℕ) (row around r : ℕ) → Type 0
 Length-of-form shapes pool row around r = (s : Shape) → Holds-shape shapes pool row s → r ≡ length (write s around)
 
-pub record Printable-fields (shapes pool : List ℕ) (row end at around : ℕ) : Type 0 where
+pub record Printable-fields (shapes pool : List ℕ) (row end at around below : ℕ) : Type 0 where
   pub fields : Fields
   pub holds : Holds-fields shapes pool row end fields
-  pub room : at + length (write-fields fields around ++ bytes ")") < 2 ^ 64
+  pub room : at + length (write-fields fields around ++ bytes ")") < below
 
 -- the members that stand there, and the bracket that closes their shape
-abbrev pub Prints-fields : (shapes pool : List ℕ) (row end around : ℕ) (out out′ : Bytes) (at r : ℕ) → Type 0
-Prints-fields shapes pool row end around out out′ at r =
-    (fs : Fields) → Holds-fields shapes pool row end fs → Prints out out′ at (write-fields fs around ++ bytes ")") r
+abbrev pub Writes-fields : (shapes pool : List ℕ) (row end around : ℕ) (out out′ : Bytes) (at r : ℕ) → Type 0
+Writes-fields shapes pool row end around out out′ at r =
+    (fs : Fields) → Holds-fields shapes pool row end fs → Writes out out′ at (write-fields fs around ++ bytes ")") r
+
+-- their length
+abbrev pub Length-of-fields : (shapes pool : List ℕ) (row end around r : ℕ) → Type 0
+Length-of-fields shapes pool row end around r =
+    (fs : Fields) → Holds-fields shapes pool row end fs → r ≡ length (write-fields fs around ++ bytes ")")
 
 -- ---- words
 
--- the word of a kind is printed where a set of kinds has it
-pub record Prints-word (kinds kind : ℕ) (word out out′ : Bytes) (at r : ℕ) : Type 0 where
-  pub printed : Prints out out′ at (word-of (has-bit kinds kind) word) r
+-- the word of a kind is written where a set of kinds has it
+pub record Writes-word (kinds kind : ℕ) (word out out′ : Bytes) (at r : ℕ) : Type 0 where
+  pub written : Writes out out′ at (word-of (has-bit kinds kind) word) r
+
+-- how long the word of a kind is, n bytes where a set of kinds has it
+pub record Length-of-word (kinds kind n r : ℕ) : Type 0 where
+  pub measured : (word : Bytes) → length word ≡ n → r ≡ length (word-of (has-bit kinds kind) word)
 
 -- ---- names
 
-pub record Printable-name (pool : List ℕ) (k at : ℕ) : Type 0 where
+pub record Printable-label (pool : List ℕ) (k at around below : ℕ) : Type 0 where
   pub text : Bytes
   pub holds : Holds-text pool k text
-  pub room : at + length (plain-text text) < 2 ^ 64
+  pub room : at + length (label-text text around) < below
 
-abbrev pub Prints-name : (pool : List ℕ) (k : ℕ) (out out′ : Bytes) (at r : ℕ) → Type 0
-Prints-name pool k out out′ at r = (t : Bytes) → Holds-text pool k t → Prints out out′ at (plain-text t) r
+abbrev pub Writes-label : (pool : List ℕ) (k around : ℕ) (out out′ : Bytes) (at r : ℕ) → Type 0
+Writes-label pool k around out out′ at r = (t : Bytes) → Holds-text pool k t → Writes out out′ at (label-text t around) r
 
-pub record Printable-label (pool : List ℕ) (k at around : ℕ) : Type 0 where
-  pub text : Bytes
-  pub holds : Holds-text pool k text
-  pub room : at + length (label-text text around) < 2 ^ 64
-
-abbrev pub Prints-label : (pool : List ℕ) (k around : ℕ) (out out′ : Bytes) (at r : ℕ) → Type 0
-Prints-label pool k around out out′ at r = (t : Bytes) → Holds-text pool k t → Prints out out′ at (label-text t around) r
+abbrev pub Length-of-label : (pool : List ℕ) (k around r : ℕ) → Type 0
+Length-of-label pool k around r = (t : Bytes) → Holds-text pool k t → r ≡ length (label-text t around)
 
 -- ---- the end of an operation
 

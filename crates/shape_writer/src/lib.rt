@@ -2,17 +2,21 @@
 // a shape.
 ghost use mathlib.Core.Path.{_≡_};
 ghost use mathlib.Core.Bool.{false};
-ghost use Rattle.shape_writer.specs.Writing.{Printable, Prints-form, Length-of-form, Printable-fields, Prints-fields};
+ghost use Prim.Native.Nat.{_+_, _^_};
+ghost use lib.ListN.{length};
+ghost use Rattle.shape_writer.specs.Writing.{Printable, Writes-form, Length-of-form, Printable-fields, Writes-fields, Length-of-fields};
 ghost use Rattle.shape_writer.specs.Writing.{Standing, Tells-deeper, Deliverable, Measures, Delivers-answer, Delivers-output};
 
-mod print; // the parts of a shape text
+mod parts; // the parts of a shape text
 
 use definitions::Answer;
 use definitions::Limits;
-use print::print;
-use print::print_head;
-use print::print_label;
-use print::print_line;
+use parts::head_length;
+use parts::label_length;
+use parts::write_head;
+use parts::write_label;
+use parts::write_line;
+use plain::write_bytes;
 use shapes::Shape;
 
 // What judging a shape for refusal 11 comes to.
@@ -21,8 +25,8 @@ pub enum Measured {
     Fits { length: usize },
 }
 
-// Prints the members whose rows stand from a row up to an end, and the bracket that closes their shape.
-fn print_members(
+// Writes the members whose rows stand from a row up to an end, and the bracket that closes their shape.
+fn write_members(
     out: &mut [u8],
     at: usize,
     shapes: &[u64],
@@ -31,18 +35,37 @@ fn print_members(
     pool: &[u64],
     around: usize,
 ) -> usize
-    requires { ⌜ Printable-fields (now shapes) (now pool) row end at around ⌝ }
-    ensures printed { λ r. ⌜ Prints-fields (now (shapes .entry)) (now (pool .entry)) row end around (now (out .entry)) (now (out .exit)) at r ⌝ }
+    requires { ⌜ Printable-fields (now shapes) (now pool) row end at around (length (now out) + 1) ⌝ }
+    ensures written { λ r. ⌜ Writes-fields (now (shapes .entry)) (now (pool .entry)) row end around (now (out .entry)) (now (out .exit)) at r ⌝ }
 {
     let mut i = row;
     let mut j = at;
     while i < end {
-        j = print_label(out, j, pool, shapes::name(shapes, i), around);
-        j = write_form(out, j, shapes, i, pool, around + 1);
-        j = print(out, j, b")");
+        j = write_label(out, j, pool, shapes::name(shapes, i), around);
+        j = write_inner(out, j, shapes, i, pool, around + 1);
+        j = write_bytes(out, j, b")");
         i += shapes::size(shapes, i);
     }
-    print(out, j, b")")
+    write_bytes(out, j, b")")
+}
+
+// Writes the form of a member's shape. Most hold no other shape, and are written without a call.
+fn write_inner(
+    out: &mut [u8],
+    at: usize,
+    shapes: &[u64],
+    row: usize,
+    pool: &[u64],
+    around: usize,
+) -> usize
+    requires { ⌜ Printable (now shapes) (now pool) row at around (length (now out) + 1) ⌝ }
+    ensures written { λ r. ⌜ Writes-form (now (shapes .entry)) (now (pool .entry)) row around (now (out .entry)) (now (out .exit)) at r ⌝ }
+{
+    if shapes::size(shapes, row) == 2 {
+        let j = write_head(out, at, shapes::kinds(shapes, row));
+        return write_bytes(out, j, b")");
+    }
+    write_form(out, at, shapes, row, pool, around)
 }
 
 // Writes the form of the shape at a row, with so many forms around it, from a place on where the output has room for all
@@ -55,30 +78,65 @@ fn write_form(
     pool: &[u64],
     around: usize,
 ) -> usize
-    requires { ⌜ Printable (now shapes) (now pool) row at around ⌝ }
-    ensures printed { λ r. ⌜ Prints-form (now (shapes .entry)) (now (pool .entry)) row around (now (out .entry)) (now (out .exit)) at r ⌝ }
+    requires { ⌜ Printable (now shapes) (now pool) row at around (length (now out) + 1) ⌝ }
+    ensures written { λ r. ⌜ Writes-form (now (shapes .entry)) (now (pool .entry)) row around (now (out .entry)) (now (out .exit)) at r ⌝ }
 {
     let kinds = shapes::kinds(shapes, row);
     let first = row + 2;
     let end = row + shapes::size(shapes, row);
     let inner = around + 1;
-    let j = print_head(out, at, kinds);
+    let j = write_head(out, at, kinds);
     if shapes::has(kinds, Shape::LIST) {
         let next = first + shapes::size(shapes, first);
-        let k = print_line(out, j, inner);
+        let k = write_line(out, j, inner);
         let m = write_form(out, k, shapes, first, pool, inner);
-        return print_members(out, m, shapes, next, end, pool, inner);
+        return write_members(out, m, shapes, next, end, pool, inner);
     }
-    print_members(out, j, shapes, first, end, pool, inner)
+    write_members(out, j, shapes, first, end, pool, inner)
 }
 
-// How long the form of the shape at a row is, with so many forms around it: printed where there is no room.
-fn form_length(shapes: &[u64], row: usize, pool: &[u64], around: usize) -> usize
-    requires { ⌜ Printable (now shapes) (now pool) row 0 around ⌝ }
+// How long the members are whose rows stand from a row up to an end, with the bracket that closes their shape.
+fn members_length(shapes: &[u64], row: usize, end: usize, pool: &[u64], around: usize) -> usize
+    requires { ⌜ Printable-fields (now shapes) (now pool) row end 0 around (2 ^ 64) ⌝ }
+    ensures measured { λ r. ⌜ Length-of-fields (now (shapes .entry)) (now (pool .entry)) row end around r ⌝ }
+{
+    let mut i = row;
+    let mut length: usize = 1;
+    while i < end {
+        length += label_length(pool, shapes::name(shapes, i), around);
+        length += inner_length(shapes, i, pool, around + 1) + 1;
+        i += shapes::size(shapes, i);
+    }
+    length
+}
+
+// How long the form of a member's shape is. Most hold no other shape, and are measured without a call.
+fn inner_length(shapes: &[u64], row: usize, pool: &[u64], around: usize) -> usize
+    requires { ⌜ Printable (now shapes) (now pool) row 0 around (2 ^ 64) ⌝ }
     ensures measured { λ r. ⌜ Length-of-form (now (shapes .entry)) (now (pool .entry)) row around r ⌝ }
 {
-    let mut none: [u8; 1] = [0];
-    write_form(&mut none, 0, shapes, row, pool, around)
+    if shapes::size(shapes, row) == 2 {
+        return head_length(shapes::kinds(shapes, row)) + 1;
+    }
+    form_length(shapes, row, pool, around)
+}
+
+// How long the form of the shape at a row is, with so many forms around it.
+fn form_length(shapes: &[u64], row: usize, pool: &[u64], around: usize) -> usize
+    requires { ⌜ Printable (now shapes) (now pool) row 0 around (2 ^ 64) ⌝ }
+    ensures measured { λ r. ⌜ Length-of-form (now (shapes .entry)) (now (pool .entry)) row around r ⌝ }
+{
+    let kinds = shapes::kinds(shapes, row);
+    let first = row + 2;
+    let end = row + shapes::size(shapes, row);
+    let inner = around + 1;
+    let head = head_length(kinds);
+    if shapes::has(kinds, Shape::LIST) {
+        let next = first + shapes::size(shapes, first);
+        let element = form_length(shapes, first, pool, inner);
+        return head + 1 + inner + element + members_length(shapes, next, end, pool, inner);
+    }
+    head + members_length(shapes, first, end, pool, inner)
 }
 
 // Whether the shape at a row is nested deeper than so many levels.
@@ -89,7 +147,12 @@ fn is_deeper(shapes: &[u64], row: usize, left: usize) -> bool
     if left == 0 {
         return true;
     }
-    let end = row + shapes::size(shapes, row);
+    let size = shapes::size(shapes, row);
+    // no shape has more levels than forms
+    if size / 2 <= left {
+        return false;
+    }
+    let end = row + size;
     let mut i = row + 2;
     while i < end {
         if is_deeper(shapes, i, left - 1) {
@@ -132,7 +195,7 @@ pub fn deliver(output: &mut [u8], shapes: &[u64], pool: &[u64], limits: Limits) 
         return answer(15, length);
     }
     let end = write_form(output, 0, shapes, 0, pool, 0);
-    print(output, end, b"\n");
+    write_bytes(output, end, b"\n");
     answer(0, length)
 }
 

@@ -2,9 +2,8 @@
 use native.Mathlib.Omega.{arith}
 use borrow.Author.Needs.{needs}
 use denote.Ref.{now}
-use Rattle.shape_writer.specs.PrintsLaws.{prints-byte}
-use Rattle.shape_writer.proofs.Bounds.{text-bound, printable}
-use Rattle.shape_writer.proofs.Delivery.{delivers-over, delivers-short, delivers-written}
+use Rattle.shape_writer.proofs.Bounds.{printable}
+use Rattle.shape_writer.proofs.Delivery.{delivers-over, delivers-short, fitting, delivers-written}
 use Rattle.shape_writer.proofs.deliver.Statement.{statement}
 use Rattle.shape_writer.proofs.deliver.Tie as tie
 
@@ -23,15 +22,28 @@ returns-2 c =
 
 write-form-requires : tie.Need-write-form-requires
 write-form-requires c κs =
-    let at-start = c .before .before .before .before .before .before .before .before .before in
-    printable (at-start .pre)
+    let after-measure = c .before .before .before .before .before in
+    let at-start = after-measure .before .before .before .before in
+    printable (at-start .pre) (omega (
+      arith,
+      fitting (now (at-start .args .shapes)) (now (at-start .args .pool)) (at-start .args .limits) (now (at-start .args .output))
+          (after-measure .measure .ensures) (at-start .pre) (c .before .before .before .length .given .1),
+      c .before .if1 .left,
+    ))
 
-print-requires : tie.Need-print-requires
-print-requires c κs =
+write-bytes-requires : tie.Need-write-bytes-requires
+write-bytes-requires c κs =
     let after-write-form = c .before .before .before .before in
     let after-length = after-write-form .before .before .before .before in
     let at-start = after-length .before .before .before .before .before .before in
-    omega (arith, text-bound (at-start .pre), after-write-form .write-form .ensures (at-start .pre .shape) (at-start .pre .holds) .end)
+    omega (
+      arith,
+      fitting (now (at-start .args .shapes)) (now (at-start .args .pool)) (at-start .args .limits) (now (at-start .args .output))
+          (after-length .before .before .measure .ensures) (at-start .pre) (after-length .length .given .1),
+      after-write-form .before .before .if1 .left,
+      after-write-form .write-form .ensures (at-start .pre .shape) (at-start .pre .holds) .end,
+      after-write-form .write-form .kept .0,
+    )
 
 returns-3 : tie.Need-returns-3
 returns-3 c =
@@ -47,7 +59,7 @@ returns-3 c =
     (after-length .length .given .1)
     (omega (arith, after-write-form .before .before .if1 .left))
     (after-write-form .write-form .ensures)
-    (prints-byte 0x0A (c .before .before .before .print .ensures) (omega arith) (omega arith))
+    (c .before .before .before .write-bytes .ensures)
     (c .answer3 .ensures)
 
 pub deliver-spec : {M : Type 1} → statement M
@@ -60,6 +72,6 @@ deliver-spec =
     returns-2
     write-form-requires
     (λ c. search needs)
-    print-requires
+    write-bytes-requires
     (λ c κs. search needs) (λ c. search needs)
     returns-3)

@@ -29,7 +29,7 @@ returns-2 c =
 form-length-requires : tie.Need-form-length-requires
 form-length-requires c κs =
     let at-start = c .before .before .before .before .before .before .before in
-    printable (at-start .pre)
+    printable (at-start .pre) (omega (arith, text-bound (at-start .pre)))
 
 add-length : tie.Need-add-length
 add-length c =

@@ -1,17 +1,17 @@
--- `shape_writer::print::print_word` meets its contract. Assumes nothing.
+-- `shape_writer::parts::write_word` meets its contract. Assumes nothing.
 use native.Mathlib.Omega.{arith}
 use mathlib.Core.Path.{sym, ap, _∙_}
 use borrow.Author.Needs.{needs}
 use denote.Ref.{now}
 use lib.ListN.{length}
 use Rattle.shapes.specs.Shapes.{has-bit}
-use Rattle.shape_writer.specs.PrintsLaws.{prints-none, prints-as}
+use Rattle.text.specs.WritesLaws.{writes-none, writes-as}
 use Rattle.shape_writer.proofs.Heads.{word-there, word-gone}
-use Rattle.shape_writer.proofs.print.print_word.Statement.{statement}
-use Rattle.shape_writer.proofs.print.print_word.Tie as tie
+use Rattle.shape_writer.proofs.parts.write_word.Statement.{statement}
+use Rattle.shape_writer.proofs.parts.write_word.Tie as tie
 
-print-requires : tie.Need-print-requires
-print-requires c κs =
+write-bytes-requires : tie.Need-write-bytes-requires
+write-bytes-requires c κs =
     let at-start = c .before .before .before .before .before in
     omega (
       arith,
@@ -25,21 +25,21 @@ returns c =
     let then1 = c .before .before .before .before in
     let at-start = then1 .before .before .before .before in
     record {
-      printed = prints-as
+      written = writes-as
           (word-there (has-bit (at-start .args .kinds .kinds) (at-start .args .kind .kinds)) (now (at-start .args .word))
           (sym (then1 .before .has .ensures) ∙ then1 .if1 .taken))
-          (c .before .before .print .ensures);
+          (c .before .before .write-bytes .ensures);
     }
 
 returns-2 : tie.Need-returns-2
 returns-2 c =
     let at-start = c .before .before .before .before in
     record {
-      printed = prints-as
+      written = writes-as
           (word-gone (has-bit (at-start .args .kinds .kinds) (at-start .args .kind .kinds)) (now (at-start .args .word))
           (sym (c .before .has .ensures) ∙ c .if1 .left))
-          (prints-none _ _);
+          (writes-none _ _);
     }
 
-pub print-word-spec : {M : Type 1} → statement M
-print-word-spec = tie.close (tie.spec (λ c κs. search needs) print-requires (λ c. search needs) returns returns-2)
+pub write-word-spec : {M : Type 1} → statement M
+write-word-spec = tie.close (tie.spec (λ c κs. search needs) write-bytes-requires (λ c. search needs) returns returns-2)
