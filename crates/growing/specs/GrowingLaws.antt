@@ -63,7 +63,7 @@ element-start-ascending (list-of a) i = i
 -- ---- a member put among others
 
 -- what stands there, else a start
-abbrev or-start : Shape → Option Shape → Shape
+abbrev pub or-start : Shape → Option Shape → Shape
 or-start st none = st
 or-start st (some b) = b
 
@@ -93,6 +93,11 @@ place-insert n st f (field m b gs) a = go (place-insert n st f gs (ascending-res
         (ap (λ k. field k (f b) gs) (sym (order-eq n m e)) ∙ ap (λ s. field n (f s) gs) (sym (at-eq e)))
     go h Ordering·gt e =
         rw (e, place, insert) (ap (field m b) (h ∙ ap (λ s. insert n (f s) gs) (at-gt e)))
+
+pub find-place
+    : (n : Bytes) (st : Shape) (f : Shape → Shape) (fs : Fields) → ascending-fields fs ≡ true
+    → find n (place n st f fs) ≡ some (f (or-start st (find n fs)))
+find-place n st f fs a = ap (find n) (place-insert n st f fs a) ∙ find-insert-here n (f (or-start st (find n fs))) fs a
 
 -- a member of this name alone changes, and it is joined
 record Put (n : Bytes) (a st : Shape) (fs gs : Fields) : Type 0 where
@@ -232,6 +237,18 @@ join-in-is (field n a gs) st fs i d j k =
     (not-true (named gs n) (and-left (not (named gs n)) (apart gs) d))
     p
     (join-in-is gs st (place n st (λ s. join s a) fs) y (and-right (not (named gs n)) (apart gs) d) j (p .ascends))
+
+-- each name of those joined in is there
+pub joined-named
+    : (gs : Fields) (st : Shape) (fs : Fields) (k : Bytes) → rising gs ≡ true → apart gs ≡ true → ascending st ≡ true
+    → ascending-fields fs ≡ true → named gs k ≡ true → named (join-in gs st fs) k ≡ true
+unfolding named found
+joined-named gs st fs k i d j a h =
+    ap found (join-in-is gs st fs i d j a .at k) ∙ go (find k (in-order gs)) (found-in-order k gs i ∙ h)
+  where
+    go : (o : Option Shape) → found o ≡ true → found (joined st (find k fs) o) ≡ true
+    go none e = clash e refl
+    go (some c) e = refl
 
 -- a member placed among members whose names ascend
 pub place-ascending
