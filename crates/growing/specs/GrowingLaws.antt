@@ -9,8 +9,8 @@ use Rattle.definitions.specs.Shape.{Shape, shape, Element, no-list, list-of, Re
 use Rattle.definitions.specs.Shape.{Fields, no-fields, field, nothing, find, has-rec, element-of, record-of, behind, ascending, ascending-element}
 use Rattle.definitions.specs.Shape.{ascending-record, ascending-fields, only-null, only-list, only-rec}
 use Rattle.definitions.specs.Join.{with-null, join-numeric, add-null, insert, join, join-element, join-record, join-fields}
-use Rattle.laws.specs.Bools.{tell, and-left, and-right, not-true, clash}
-use Rattle.laws.specs.Names.{order-eq, same-eq, eq-same, before-lt, before-gt, before-other-sym}
+use Rattle.laws.specs.Bools.{tell, and-left, and-right, or-left, or-right, not-true, clash}
+use Rattle.laws.specs.Names.{order-eq, same-refl, same-eq, eq-same, before-lt, before-gt, before-other-sym}
 use Rattle.laws.specs.Fields.{find-here, find-there, find-behind, ascending-first, ascending-behind, ascending-rest, ascending-field, fields-ext}
 use Rattle.laws.specs.FieldsPut.{with-null-ascending, find-insert-here, find-insert-there, insert-ascending, add-null-ascending}
 use Rattle.laws.specs.OrderInduction.{InOption, Ascending, ascending-of-record, ascending-found}
@@ -310,6 +310,22 @@ null-lacked-ascending there (field n s fs) h =
     (null-if-lacked-ascending (there n) s (ascending-first n s fs h))
     (null-lacked-behind there n fs ∙ ascending-behind n s fs h)
     (null-lacked-ascending there fs (ascending-rest n s fs h))
+
+lacked-none : (there : Bytes → Bool) (fs : Fields) → ((k : Bytes) → named fs k ≡ true → there k ≡ true) → null-lacked there fs ≡ fs
+unfolding null-lacked null-if-lacked
+lacked-none there no-fields h = refl
+lacked-none there (field n s fs) h =
+    ap₂
+    (λ b gs. field n (null-if-lacked b s) gs)
+    (h n (named-field n n s fs ∙ or-left (named fs n) (same-refl n)))
+    (lacked-none there fs (λ k e. h k (named-field k n s fs ∙ or-right (same k n) e)))
+
+-- no null where all are there
+pub others-there
+    : (had : Bool) (there : Bytes → Bool) (fs : Fields) → ((k : Bytes) → named fs k ≡ true → there k ≡ true) → null-others had there fs ≡ fs
+unfolding null-others
+others-there false there fs h = refl
+others-there true there fs h = lacked-none there fs h
 
 lacked-same : (f g : Bytes → Bool) (fs : Fields) → ((k : Bytes) → f k ≡ g k) → null-lacked f fs ≡ null-lacked g fs
 unfolding null-lacked

@@ -14,8 +14,9 @@ use Rattle.join.specs.Replacing.{Puts, Becomes}
 use Rattle.join.specs.declared.Joined.{Joined}
 use Rattle.join.specs.declared.Joined.the-variants.{Grown, Full}
 use Rattle.growing.specs.Growing.{member-start}
+use Rattle.growing.specs.GrowingLaws.{member-start-ascending}
 use Rattle.growing.specs.Rows.{Room, New-row, Meets-fields, Finds}
-use Rattle.growing.specs.MemberLaws.{listed-shape, listed-word, listed-stands, listed-within, listed-become, gap-inside, new-unready, new-stands}
+use Rattle.growing.specs.MemberLaws.{listed-shape, listed-word, listed-stands, listed-within, listed-ascends, listed-become, gap-inside, new-unready, new-stands}
 use Rattle.growing.specs.MemberLaws.{new-within, new-room, new-over, new-put, row-put}
 use Rattle.infer.specs.Infer.{infer-into}
 use Rattle.infer.specs.Inferring.{Meets, Inferable, Infers, Meets-member, Member-inferable, Infers-member}
@@ -51,6 +52,8 @@ module _
             within = listed-within (h .fields) room f;
             held = h .held;
             bounded = h .bounded;
+            ascends = listed-ascends (h .fields) room f (h .ascends);
+            once = h .once;
           }
 
       pub listed-inferable : Member-inferable shapes nodes pool used first last at → Inferable shapes nodes pool used row at
@@ -104,6 +107,8 @@ module _
                     (row-put shapes shapes₁ used row kinds name o₁ q₁ e₁);
                 held = h .held;
                 bounded = h .bounded;
+                ascends = member-start-ascending had;
+                once = h .once;
               }
 
           pub new-inferable : Member-inferable shapes nodes pool used first last at → Inferable shapes₁ nodes pool (used + opened) row at
