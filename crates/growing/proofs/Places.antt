@@ -273,7 +273,9 @@ comes-to {n = n} {m = m} (behind-first {n = q} {s} {fs = gs} l) a h e f =
     let later : order q m ≡ Ordering·lt = lt-before q m (last-behind q l (ascending-rest q s gs h) (ascending-behind q s gs h)) in
     comes-to l (goes-on a (ap (λ (x : Bytes). order x q) e ∙ order-flip q m ∙ ap flip later)) (ascending-rest q s gs h) e f
 
-listed-of : {shapes pool : List ℕ} {used first last : ℕ} {p : List ℕ} {fs : Fields} → Meets-fields shapes pool used first last p fs → Listed shapes pool first last p fs
+listed-of
+    : {shapes pool : List ℕ} {used first last : ℕ} {p : List ℕ} {fs : Fields} → Meets-fields shapes pool used first last p fs
+    → Listed shapes pool first last p fs
 listed-of m = record { stand = m .stand; front = m .pooled .front; small = m .pooled .small }
 
 pub held-listed : {shapes pool : List ℕ} {used first last : ℕ} → Fields-held shapes pool used first last → Some-listed shapes pool first last

@@ -159,12 +159,16 @@ module _
             same = o .same ∙ l .same;
           }
 
-      pub items-size : (1 ≤ row-size nodes i) × (i + row-size nodes i ≤ length nodes) × (i + row-size nodes i ≤ end)
+      pub items-size : (3 ≤ row-size nodes i) × (i + row-size nodes i ≤ length nodes) × (i + row-size nodes i ≤ end)
       items-size = (
         omega (arith, value-size (next .stands), size-some (next .value)),
         omega (arith, value-size (next .stands), value-within (next .stands)),
         omega (arith, next .more .reaches),
       )
+
+      -- its row is there
+      pub items-row : i + 1 < length nodes
+      items-row = omega (arith, items-size .0, items-size .1)
 
       pub items-room : used + grown ≤ length shapes₀
       items-room = here .put .replaced .within

@@ -195,12 +195,16 @@ module _
             same = o .same ∙ l .same;
           }
 
-      pub members-size : (1 ≤ row-size nodes i) × (i + row-size nodes i ≤ length nodes) × (i + row-size nodes i ≤ end)
+      pub members-size : (3 ≤ row-size nodes i) × (i + row-size nodes i ≤ length nodes) × (i + row-size nodes i ≤ end)
       members-size = (
         omega (arith, value-size (next .stands), size-some (next .value)),
         omega (arith, value-size (next .stands), value-within (next .stands)),
         omega (arith, next .more .reaches),
       )
+
+      -- its row is there
+      pub members-row : i + 1 < length nodes
+      members-row = omega (arith, members-size .0, members-size .1)
 
       pub members-room : used + grown ≤ length shapes₀
       members-room = here .put .replaced .within

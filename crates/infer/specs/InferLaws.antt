@@ -15,7 +15,8 @@ use Rattle.laws.specs.JoinLaws.{shape-of-ascending, numeric-nothing, element-no
 use Rattle.shapes.specs.AsMany.{All-listed}
 use Rattle.growing.specs.Growing.{element-start, fields-start, member-start, place, null-others, named, in-order, join-in}
 use Rattle.growing.specs.GrowingLaws.{null-is, list-is, rec-is, element-joined, element-start-ascending, apart, rising}
-use Rattle.growing.specs.GrowingLaws.{named-field, place-ascending, place-same, joined-named, others-same, fields-start-ascending, member-start-ascending, records-joined}
+use Rattle.growing.specs.GrowingLaws.{named-field, place-ascending, place-same, joined-named, others-same}
+use Rattle.growing.specs.GrowingLaws.{fields-start-ascending, member-start-ascending, records-joined}
 use Rattle.infer.specs.Infer.{with-bool, with-numeric, with-text, infer-into, infer-items, infer-members}
 
 -- ---- kinds
