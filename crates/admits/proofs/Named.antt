@@ -21,7 +21,7 @@ use Rattle.shapes.specs.declared.Member.{Member}
 use Rattle.shapes.specs.declared.Member.the-variants.{Found, Missing}
 use Rattle.shapes.specs.Members.{Tells, Found-at, Names}
 use Rattle.shapes.specs.Held.{Holds-fields}
-use Rattle.shapes.specs.HeldLaws.{names-of, found-held}
+use Rattle.shapes.specs.HeldLaws.{found-held}
 use Rattle.admits.specs.Admission.{Holds-members, Value-asked, Value-told, Members-asked, Members-told}
 use Rattle.admits.proofs.Elements.{held-value}
 
@@ -100,13 +100,17 @@ module _ (shapes : List ℕ) (from to : ℕ) (nodes : List ℕ) (at end : ℕ) (
         → (3 ≤ row-size nodes i) × (i + row-size nodes i ≤ length nodes) × (i + row-size nodes i ≤ end)
     walk-step a = (next a .wide, next a .within, next a .inside)
 
-    module _ (m : Member) {k : ℕ} (at-row : k ≡ getD nodes (i + 2) 0) (names : Names shapes from to pool k m) where
+    -- its row is there
+    pub walk-row : Members-asked shapes from to nodes at end pool → i + 1 < length nodes
+    walk-row a = omega (arith, next a .wide, next a .within)
+
+    module _ (m : Member) (names : Names shapes from to pool (getD nodes (i + 2) 0) m) where
       -- what the search tells of the first member
       tells
           : {fs : Fields} (h : Holds-fields shapes pool from to fs) {ns : Members} (k : Holds-members nodes pool i end ns)
           → Tells shapes (h .used) to (first k more .name) fs m
       tells {fs} h k =
-          subst (λ (t : Bytes). Tells shapes (h .used) to t fs m) (first k more .text) (names-of m at-row names (h .used) fs (h .listed))
+          subst (λ (t : Bytes). Tells shapes (h .used) to t fs m) (first k more .text) (names (h .used) fs (h .listed))
 
       -- the first member apart
       step

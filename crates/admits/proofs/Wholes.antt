@@ -1,4 +1,4 @@
--- A shape and a value: what the kind tells, and where the parts of a list and of a record stand. Assumes nothing.
+-- A shape and a value: what the kind tells, of a value that holds no others all, and where the parts of a list and of a record stand. Assumes nothing.
 use Prim.Native.Nat.{ℕ, _+_, _%_, _≤_, _<_}
 use mathlib.Core.Path.{_≡_, refl, sym, ap, ap₂, _∙_, subst}
 use mathlib.Core.Bool.{Bool, true, false, not, _&&_}
@@ -11,7 +11,7 @@ use Rattle.definitions.specs.Shape.{Shape, shape, no-list, list-of, no-rec, rec
 use Rattle.definitions.specs.Admits.{kind-of, admits, admitted, admitted-items, admitted-members, missing-have-null}
 use Rattle.laws.specs.Bools.{not-true, clash, not-fails}
 use Rattle.laws.specs.Distinct.{distinct, distinct-items, distinct-members}
-use Rattle.nodes.specs.Nodes.{head-word, row-size}
+use Rattle.nodes.specs.Nodes.{kind-code, head-word, row-size}
 use Rattle.nodes.specs.Standing.{Value-stands}
 use Rattle.nodes.specs.StandingLaws.{value-head, value-size, value-within, list-stands, rec-stands, size-some}
 use Rattle.plain.specs.Table.{Bounded-numbers, Holds}
@@ -20,7 +20,7 @@ use Rattle.shapes.specs.ShapesLaws.{has-kind}
 use Rattle.shapes.specs.Held.{Holds-shape, Holds-fields}
 use Rattle.shapes.specs.HeldLaws.{held-kinds, held-element, held-members, members-within as held-members-within}
 use Rattle.admits.specs.Admission.{Holds-items, Holds-members, Value-asked, Value-told, Items-asked, Items-told, Members-asked, Members-told, Nulls-told}
-use Rattle.admits.proofs.KindBits.{lacks-kind, kind-enough, int-bit}
+use Rattle.admits.proofs.KindBits.{code-told, lacks-kind, kind-enough, int-bit}
 
 -- ---- where they stand
 
@@ -61,7 +61,7 @@ module _ (shapes : List ℕ) (row : ℕ) (nodes : List ℕ) (at : ℕ) (pool : L
   single {r} k e l s h v g =
       kind-enough v s (omega (arith, k .coded v g)) (sym (k .there s h v g) ∙ not-fails r e)
 
--- ---- lists and records
+-- ---- values that hold no others
 
 number-small : (x : Number) → kind-bit (kind-of (Value.number x)) < 32
 number-small x = go (is-int x) refl
@@ -69,6 +69,30 @@ number-small x = go (is-int x) refl
     go : (b : Bool) → b ≡ is-int x → kind-bit (kind-of (Value.number x)) < 32
     go true e = omega (arith, int-bit x true e)
     go false e = omega (arith, int-bit x false e)
+
+leaf-small : (v : Value) → kind-code v < 5 → kind-bit (kind-of v) < 32
+unfolding kind-code kind-bit kind-of
+leaf-small Value.null h = omega arith
+leaf-small (Value.bool b) h = omega arith
+leaf-small (Value.number x) h = number-small x
+leaf-small (Value.text t) h = omega arith
+leaf-small (Value.list vs) h = absurd (let z : ⊥ = omega arith in z)
+leaf-small (Value.rec ms) h = absurd (let z : ⊥ = omega arith in z)
+
+-- such a value is admitted where its kind is there
+pub leaf-told
+    : (shapes : List ℕ) (row : ℕ) (nodes : List ℕ) (at : ℕ) (pool : List ℕ) {bit kind : ℕ} {r : Bool} → Seen shapes row nodes at pool bit r
+    → kind ≡ getD nodes at 0 % 8 → kind < 5 → Value-told shapes row nodes at pool r
+leaf-told shapes row nodes at pool {r = r} k e l s h v g = go r (k .there s h v g)
+  where
+    leaf : kind-code v < 5
+    leaf = omega (arith, l, code-told v e (value-head (standing g)))
+
+    go : (b : Bool) → b ≡ has (kind-of v) s → b ≡ admits s v
+    go true f = kind-enough v s (leaf-small v leaf) (sym f)
+    go false f = lacks-kind v s (sym f)
+
+-- ---- lists and records
 
 module _ (shapes : List ℕ) (row : ℕ) (nodes : List ℕ) (at : ℕ) (pool : List ℕ) where
   pub record List-parts (s : Shape) (v : Value) : Type 0 where

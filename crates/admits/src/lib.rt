@@ -134,16 +134,27 @@ fn admits_members(
 {
     let mut i = at;
     while i < end {
-        let named = shapes::find_named(shapes, from, to, pool, nodes::row_name(nodes, i));
+        let named = shapes::find_named(shapes, from, to, pool, nodes[i + 2]);
         let Member::Found { row } = named else {
             return false; // not listed
         };
-        if !admits(shapes, row, nodes, i, pool) {
+        if !admits_listed(shapes, row, nodes, i, pool) {
             return false;
         }
-        i += nodes::row_size(nodes, i);
+        i += nodes::row_size_in(nodes, i);
     }
     true
+}
+
+// Whether the shape at a row admits the value of a listed member; most hold no others, and these take no call.
+fn admits_listed(shapes: &[u64], row: usize, nodes: &[u64], at: usize, pool: &[u64]) -> bool
+    requires { ⌜ Value-asked (now shapes) row (now nodes) at (now pool) ⌝ }
+    ensures told { λ r. ⌜ Value-told (now (shapes .entry)) row (now (nodes .entry)) at (now (pool .entry)) r ⌝ }
+{
+    if nodes::row_kind(nodes, at) < nodes::LIST {
+        return shapes::has(shapes::kinds(shapes, row), kind_bit(nodes, at));
+    }
+    admits(shapes, row, nodes, at, pool)
 }
 
 // Whether the shape at a row of the shape table admits the value at a row of the node table.

@@ -9,8 +9,8 @@ use Rattle.definitions.specs.Shape.{Shape, shape, Element, no-list, list-of, Re
 use Rattle.definitions.specs.Shape.{Fields, no-fields, field, nothing, find, has-rec, element-of, record-of, behind, ascending, ascending-element}
 use Rattle.definitions.specs.Shape.{ascending-record, ascending-fields, only-null, only-list, only-rec}
 use Rattle.definitions.specs.Join.{with-null, join-numeric, add-null, insert, join, join-element, join-record, join-fields}
-use Rattle.laws.specs.Bools.{tell, and-left, and-right, not-true, clash}
-use Rattle.laws.specs.Names.{order-eq, same-eq, eq-same, before-lt, before-gt, before-other-sym}
+use Rattle.laws.specs.Bools.{tell, and-left, and-right, or-left, or-right, not-true, clash}
+use Rattle.laws.specs.Names.{order-eq, same-refl, same-eq, eq-same, before-lt, before-gt, before-other-sym}
 use Rattle.laws.specs.Fields.{find-here, find-there, find-behind, ascending-first, ascending-behind, ascending-rest, ascending-field, fields-ext}
 use Rattle.laws.specs.FieldsPut.{with-null-ascending, find-insert-here, find-insert-there, insert-ascending, add-null-ascending}
 use Rattle.laws.specs.OrderInduction.{InOption, Ascending, ascending-of-record, ascending-found}
@@ -63,7 +63,7 @@ element-start-ascending (list-of a) i = i
 -- ---- a member put among others
 
 -- what stands there, else a start
-abbrev or-start : Shape → Option Shape → Shape
+abbrev pub or-start : Shape → Option Shape → Shape
 or-start st none = st
 or-start st (some b) = b
 
@@ -93,6 +93,11 @@ place-insert n st f (field m b gs) a = go (place-insert n st f gs (ascending-res
         (ap (λ k. field k (f b) gs) (sym (order-eq n m e)) ∙ ap (λ s. field n (f s) gs) (sym (at-eq e)))
     go h Ordering·gt e =
         rw (e, place, insert) (ap (field m b) (h ∙ ap (λ s. insert n (f s) gs) (at-gt e)))
+
+pub find-place
+    : (n : Bytes) (st : Shape) (f : Shape → Shape) (fs : Fields) → ascending-fields fs ≡ true
+    → find n (place n st f fs) ≡ some (f (or-start st (find n fs)))
+find-place n st f fs a = ap (find n) (place-insert n st f fs a) ∙ find-insert-here n (f (or-start st (find n fs))) fs a
 
 -- a member of this name alone changes, and it is joined
 record Put (n : Bytes) (a st : Shape) (fs gs : Fields) : Type 0 where
@@ -233,6 +238,18 @@ join-in-is (field n a gs) st fs i d j k =
     p
     (join-in-is gs st (place n st (λ s. join s a) fs) y (and-right (not (named gs n)) (apart gs) d) j (p .ascends))
 
+-- each name of those joined in is there
+pub joined-named
+    : (gs : Fields) (st : Shape) (fs : Fields) (k : Bytes) → rising gs ≡ true → apart gs ≡ true → ascending st ≡ true
+    → ascending-fields fs ≡ true → named gs k ≡ true → named (join-in gs st fs) k ≡ true
+unfolding named found
+joined-named gs st fs k i d j a h =
+    ap found (join-in-is gs st fs i d j a .at k) ∙ go (find k (in-order gs)) (found-in-order k gs i ∙ h)
+  where
+    go : (o : Option Shape) → found o ≡ true → found (joined st (find k fs) o) ≡ true
+    go none e = clash e refl
+    go (some c) e = refl
+
 -- a member placed among members whose names ascend
 pub place-ascending
     : (n : Bytes) (a st : Shape) (fs : Fields) → ascending a ≡ true → ascending st ≡ true → ascending-fields fs ≡ true
@@ -293,6 +310,22 @@ null-lacked-ascending there (field n s fs) h =
     (null-if-lacked-ascending (there n) s (ascending-first n s fs h))
     (null-lacked-behind there n fs ∙ ascending-behind n s fs h)
     (null-lacked-ascending there fs (ascending-rest n s fs h))
+
+lacked-none : (there : Bytes → Bool) (fs : Fields) → ((k : Bytes) → named fs k ≡ true → there k ≡ true) → null-lacked there fs ≡ fs
+unfolding null-lacked null-if-lacked
+lacked-none there no-fields h = refl
+lacked-none there (field n s fs) h =
+    ap₂
+    (λ b gs. field n (null-if-lacked b s) gs)
+    (h n (named-field n n s fs ∙ or-left (named fs n) (same-refl n)))
+    (lacked-none there fs (λ k e. h k (named-field k n s fs ∙ or-right (same k n) e)))
+
+-- no null where all are there
+pub others-there
+    : (had : Bool) (there : Bytes → Bool) (fs : Fields) → ((k : Bytes) → named fs k ≡ true → there k ≡ true) → null-others had there fs ≡ fs
+unfolding null-others
+others-there false there fs h = refl
+others-there true there fs h = lacked-none there fs h
 
 lacked-same : (f g : Bytes → Bool) (fs : Fields) → ((k : Bytes) → f k ≡ g k) → null-lacked f fs ≡ null-lacked g fs
 unfolding null-lacked

@@ -4,10 +4,11 @@ use native.Mathlib.Omega.{arith}
 use mathlib.Core.Path.{_≡_, refl, sym, ap, subst, _∙_}
 use mathlib.Core.Bool.{Bool, true, false}
 use mathlib.Core.List.{List, [], _∷_, _++_, append-assoc}
+use mathlib.Core.Option.{none}
 use lib.ListN.{length, take, drop, length-append}
 use Rattle.definitions.specs.Bytes.{Bytes}
-use Rattle.definitions.specs.Shape.{Shape, Fields, field, nothing, only-null, ascending, ascending-fields, forms, forms-fields}
-use Rattle.laws.specs.Fields.{ascending-first}
+use Rattle.definitions.specs.Shape.{Shape, Fields, field, find, nothing, only-null, ascending, ascending-fields, forms, forms-fields}
+use Rattle.laws.specs.Fields.{none-some, ascending-first}
 use Rattle.nodes.specs.Nodes.{Refers}
 use Rattle.shapes.specs.Shapes.{head-of, head-word, kind-bits, Shape-rows, shape-rows, no-element-rows, no-record-rows}
 use Rattle.shapes.specs.Shapes.{Field-rows, field-rows, Stands, Fields-stand}
@@ -18,6 +19,7 @@ use Rattle.join.specs.declared.Joined.{Joined}
 use Rattle.join.specs.declared.Joined.the-variants.{Grown, Full}
 use Rattle.growing.specs.Growing.{member-start, place}
 use Rattle.growing.specs.GrowingForms.{place-eq, forms-some}
+use Rattle.growing.specs.GrowingLaws.{find-place}
 use Rattle.growing.specs.Rows.{Room, New-row, Meets-fields, Fields-become, Finds}
 use Rattle.growing.specs.StepLaws.{split-as, replaced-then, fields-split}
 
@@ -197,6 +199,23 @@ module _
           }
 
 -- ---- a new member
+
+-- a name that is not listed has no member at its place
+pub place-lacked
+    : {shapes p : List ℕ} {first last : ℕ} {n : Bytes} {fs : Fields} {row : ℕ} (listed : Bool) → ascending-fields fs ≡ true
+    → find n fs ≡ none → Finds shapes first last n p fs row listed → listed ≡ false
+place-lacked false i e f = refl
+place-lacked {n = n} {fs} true i e f = none-some e (ap (find n) (sym kept) ∙ find-place n nothing (λ (s : Shape). s) fs i)
+  where
+    kept : place n nothing (λ (s : Shape). s) fs ≡ fs
+    kept =
+        f .around .places nothing (λ (s : Shape). s)
+        ∙ ap
+        (f .around .around)
+        (ap (place n nothing (λ (s : Shape). s)) (f .case .3)
+        ∙ place-eq n nothing (λ (s : Shape). s) (f .case .0) (f .case .1) (f .case .2) (f .case .4)
+        ∙ sym (f .case .3))
+        ∙ sym (f .around .same)
 
 module _
     {shapes pool : List ℕ} {used first last : ℕ} {p : List ℕ} {fs : Fields} {n : Bytes} {row k : ℕ} (had : Bool) (g : Shape → Shape)

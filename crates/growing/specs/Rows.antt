@@ -3,12 +3,15 @@ use Prim.Native.Nat.{ℕ, Ordering·eq, _+_, _*_, _^_, _≤_, _<_}
 use mathlib.Core.Path.{_≡_}
 use mathlib.Core.Bool.{Bool, true, false}
 use mathlib.Core.List.{List, [], _∷_, _++_}
+use mathlib.Core.Option.{none}
 use lib.ListN.{length, drop}
 use Rattle.definitions.specs.Bytes.{Bytes, order}
-use Rattle.definitions.specs.Shape.{Shape, Fields, field, element-of, ascending-fields, forms, forms-element, forms-fields}
+use Rattle.definitions.specs.Shape.{Shape, Fields, field, find, element-of, ascending-fields, forms, forms-element, forms-fields}
 use Rattle.nodes.specs.Nodes.{Refers}
 use Rattle.plain.specs.Table.{Used}
 use Rattle.shapes.specs.Shapes.{head-of, Shape-rows, Field-rows, Stands, Fields-stand}
+use Rattle.shapes.specs.declared.Member.{Member}
+use Rattle.shapes.specs.declared.Member.the-variants.{Found, Missing}
 use Rattle.join.specs.Replacing.{Put, Puts}
 use Rattle.join.specs.declared.Joined.{Joined}
 use Rattle.growing.specs.Growing.{element-start, place, null-if-lacked, null-others}
@@ -127,3 +130,8 @@ pub record Finds (shapes : List ℕ) (first last : ℕ) (n : Bytes) (p : List �
   pub reached : row ≡ first + length front
   pub stand : Fields-stand shapes p row last back
   pub case : Listed n back listed
+
+-- what a search for the name n among the members fs tells
+abbrev pub Finds-named : (shapes : List ℕ) (first last : ℕ) (n : Bytes) (p : List ℕ) (fs : Fields) → Member → Type 0
+Finds-named shapes first last n p fs (Found row) = Finds shapes first last n p fs row true
+Finds-named shapes first last n p fs Missing = find n fs ≡ none

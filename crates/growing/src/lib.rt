@@ -1,19 +1,21 @@
 // A shape that grows in place: rows opened, kinds added, the place of a name among its members.
 ghost use mathlib.Core.Path.{_≡_};
+ghost use mathlib.Core.Bool.{true};
 ghost use mathlib.Core.List.{List, _++_, _∷_};
 ghost use Prim.Native.Nat.{ℕ, _+_, _/_, _%_, _^_, _≤_, _<_};
 ghost use lib.Bits.{bitOr};
 ghost use lib.ListN.{length, getD, take, drop};
 ghost use Rattle.definitions.specs.Bytes.{Bytes, order};
-ghost use Rattle.definitions.specs.Shape.{Fields};
+ghost use Rattle.definitions.specs.Shape.{Fields, ascending-fields};
 ghost use Rattle.pool.specs.Pool.{text-in, ordering-of};
 ghost use Rattle.nodes.specs.Nodes.{Refers};
 ghost use Rattle.shapes.specs.Shapes.{head-of, size-at, kind-bits};
 ghost use Rattle.join.specs.Replacing.{Puts};
 ghost use Rattle.growing.specs.Growing.{member-start};
-ghost use Rattle.growing.specs.Rows.{Room, New-row, Shape-held, Readies, Meets-fields, Fields-held, Finds};
+ghost use Rattle.growing.specs.Rows.{Room, New-row, Shape-held, Readies, Meets-fields, Fields-held, Finds, Finds-named};
 use join::Joined;
 use pool::Comparison;
+use shapes::Member;
 use shapes::Shape;
 
 // ---- rows
@@ -112,4 +114,21 @@ pub fn find_place(
         }
     }
     Place { row, listed: false }
+}
+
+// The member of a name among those whose rows stand from one row up to another, by equal names: where names ascend, it is at
+// its place.
+pub fn find_listed(
+    shapes: &[u64],
+    used: usize,
+    first: usize,
+    last: usize,
+    pool: &[u64],
+    name: u64,
+) -> Member
+    requires { ⌜ Fields-held (now shapes) (now pool) used first last ⌝ }
+    ensures found { λ r. ⌜ ((p : List ℕ) (fs : Fields) (n : Bytes) → Meets-fields (now (shapes .entry)) (now (pool .entry)) used first last p fs
+        → ascending-fields fs ≡ true → Refers p n name → Finds-named (now (shapes .entry)) first last n p fs r) ⌝ }
+{
+    shapes::find_named(shapes, first, last, pool, name)
 }

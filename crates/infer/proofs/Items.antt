@@ -2,10 +2,13 @@
 use Prim.Native.Nat.{ℕ, _+_, _*_, _≤_, _<_}
 use native.Mathlib.Omega.{arith}
 use mathlib.Core.Path.{_≡_, refl, sym, ap, subst, _∙_}
+use mathlib.Core.Bool.{true, _&&_}
 use mathlib.Core.List.{List}
 use lib.ListN.{length, take, drop}
 use Rattle.definitions.specs.Value.{Value, Items, item}
-use Rattle.definitions.specs.Shape.{Shape, forms}
+use Rattle.definitions.specs.Shape.{Shape, ascending, forms}
+use Rattle.laws.specs.Bools.{and-left, and-right}
+use Rattle.laws.specs.Distinct.{distinct, distinct-items}
 use Rattle.nodes.specs.Nodes.{row-size}
 use Rattle.nodes.specs.Standing.{Items-stand, First-item}
 use Rattle.nodes.specs.StandingLaws.{size-some, value-size, value-within, first-item, no-item-left}
@@ -21,6 +24,7 @@ use Rattle.growing.specs.StepLaws.{replaced-then}
 use Rattle.growing.specs.HeadLaws.{kept-put}
 use Rattle.infer.specs.Infer.{infer-into, infer-items}
 use Rattle.infer.specs.InferForms.{forms-infer-items}
+use Rattle.infer.specs.InferLaws.{infer-ascending}
 use Rattle.infer.specs.Inferring.{Meets, Inferable, Infers, Meets-items, Items-inferable, Infers-items}
 
 pub record Items-going
@@ -30,6 +34,8 @@ pub record Items-going
   pub put : Put shapes₀ shapes used grown row (2 * forms s) (Shape-rows p m reached)
   pub held : Items-stand nodes p i end left
   pub bounded : Bounded-items left
+  pub ascends : ascending reached ≡ true
+  pub once : distinct-items left ≡ true
   pub same : infer-items vs s ≡ infer-items left reached
 
 pub record Items-loop (shapes₀ nodes pool : List ℕ) (used row at end : ℕ) (shapes : List ℕ) (i grown : ℕ) : Type 0 where
@@ -53,6 +59,8 @@ items-begin shapes nodes pool used row at end j =
             put = kept-put (h .stands) (h .within) j;
             held = h .held;
             bounded = h .bounded;
+            ascends = h .ascends;
+            once = h .once;
             same = refl;
           };
     }
@@ -60,6 +68,12 @@ items-begin shapes nodes pool used row at end j =
 bounded-first : (v : Value) (vs ws : Items) → ws ≡ item v vs → Bounded-items ws → Bounded-numbers v × Bounded-items vs
 unfolding Bounded-numbers
 bounded-first v vs ws e b = subst Bounded-items e b
+
+once-first : (v : Value) (vs ws : Items) → ws ≡ item v vs → distinct-items ws ≡ true → (distinct v ≡ true) × (distinct-items vs ≡ true)
+unfolding distinct
+once-first v vs ws e d =
+    let both : distinct v && distinct-items vs ≡ true = ap distinct-items (sym e) ∙ d in
+    (and-left (distinct v) (distinct-items vs) both, and-right (distinct v) (distinct-items vs) both)
 
 inferred-first : (v : Value) (vs ws : Items) (s : Shape) → ws ≡ item v vs → infer-items ws s ≡ infer-items vs (infer-into v s)
 unfolding infer-into
@@ -92,6 +106,9 @@ module _
           (drop (row + 2 * forms s) (take used shapes₀))
       now-split = replaced-split (stands-split (h .stands) (h .within) (room .enough)) (here .put .replaced)
 
+      next-once : (distinct (next .value) ≡ true) × (distinct-items (next .others) ≡ true)
+      next-once = once-first (next .value) (next .others) (here .left) (next .same) (here .once)
+
       pub items-meet : Meets shapes nodes pool (used + grown) row i p m (here .reached) 0 (next .value)
       items-meet =
           record {
@@ -100,6 +117,8 @@ module _
             within = omega (arith, counts, split-used now-split);
             held = next .stands;
             bounded = bounded-first (next .value) (next .others) (here .left) (next .same) (here .bounded) .0;
+            ascends = here .ascends;
+            once = next-once .0;
           }
 
       pub items-on
@@ -118,6 +137,8 @@ module _
                 };
             held = next .more;
             bounded = bounded-first (next .value) (next .others) (here .left) (next .same) (here .bounded) .1;
+            ascends = infer-ascending (next .value) (here .reached) (here .ascends) (next-once .0);
+            once = next-once .1;
             same = here .same ∙ inferred-first (next .value) (next .others) (here .left) (here .reached) (next .same);
           }
 
@@ -138,12 +159,16 @@ module _
             same = o .same ∙ l .same;
           }
 
-      pub items-size : (1 ≤ row-size nodes i) × (i + row-size nodes i ≤ length nodes) × (i + row-size nodes i ≤ end)
+      pub items-size : (3 ≤ row-size nodes i) × (i + row-size nodes i ≤ length nodes) × (i + row-size nodes i ≤ end)
       items-size = (
         omega (arith, value-size (next .stands), size-some (next .value)),
         omega (arith, value-size (next .stands), value-within (next .stands)),
         omega (arith, next .more .reaches),
       )
+
+      -- its row is there
+      pub items-row : i + 1 < length nodes
+      items-row = omega (arith, items-size .0, items-size .1)
 
       pub items-room : used + grown ≤ length shapes₀
       items-room = here .put .replaced .within

@@ -2,11 +2,14 @@
 use Prim.Native.Nat.{ℕ, _+_, _*_, _%_, _^_, _≤_, _<_}
 use native.Mathlib.Omega.{arith}
 use mathlib.Core.Path.{_≡_, refl, sym, ap, subst, _∙_}
+use mathlib.Core.Bool.{true}
 use mathlib.Core.List.{List, _∷_, _++_}
 use lib.Bits.{bitOr}
 use lib.ListN.{length, getD, take, drop}
 use Rattle.definitions.specs.Value.{Value, Items}
 use Rattle.definitions.specs.Shape.{Shape, element-of, forms, forms-element}
+use Rattle.laws.specs.Distinct.{distinct, distinct-items}
+use Rattle.laws.specs.OrderInduction.{ascending-of-element}
 use Rattle.nodes.specs.Nodes.{row-size}
 use Rattle.nodes.specs.Standing.{Value-stands, Items-stand}
 use Rattle.nodes.specs.StandingLaws.{list-stands as items-held}
@@ -16,6 +19,7 @@ use Rattle.join.specs.Replacing.{Put, Over, Becomes}
 use Rattle.join.specs.declared.Joined.{Joined}
 use Rattle.join.specs.declared.Joined.the-variants.{Grown, Full}
 use Rattle.growing.specs.Growing.{element-start, with-element}
+use Rattle.growing.specs.GrowingLaws.{element-start-ascending}
 use Rattle.growing.specs.Rows.{Room, Readies}
 use Rattle.growing.specs.HeadLaws.{bits-with-element, Risen, risen-fits, risen-put}
 use Rattle.growing.specs.ElementLaws.{list-unready, list-stands, list-within, list-room, list-over, list-risen, ready-put, ready-full}
@@ -54,6 +58,10 @@ module _
     unfolding Bounded-numbers
     items-bounded = subst Bounded-numbers is-items (h .bounded)
 
+    items-once : distinct-items items ≡ true
+    unfolding distinct
+    items-once = ap distinct (sym is-items) ∙ h .once
+
     pub list-meets
         : {shapes₁ : List ℕ} {opened : ℕ}
         → Put shapes shapes₁ used opened (row + 2) (2 * forms-element (element-of s)) (Shape-rows p 0 start) → {end : ℕ} → end ≡ at + row-size nodes at
@@ -67,6 +75,8 @@ module _
               subst (λ (x : ℕ). Items-stand nodes p (at + 3) x items) (sym e)
               (items-held (subst (λ (x : Value). Value-stands nodes p at k x) is-items (h .held)));
           bounded = items-bounded;
+          ascends = element-start-ascending (element-of s) (ascending-of-element s (h .ascends));
+          once = items-once;
         }
 
 -- ---- the answers

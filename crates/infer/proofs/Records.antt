@@ -1,13 +1,15 @@
 -- A record joined into a shape: its members into the shape's members. Assumes nothing.
 use Prim.Native.Nat.{ℕ, _+_, _*_, _%_, _^_, _≤_, _<_}
 use mathlib.Core.Path.{_≡_, refl, sym, ap, subst, _∙_}
-use mathlib.Core.Bool.{Bool}
+use mathlib.Core.Bool.{Bool, true}
 use mathlib.Core.List.{List, _∷_, _++_}
 use lib.Bits.{bitOr}
 use lib.ListN.{length, getD, take, drop}
 use Rattle.definitions.specs.Bytes.{Bytes}
 use Rattle.definitions.specs.Value.{Value, Members, has-name}
-use Rattle.definitions.specs.Shape.{Shape, Fields, has-rec, record-of, forms, forms-fields}
+use Rattle.definitions.specs.Shape.{Shape, Fields, has-rec, record-of, ascending-fields, forms, forms-fields}
+use Rattle.laws.specs.Distinct.{distinct, distinct-members}
+use Rattle.laws.specs.OrderInduction.{ascending-of-record}
 use Rattle.nodes.specs.Nodes.{row-size}
 use Rattle.nodes.specs.Standing.{Value-stands, Members-stand}
 use Rattle.nodes.specs.StandingLaws.{rec-stands}
@@ -18,11 +20,13 @@ use Rattle.join.specs.declared.Joined.{Joined}
 use Rattle.join.specs.declared.Joined.the-variants.{Grown, Full}
 use Rattle.growing.specs.Growing.{fields-start, member-start, null-others, with-fields}
 use Rattle.growing.specs.GrowingForms.{forms-others}
-use Rattle.growing.specs.Rows.{Room, Fields-become, Nullable, Nulls}
+use Rattle.growing.specs.GrowingLaws.{fields-start-ascending, member-start-ascending}
+use Rattle.growing.specs.Rows.{Room, Fields-become, Nullable}
 use Rattle.growing.specs.HeadLaws.{bits-with-fields, Risen, risen-fits, risen-put}
 use Rattle.growing.specs.RecordLaws.{had-told, record-meets, record-over, nulls-meet, nulls-room, record-risen}
 use Rattle.infer.specs.Infer.{infer-into, infer-members}
-use Rattle.infer.specs.Inferring.{Meets, Inferable, Infers, Meets-members, Members-inferable, Infers-members, Members-there}
+use Rattle.infer.specs.InferLaws.{members-listed}
+use Rattle.infer.specs.Inferring.{Meets, Inferable, Infers, Meets-members, Members-inferable, Infers-members, Members-there, Nulls-others}
 use Rattle.infer.proofs.Scalars.{kind-told}
 use Rattle.infer.proofs.Into.{a-record}
 
@@ -85,12 +89,21 @@ module _
           (sym end-is)
           (rec-stands (subst (λ (x : Value). Value-stands nodes p at k x) is-members (h .held)))
 
+      olds-ascend : ascending-fields olds ≡ true
+      olds-ascend = fields-start-ascending (record-of s) (ascending-of-record s (h .ascends))
+
+      members-once : distinct-members members ≡ true
+      unfolding distinct
+      members-once = ap distinct (sym is-members) ∙ h .once
+
       meets-members : Meets-members shapes nodes pool used first last (at + 3) end p olds members
       meets-members =
           record {
             fields = record-meets (h .pooled) (h .stands) (h .within) room had-rec first-is last-is;
             held = stand;
             bounded = bounded;
+            ascends = olds-ascend;
+            once = members-once;
           }
 
       there-is : Members-there nodes (at + 3) end p there
@@ -147,15 +160,16 @@ module _
         pub record-grown : Inferable shapes nodes pool used row at → (used + words ≤ length shapes) × (last ≤ used)
         record-grown w = (put₁ (w .meets) .replaced .within, meets-members (w .meets) .fields .within)
 
-        module _ (shapes₂ : List ℕ) (q₂ : Nulls (Members-there nodes (at + 3) end) shapes₁ pool shapes₂ (used + words) first (last + words) had) where
+        module _ (shapes₂ : List ℕ) (q₂ : Nulls-others shapes₁ nodes pool shapes₂ (used + words) first (last + words) (at + 3) end had) where
           risen
               : {p : List ℕ} {m : ℕ} {s : Shape} {k : ℕ} {v : Value} (h : Meets shapes nodes pool used row at p m s k v)
               → Risen shapes shapes₂ p used row m s (with-fields (reached h) s) words
           risen {p} h =
               record-risen (h .pooled) (h .stands) (h .within) room (had-rec h) first-is last-is (joined h) (put₁ h) (reached h)
               (forms-others had (there h) (joined h))
-              (q₂ p (joined h) (there h)
-              (nulls-meet (h .pooled) (h .stands) (h .within) room (had-rec h) first-is last-is (joined h) (put₁ h)) (there-is h))
+              (q₂ p (joined h) (members h)
+              (nulls-meet (h .pooled) (h .stands) (h .within) room (had-rec h) first-is last-is (joined h) (put₁ h)) (stand h) (members-once h)
+              (members-listed (members h) (member-start had) (olds h) (member-start-ascending had) (olds-ascend h) (members-once h)))
 
           pub record-raise-fits
               : Inferable shapes nodes pool used row at

@@ -2,12 +2,14 @@
 use Prim.Native.Nat.{ℕ, _+_, _*_, _≤_, _<_}
 use native.Mathlib.Omega.{arith}
 use mathlib.Core.Path.{_≡_, refl, sym, ap, subst, _∙_}
-use mathlib.Core.Bool.{Bool}
+use mathlib.Core.Bool.{Bool, true, not}
 use mathlib.Core.List.{List}
 use lib.ListN.{length, take, drop}
 use Rattle.definitions.specs.Bytes.{Bytes}
-use Rattle.definitions.specs.Value.{Value, Members, member}
-use Rattle.definitions.specs.Shape.{Shape, Fields, forms-fields}
+use Rattle.definitions.specs.Value.{Value, Members, member, has-name}
+use Rattle.definitions.specs.Shape.{Shape, Fields, ascending-fields, forms-fields}
+use Rattle.laws.specs.Bools.{and-three}
+use Rattle.laws.specs.Distinct.{distinct, distinct-members}
 use Rattle.nodes.specs.Nodes.{row-size}
 use Rattle.nodes.specs.Standing.{Members-stand, First-member}
 use Rattle.nodes.specs.StandingLaws.{size-some, value-size, value-within, first-member, no-member-left}
@@ -19,11 +21,13 @@ use Rattle.join.specs.ReplacingLaws.{Split, split-fields, replaced-split}
 use Rattle.join.specs.declared.Joined.{Joined}
 use Rattle.join.specs.declared.Joined.the-variants.{Grown, Full}
 use Rattle.growing.specs.Growing.{member-start, place}
+use Rattle.growing.specs.GrowingLaws.{member-start-ascending}
 use Rattle.growing.specs.Rows.{Room, Fields-become}
 use Rattle.growing.specs.StepLaws.{replaced-then, fields-split}
 use Rattle.growing.specs.NullLaws.{nulls-none}
 use Rattle.infer.specs.Infer.{infer-into, infer-members}
 use Rattle.infer.specs.InferForms.{forms-infer-members}
+use Rattle.infer.specs.InferLaws.{placed-ascending}
 use Rattle.infer.specs.Inferring.{Meets-member, Member-inferable, Infers-member, Meets-members, Members-inferable, Infers-members}
 
 pub record Members-going
@@ -33,6 +37,8 @@ pub record Members-going
   pub put : Put shapes₀ shapes used grown first (2 * forms-fields fs) (Field-rows p reached)
   pub held : Members-stand nodes p i end left
   pub bounded : Bounded-members left
+  pub ascends : ascending-fields reached ≡ true
+  pub once : distinct-members left ≡ true
   pub same : infer-members ms (member-start had) fs ≡ infer-members left (member-start had) reached
 
 pub record Members-loop (shapes₀ nodes pool : List ℕ) (used first last at end : ℕ) (had : Bool) (shapes : List ℕ) (i grown : ℕ) : Type 0 where
@@ -56,6 +62,8 @@ members-begin shapes nodes pool used first last at end had j =
             put = nulls-none (h .fields .stand) (h .fields .begins) (h .fields .within) j;
             held = h .held;
             bounded = h .bounded;
+            ascends = h .ascends;
+            once = h .once;
             same = refl;
           };
     }
@@ -63,6 +71,13 @@ members-begin shapes nodes pool used first last at end had j =
 bounded-first : (n : Bytes) (v : Value) (ms ns : Members) → ns ≡ member n v ms → Bounded-members ns → Bounded-numbers v × Bounded-members ms
 unfolding Bounded-numbers
 bounded-first n v ms ns e b = subst Bounded-members e b
+
+once-first
+    : (n : Bytes) (v : Value) (ms ns : Members) → ns ≡ member n v ms → distinct-members ns ≡ true
+    → (distinct v ≡ true) × (distinct-members ms ≡ true)
+unfolding distinct
+once-first n v ms ns e d =
+    let both = and-three (not (has-name n ms)) (distinct v) (distinct-members ms) (ap distinct-members (sym e) ∙ d) in (both .1, both .2)
 
 inferred-first
     : (n : Bytes) (v : Value) (ms ns : Members) (st : Shape) (fs : Fields) → ns ≡ member n v ms
@@ -108,6 +123,9 @@ module _
           (drop last (take used shapes₀))
       now-split = replaced-split entry-split (here .put .replaced)
 
+      next-once : (distinct (next .value) ≡ true) × (distinct-members (next .others) ≡ true)
+      next-once = once-first (next .name) (next .value) (next .others) (here .left) (next .same) (here .once)
+
       pub members-meet
           : Meets-member shapes nodes pool (used + grown) first (last + grown) i p (here .reached) (next .name) (next .word) (next .value)
       members-meet =
@@ -126,6 +144,8 @@ module _
             refers = next .refers;
             held = next .stands;
             bounded = bounded-first (next .name) (next .value) (next .others) (here .left) (next .same) (here .bounded) .0;
+            ascends = here .ascends;
+            once = next-once .0;
           }
 
       abbrev pub after : Fields
@@ -152,6 +172,9 @@ module _
                 };
             held = next .more;
             bounded = bounded-first (next .name) (next .value) (next .others) (here .left) (next .same) (here .bounded) .1;
+            ascends =
+                placed-ascending (next .name) (next .value) (member-start had) (here .reached) (member-start-ascending had) (here .ascends) (next-once .0);
+            once = next-once .1;
             same = after-same;
           }
 
@@ -172,12 +195,16 @@ module _
             same = o .same ∙ l .same;
           }
 
-      pub members-size : (1 ≤ row-size nodes i) × (i + row-size nodes i ≤ length nodes) × (i + row-size nodes i ≤ end)
+      pub members-size : (3 ≤ row-size nodes i) × (i + row-size nodes i ≤ length nodes) × (i + row-size nodes i ≤ end)
       members-size = (
         omega (arith, value-size (next .stands), size-some (next .value)),
         omega (arith, value-size (next .stands), value-within (next .stands)),
         omega (arith, next .more .reaches),
       )
+
+      -- its row is there
+      pub members-row : i + 1 < length nodes
+      members-row = omega (arith, members-size .0, members-size .1)
 
       pub members-room : used + grown ≤ length shapes₀
       members-room = here .put .replaced .within

@@ -12,9 +12,11 @@ use Rattle.laws.specs.Distinct.{distinct, distinct-items, distinct-members}
 use Rattle.laws.specs.OrderInduction.{ascending-of-element, ascending-of-record}
 use Rattle.laws.specs.JoinLaws.{nothing-ascending, join-nothing-right, join-assoc, join-ascending}
 use Rattle.laws.specs.JoinLaws.{shape-of-ascending, numeric-nothing, element-nothing, record-nothing}
+use Rattle.shapes.specs.AsMany.{All-listed}
 use Rattle.growing.specs.Growing.{element-start, fields-start, member-start, place, null-others, named, in-order, join-in}
 use Rattle.growing.specs.GrowingLaws.{null-is, list-is, rec-is, element-joined, element-start-ascending, apart, rising}
-use Rattle.growing.specs.GrowingLaws.{named-field, place-ascending, place-same, others-same, fields-start-ascending, member-start-ascending, records-joined}
+use Rattle.growing.specs.GrowingLaws.{named-field, place-ascending, place-same, joined-named, others-same}
+use Rattle.growing.specs.GrowingLaws.{fields-start-ascending, member-start-ascending, records-joined}
 use Rattle.infer.specs.Infer.{with-bool, with-numeric, with-text, infer-into, infer-items, infer-members}
 
 -- ---- kinds
@@ -155,3 +157,24 @@ mutual
       i
       (place-ascending n (shape-of v) st fs (shape-of-ascending v) i j)
       (e .2)
+
+-- ---- names
+
+pub infer-ascending : (v : Value) (s : Shape) → ascending s ≡ true → distinct v ≡ true → ascending (infer-into v s) ≡ true
+infer-ascending v s i d = ap ascending (infer-is v s i d) ∙ join-ascending s (shape-of v) i (shape-of-ascending v)
+
+pub placed-ascending
+    : (n : Bytes) (v : Value) (st : Shape) (fs : Fields) → ascending st ≡ true → ascending-fields fs ≡ true → distinct v ≡ true
+    → ascending-fields (place n st (λ s. infer-into v s) fs) ≡ true
+placed-ascending n v st fs i j d =
+    ap ascending-fields (place-same n (shape-of v) st (λ s. infer-into v s) fs i j (λ s k. infer-is v s k d))
+    ∙ place-ascending n (shape-of v) st fs (shape-of-ascending v) i j
+
+-- each member is listed afterwards
+pub members-listed
+    : (ms : Members) (st : Shape) (fs : Fields) → ascending st ≡ true → ascending-fields fs ≡ true → distinct-members ms ≡ true
+    → All-listed ms (infer-members ms st fs)
+unfolding named
+members-listed ms st fs i j d k h =
+    ap (λ gs. named gs k) (infer-members-are ms st fs i j d)
+    ∙ joined-named (shapes-of ms) st fs k (shapes-rising ms) (shapes-apart ms d) i j (sym (shapes-named ms k) ∙ h)

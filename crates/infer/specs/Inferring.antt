@@ -5,28 +5,32 @@ use mathlib.Core.Bool.{Bool, true}
 use mathlib.Core.List.{List}
 use Rattle.definitions.specs.Bytes.{Bytes}
 use Rattle.definitions.specs.Value.{Value, Items, Members, has-name}
-use Rattle.definitions.specs.Shape.{Shape, Fields, ascending, forms}
+use Rattle.definitions.specs.Shape.{Shape, Fields, ascending, ascending-fields, forms, forms-fields}
 use Rattle.definitions.specs.Join.{join, shape-of}
-use Rattle.laws.specs.Distinct.{distinct}
+use Rattle.laws.specs.Distinct.{distinct, distinct-items, distinct-members}
 use Rattle.nodes.specs.Nodes.{Refers}
 use Rattle.nodes.specs.Standing.{Value-stands, Items-stand, Members-stand}
 use Rattle.plain.specs.Table.{Bounded-numbers, Bounded-items, Bounded-members, Used}
-use Rattle.shapes.specs.Shapes.{Stands}
-use Rattle.join.specs.Replacing.{Becomes}
+use Rattle.shapes.specs.Shapes.{Stands, Field-rows}
+use Rattle.shapes.specs.AsMany.{All-listed}
+use Rattle.join.specs.Replacing.{Put, Becomes}
 use Rattle.join.specs.declared.Joined.{Joined}
-use Rattle.growing.specs.Growing.{member-start, place}
+use Rattle.growing.specs.Growing.{member-start, place, null-others}
 use Rattle.growing.specs.Rows.{Meets-fields, Fields-become}
 use Rattle.infer.specs.Infer.{infer-into, infer-items, infer-members}
 
 -- ---- a value into a shape
 
--- a shape s stands at a row under the name word m, and a value v in the node table under the name word k
+-- a shape s whose names ascend stands at a row under the name word m, and a value v in which no name comes twice in the node
+-- table under the name word k
 pub record Meets (shapes nodes pool : List ℕ) (used row at : ℕ) (p : List ℕ) (m : ℕ) (s : Shape) (k : ℕ) (v : Value) : Type 0 where
   pub pooled : Used pool p
   pub stands : Stands shapes p row m s
   pub within : row + 2 * forms s ≤ used
   pub held : Value-stands nodes p at k v
   pub bounded : Bounded-numbers v
+  pub ascends : ascending s ≡ true
+  pub once : distinct v ≡ true
 
 pub record Inferable (shapes nodes pool : List ℕ) (used row at : ℕ) : Type 0 where
   pub part : List ℕ
@@ -56,6 +60,8 @@ pub record Meets-items (shapes nodes pool : List ℕ) (used row at end : ℕ) (p
   pub within : row + 2 * forms s ≤ used
   pub held : Items-stand nodes p at end vs
   pub bounded : Bounded-items vs
+  pub ascends : ascending s ≡ true
+  pub once : distinct-items vs ≡ true
 
 pub record Items-inferable (shapes nodes pool : List ℕ) (used row at end : ℕ) : Type 0 where
   pub part : List ℕ
@@ -77,6 +83,8 @@ pub record Meets-member
   pub refers : Refers p n k
   pub held : Value-stands nodes p at k v
   pub bounded : Bounded-numbers v
+  pub ascends : ascending-fields fs ≡ true
+  pub once : distinct v ≡ true
 
 pub record Member-inferable (shapes nodes pool : List ℕ) (used first last at : ℕ) : Type 0 where
   pub part : List ℕ
@@ -96,6 +104,8 @@ pub record Meets-members
   pub fields : Meets-fields shapes pool used first last p fs
   pub held : Members-stand nodes p at end ms
   pub bounded : Bounded-members ms
+  pub ascends : ascending-fields fs ≡ true
+  pub once : distinct-members ms ≡ true
 
 pub record Members-inferable (shapes nodes pool : List ℕ) (used first last at end : ℕ) : Type 0 where
   pub part : List ℕ
@@ -115,3 +125,10 @@ pub record Members-there (nodes : List ℕ) (at end : ℕ) (p : List ℕ) (there
   pub members : Members
   pub held : Members-stand nodes p at end members
   pub tells : (n : Bytes) → has-name n members ≡ there n
+
+-- null for the members that the record lacks, where each member of the record is listed and no name comes twice
+abbrev pub Nulls-others : (shapes nodes pool shapes′ : List ℕ) (used first last at end : ℕ) (had : Bool) → Type 0
+Nulls-others shapes nodes pool shapes′ used first last at end had =
+    (p : List ℕ) (fs : Fields) (ms : Members) → Meets-fields shapes pool used first last p fs → Members-stand nodes p at end ms
+    → distinct-members ms ≡ true → All-listed ms fs
+    → Put shapes shapes′ used 0 first (2 * forms-fields fs) (Field-rows p (null-others had (λ (n : Bytes). has-name n ms) fs))

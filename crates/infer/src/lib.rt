@@ -1,16 +1,35 @@
 // Joining the shape of a document's value into a shape, in place: each part of the value is joined into the part of the
 // shape where it belongs, and what is new takes its place.
-ghost use Prim.Native.Nat.{_%_};
+ghost use Prim.Native.Nat.{_%_, _<_};
 ghost use mathlib.Core.Path.{_≡_};
 ghost use lib.ListN.{getD};
 ghost use Rattle.growing.specs.Rows.{Room};
 ghost use Rattle.infer.specs.Inferring.{Inferable, Infers, Joins, Items-inferable, Infers-items};
 ghost use Rattle.infer.specs.Inferring.{Member-inferable, Infers-member, Members-inferable, Infers-members};
 use join::Joined;
+use shapes::Member;
 use shapes::Shape;
 
 mod kinds;
 mod lacked;
+
+// Joins a value that holds no others into the shape at a row.
+fn infer_leaf(
+    shapes: &mut [u64],
+    used: usize,
+    row: usize,
+    nodes: &[u64],
+    at: usize,
+    pool: &[u64],
+) -> Joined
+    requires { ⌜ Inferable (now shapes) (now nodes) (now pool) used row at ⌝ }
+    requires room { ⌜ Room (now shapes) used ⌝ }
+    requires leaf { ⌜ getD (now nodes) at 0 % 8 < 5 ⌝ }
+    ensures inferred { λ r. ⌜ Infers (now (shapes .entry)) (now (nodes .entry)) (now (pool .entry)) (now (shapes .exit)) used row at r ⌝ }
+{
+    growing::raise(shapes, row, kinds::scalar_kinds(nodes, at), 0);
+    Joined::Grown { words: 0 }
+}
 
 // Joins the elements whose rows stand in the node table from one row up to another into the element at a row.
 fn infer_items(
@@ -33,7 +52,7 @@ fn infer_items(
             Joined::Full => return Joined::Full,
             Joined::Grown { words } => {
                 grown += words;
-                i += nodes::row_size(nodes, i);
+                i += nodes::row_size_in(nodes, i);
             }
         }
     }
@@ -87,11 +106,14 @@ fn infer_member(
     requires room { ⌜ Room (now shapes) used ⌝ }
     ensures inferred { λ r. ⌜ Infers-member (now (shapes .entry)) (now (nodes .entry)) (now (pool .entry)) (now (shapes .exit)) used first last at had r ⌝ }
 {
-    let name = nodes::row_name(nodes, at);
-    let place = growing::find_place(shapes, used, first, last, pool, name);
-    if place.listed {
-        return infer_into(shapes, used, place.row, nodes, at, pool);
+    let name = nodes[at + 2];
+    if let Member::Found { row } = growing::find_listed(shapes, used, first, last, pool, name) {
+        if nodes::row_kind(nodes, at) < nodes::LIST {
+            return infer_leaf(shapes, used, row, nodes, at, pool);
+        }
+        return infer_into(shapes, used, row, nodes, at, pool);
     }
+    let place = growing::find_place(shapes, used, first, last, pool, name);
     match growing::open_row(shapes, used, place.row, growing::start_kinds(had), name) {
         Joined::Full => Joined::Full,
         Joined::Grown { words: opened } => {
@@ -138,7 +160,7 @@ fn infer_members(
             Joined::Full => return Joined::Full,
             Joined::Grown { words } => {
                 grown += words;
-                i += nodes::row_size(nodes, i);
+                i += nodes::row_size_in(nodes, i);
             }
         }
     }
@@ -203,8 +225,7 @@ fn infer_into(
     if kind == nodes::RECORD {
         return infer_record(shapes, used, row, nodes, at, pool);
     }
-    growing::raise(shapes, row, kinds::scalar_kinds(nodes, at), 0);
-    Joined::Grown { words: 0 }
+    infer_leaf(shapes, used, row, nodes, at, pool)
 }
 
 // Joins the shape of the value at a row of the node table into the shape at a row.

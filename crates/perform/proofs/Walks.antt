@@ -147,6 +147,8 @@ module _ {l : Limits} {shapes nodes pool : List ℕ} {used words top : ℕ} {s :
               placed = sym (take-append-drop words nodes);
             };
         bounded = good-bounded (h .value .good);
+        ascends = h .shape .ascends;
+        once = h .value .names-once;
       }
 
   pub inferable : Inferable shapes nodes pool used 0 0

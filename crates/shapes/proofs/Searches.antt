@@ -13,14 +13,19 @@ use Rattle.pool.specs.Pool.{text-in}
 use Rattle.shapes.specs.Shapes.{Fields-stand, size-at}
 use Rattle.shapes.specs.ShapesLaws.{forms-some, stands-size, stands-name, stands-row, Some-fields, some-fields}
 use Rattle.shapes.specs.ShapesLaws.{fields-left, fields-some, fields-first, fields-rest, fields-end}
-use Rattle.shapes.specs.Members.{Listed, Some-listed, Found-at}
+use Rattle.shapes.specs.Members.{Listed, Some-listed, Last, all-of, behind-first, Found-at}
 use Rattle.nodes.specs.StandingLaws.{text-referred, referred-whole, compared-parts}
 
 -- what is left to search at a row: the name of n bytes at word w is none of those before
 pub record Left (shapes pool : List ℕ) (end w n : ℕ) (p : List ℕ) (fs : Fields) (row : ℕ) : Type 0 where
   pub others : Fields
   pub listed : Listed shapes pool row end p others
+  pub last : Last fs others
   pub alike : find (text-in pool w n) fs ≡ find (text-in pool w n) others
+
+last-trans : {fs gs hs : Fields} → Last fs gs → Last gs hs → Last fs hs
+last-trans all-of g = g
+last-trans (behind-first f) g = behind-first (last-trans f g)
 
 pub record Searching (shapes pool : List ℕ) (from end w n row : ℕ) : Type 0 where
   pub left : (p : List ℕ) (fs : Fields) → Listed shapes pool from end p fs → Left shapes pool end w n p fs row
@@ -86,6 +91,11 @@ module _ {shapes pool p : List ℕ} {row end : ℕ} where
         found = find-here t m s fs (asked-first t l a);
         stands = f .2;
         before = fields-some (l .stand);
+        label = m;
+        others = fs;
+        alike = asked-first t l a;
+        last = all-of;
+        stand = l .stand;
       }
 
   next-by
@@ -95,6 +105,7 @@ module _ {shapes pool p : List ℕ} {row end : ℕ} where
       record {
         others = fs;
         listed = record { stand = fields-rest (l .stand); front = l .front; small = l .small };
+        last = behind-first all-of;
         alike = find-there (text-in pool w n) m s fs (asked-first (text-in pool w n) l a);
       }
 
@@ -106,7 +117,7 @@ module _ {shapes pool p : List ℕ} {row end : ℕ} where
 
 module _ {shapes pool : List ℕ} {from end w n : ℕ} where
   pub searching : Searching shapes pool from end w n from
-  searching = record { left = λ p fs l. record { others = fs; listed = l; alike = refl } }
+  searching = record { left = λ p fs l. record { others = fs; listed = l; last = all-of; alike = refl } }
 
   module _ {row : ℕ} where
     pub step-sizes
@@ -135,6 +146,11 @@ module _ {shapes pool : List ℕ} {from end w n : ℕ} where
           found = here .alike ∙ at .found;
           stands = at .stands;
           before = at .before;
+          label = at .label;
+          others = at .others;
+          alike = at .alike;
+          last = last-trans (here .last) (at .last);
+          stand = at .stand;
         }
 
     pub searched-on
@@ -152,7 +168,12 @@ module _ {shapes pool : List ℕ} {from end w n : ℕ} where
               let next =
               next-by w n (here .listed) (fields-left (here .listed .stand) h) (record { told = sym e ∙ a .told })
               in
-              record { others = next .others; listed = next .listed; alike = here .alike ∙ next .alike };
+              record {
+                others = next .others;
+                listed = next .listed;
+                last = last-trans (here .last) (next .last);
+                alike = here .alike ∙ next .alike;
+              };
         })
 
     pub not-found

@@ -3,3 +3,4 @@ pub mod Shapes
 pub mod ShapesLaws
 pub mod Held
 pub mod HeldLaws
+pub mod AsMany

@@ -1,10 +1,11 @@
 -- Looking a member of a shape up by its name. Assumes nothing.
 use Prim.Native.Nat.{ℕ, _+_, _/_, _%_, _<_}
 use mathlib.Core.Path.{_≡_}
+use mathlib.Core.Bool.{true}
 use mathlib.Core.List.{List}
 use mathlib.Core.Option.{none, some}
 use lib.ListN.{length, take}
-use Rattle.definitions.specs.Bytes.{Bytes}
+use Rattle.definitions.specs.Bytes.{Bytes, same}
 use Rattle.definitions.specs.Shape.{Shape, Fields, no-fields, field, find}
 use Rattle.pool.specs.Pool.{text-in}
 use Rattle.shapes.specs.Shapes.{Stands, Fields-stand}
@@ -24,13 +25,23 @@ pub record Some-listed (shapes pool : List ℕ) (row end : ℕ) : Type 0 where
   pub fields : Fields
   pub listed : Listed shapes pool row end used fields
 
--- the member of name t stands at a row, before the end of all
+-- some of the members are the last ones of them all
+pub data Last : (fs back : Fields) → Type 0 where
+  all-of : {fs : Fields} → Last fs fs
+  behind-first : {n : Bytes} {s : Shape} {fs back : Fields} → Last fs back → Last (field n s fs) back
+
+-- the member of name t stands at a row, before the end of all: the first of the last ones, which stand from there on
 pub record Found-at (shapes p : List ℕ) (end : ℕ) (t : Bytes) (fs : Fields) (row : ℕ) : Type 0 where
   pub name : ℕ
   pub shape : Shape
   pub found : find t fs ≡ some shape
   pub stands : Stands shapes p row name shape
   pub before : row < end
+  pub label : Bytes
+  pub others : Fields
+  pub alike : same t label ≡ true
+  pub last : Last fs (field label shape others)
+  pub stand : Fields-stand shapes p row end (field label shape others)
 
 -- what the answer to a search for the name t tells of the members fs
 abbrev pub Tells : (shapes p : List ℕ) (end : ℕ) (t : Bytes) (fs : Fields) → Member → Type 0

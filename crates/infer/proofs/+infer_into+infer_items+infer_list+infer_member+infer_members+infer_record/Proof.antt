@@ -3,7 +3,7 @@
 -- more. The loops' invariants are `Items-loop` and `Members-loop`. Assumes nothing.
 use Prim.Native.Nat.{ℕ, _+_, _-_, _*_, _<_}
 use native.Mathlib.Omega.{arith}
-use mathlib.Core.Path.{sym, ap, _∙_}
+use mathlib.Core.Path.{refl, sym, ap, _∙_}
 use borrow.Author.Needs.{needs}
 use lib.ListN.{length}
 use Rattle.nodes.specs.StandingLaws.{size-some, value-size, value-within}
@@ -11,12 +11,13 @@ use Rattle.shapes.specs.ShapesLaws.{kind-bits-lt, stands-row, stands-size, stan
 use Rattle.growing.specs.Growing.{member-start}
 use Rattle.growing.specs.RecordLaws.{record-first}
 use Rattle.infer.proofs.Scalars.{kind-told}
-use Rattle.infer.proofs.Into.{scalar-code, scalar-fits, scalar-put}
-use Rattle.infer.proofs.Items.{Items-loop, items-begin, items-inferable, items-size, items-room, items-full, items-loop-on, items-grown, items-end}
+use Rattle.infer.proofs.Into.{scalar-code}
+use Rattle.infer.proofs.Items.{Items-loop, items-begin, items-inferable, items-size, items-row}
+use Rattle.infer.proofs.Items.{items-room, items-full, items-loop-on, items-grown, items-end}
 use Rattle.infer.proofs.Lists.{list-full-first, list-inferable, list-room-then, list-full-then, list-raise-fits, list-grown, list-answer}
 use Rattle.infer.proofs.Members.{listed-inferable, listed-answer, new-inside, new-full-first}
 use Rattle.infer.proofs.Members.{new-inferable, new-room-then, new-full-then, new-answer, new-grown}
-use Rattle.infer.proofs.Walk.{Members-loop, members-begin, members-inferable, members-size}
+use Rattle.infer.proofs.Walk.{Members-loop, members-begin, members-inferable, members-size, members-row}
 use Rattle.infer.proofs.Walk.{members-room, members-full, members-loop-on, members-grown, members-end}
 use Rattle.infer.proofs.Records.{record-inferable, record-full, record-nulls, record-room, record-grown, record-raise-fits, record-answer}
 use borrow.Fn.Kinds.{In}
@@ -39,16 +40,17 @@ use Rattle.infer.proofs.+infer_into+infer_items+infer_list+infer_member
 use Rattle.infer.proofs.infer_record.Reads as infer-record
 use Rattle.infer.proofs.infer_record.Kinds as infer-record-kinds
 use Rattle.infer.proofs.+infer_into+infer_items+infer_list+infer_member+infer_members+infer_record.Lts-infer_record as infer-record-lts
-use Rattle.infer.proofs.kinds.scalar_kinds.Reads as scalar-kinds-reads
+use Rattle.infer.proofs.infer_leaf.Reads as infer-leaf-reads
 use Rattle.growing.proofs.start_kinds.Reads as start-kinds-reads
 use Rattle.infer.proofs.lacked.null_others.Reads as null-others-reads
+use Rattle.growing.proofs.find_listed.Reads as find-listed-reads
 use Rattle.growing.proofs.find_place.Reads as find-place-reads
 use Rattle.growing.proofs.open_row.Reads as open-row-reads
 use Rattle.growing.proofs.raise.Reads as raise-reads
 use Rattle.growing.proofs.ready_element.Reads as ready-element-reads
 use Rattle.nodes.proofs.row_kind.Reads as row-kind-reads
-use Rattle.nodes.proofs.row_name.Reads as row-name-reads
 use Rattle.nodes.proofs.row_size.Reads as row-size-reads
+use Rattle.nodes.proofs.row_size_in.Reads as row-size-in-reads
 use Rattle.shapes.proofs.has.Reads as has-reads
 use Rattle.shapes.proofs.kinds.Reads as kinds-reads
 use Rattle.shapes.proofs.members.Reads as members-reads
@@ -143,18 +145,16 @@ infer-into-claims t = (
   infer-list.Post,
   infer-record-below t,
   infer-record.Post,
-  scalar-kinds-reads.Asked,
-  scalar-kinds-reads.Learnt,
-  raise-reads.Asked,
-  raise-reads.Learnt,
+  infer-leaf-reads.Asked,
+  infer-leaf-reads.Learnt,
 )
 
 abbrev infer-items-claims : ℕ → infer-items-lts.Claims
 infer-items-claims t = (
   infer-into-below t,
   infer-into.Post,
-  row-size-reads.Asked,
-  row-size-reads.Learnt,
+  row-size-in-reads.Asked,
+  row-size-in-reads.Learnt,
 )
 
 abbrev infer-list-claims : ℕ → infer-list-lts.Claims
@@ -171,12 +171,16 @@ infer-list-claims t = (
 
 abbrev infer-member-claims : ℕ → infer-member-lts.Claims
 infer-member-claims t = (
-  row-name-reads.Asked,
-  row-name-reads.Learnt,
-  find-place-reads.Asked,
-  find-place-reads.Learnt,
+  find-listed-reads.Asked,
+  find-listed-reads.Learnt,
+  row-kind-reads.Asked,
+  row-kind-reads.Learnt,
+  infer-leaf-reads.Asked,
+  infer-leaf-reads.Learnt,
   infer-into-below t,
   infer-into.Post,
+  find-place-reads.Asked,
+  find-place-reads.Learnt,
   start-kinds-reads.Asked,
   start-kinds-reads.Learnt,
   open-row-reads.Asked,
@@ -187,8 +191,8 @@ abbrev infer-members-claims : ℕ → infer-members-lts.Claims
 infer-members-claims t = (
   infer-member-below t,
   infer-member.Post,
-  row-size-reads.Asked,
-  row-size-reads.Learnt,
+  row-size-in-reads.Asked,
+  row-size-in-reads.Learnt,
 )
 
 abbrev infer-record-claims : ℕ → infer-record-lts.Claims
@@ -239,34 +243,21 @@ infer-into-returns-2 : (t : ℕ) → infer-into-lts.Need-returns-2 (infer-into-c
 infer-into-returns-2 t c =
     c .before .before .infer-record .ensures
 
-infer-into-raise-requires : (t : ℕ) → infer-into-lts.Need-raise-requires (infer-into-claims t) (infer-into-at t) infer-into.Post
-infer-into-raise-requires t c κs =
-    let after-row-kind = c .before .before .before .before in
-    let at-start = after-row-kind .before .before .before .before in
+infer-into-infer-leaf-requires : (t : ℕ) → infer-into-lts.Need-infer-leaf-requires (infer-into-claims t) (infer-into-at t) infer-into.Post
+infer-into-infer-leaf-requires t c κs =
+    let at-start = c .before .before .before .before .before .before .before in
     let w = at-start .pre .1 .0 in
-    scalar-fits
-    (w .meets)
-    (scalar-code (w .value) (kind-told (w .meets .held) (after-row-kind .row-kind .ensures)) (c .before .before .before .if1 .left)
-    (c .before .before .if2 .left))
-    (c .scalar-kinds .ensures)
-    (at-start .pre .1 .1)
+    let l = scalar-code (w .value) (kind-told (w .meets .held) (c .before .before .before .row-kind .ensures)) (c .before .before .if1 .left)
+    (c .before .if2 .left) in
+    (w, (at-start .pre .1 .1, omega (arith, l, kind-told (w .meets .held) refl)))
 
 infer-into-same-length-3 : (t : ℕ) → infer-into-lts.Need-same-length-3 (infer-into-claims t) (infer-into-at t) infer-into.Post
 infer-into-same-length-3 t c =
-    c .before .before .raise .kept .0
+    c .before .before .infer-leaf .kept .0
 
 infer-into-returns-3 : (t : ℕ) → infer-into-lts.Need-returns-3 (infer-into-claims t) (infer-into-at t) infer-into.Post
-infer-into-returns-3 t c p m s k v h =
-    let after-raise = c .before .before in
-    let else1 = after-raise .before .before .before .before in
-    let at-start = else1 .before .before .before .before .before in
-    scalar-put
-    h
-    (scalar-code v (kind-told (h .held) (else1 .before .row-kind .ensures)) (else1 .if1 .left) (after-raise .before .before .before .if2 .left))
-    (after-raise .before .scalar-kinds .ensures)
-    (at-start .pre .1 .1)
-    (after-raise .raise .ensures)
-    (after-raise .raise .kept .0)
+infer-into-returns-3 t c =
+    c .before .before .infer-leaf .ensures
 
 -- ---- infer_items
 
@@ -335,12 +326,19 @@ infer-items-add-grown t c =
       at-start .pre .1 .1 .small,
     )
 
+infer-items-row-size-in-requires
+    : (t : ℕ) → infer-items-lts.Need-row-size-in-requires (infer-items-claims t) (infer-items-at t) infer-items.Post infer-items-Inv-loop infer-items-μ-loop
+infer-items-row-size-in-requires t c κs =
+    let in-loop = c .before .before .before .before .before .before .before in
+    let at-start = in-loop .before .before .before .before .before in
+    items-row (at-start .pre .1 .1) (in-loop .before .loop .inv) (in-loop .loop-test .taken) (at-start .pre .1 .0 .meets)
+
 infer-items-add-i : (t : ℕ) → infer-items-lts.Need-add-i (infer-items-claims t) (infer-items-at t) infer-items.Post infer-items-Inv-loop infer-items-μ-loop
 infer-items-add-i t c =
     let in-loop = c .before .before .before .before .before .before .before .before in
     let at-start = in-loop .before .before .before .before .before in
     let z = items-size (at-start .pre .1 .1) (in-loop .before .loop .inv) (in-loop .loop-test .taken) (at-start .pre .1 .0 .meets) in
-    omega (arith, z .1, c .row-size .ensures, at-start .good .1 .1 .1 .0 .0)
+    omega (arith, z .1, c .row-size-in .ensures, at-start .good .1 .1 .1 .0 .0)
 
 infer-items-loop-less
     : (t : ℕ) → infer-items-lts.Need-loop-less (infer-items-claims t) (infer-items-at t) infer-items.Post infer-items-Inv-loop infer-items-μ-loop
@@ -348,7 +346,7 @@ infer-items-loop-less t c =
     let in-loop = c .before .before .before .before .before .before .before .before in
     let at-start = in-loop .before .before .before .before .before in
     let z = items-size (at-start .pre .1 .1) (in-loop .before .loop .inv) (in-loop .loop-test .taken) (at-start .pre .1 .0 .meets) in
-    omega (arith, z .0, z .2, c .row-size .ensures, in-loop .loop-test .taken)
+    omega (arith, z .0, z .2, c .row-size-in .ensures, in-loop .loop-test .taken)
 
 infer-items-loop-again
     : (t : ℕ) → infer-items-lts.Need-loop-again (infer-items-claims t) (infer-items-at t) infer-items.Post infer-items-Inv-loop infer-items-μ-loop
@@ -357,7 +355,7 @@ infer-items-loop-again t c =
     let at-start = after-infer-into .before .before .before .before .before .before .before in
     items-loop-on (at-start .pre .1 .1) (after-infer-into .before .before .before .loop .inv) (after-infer-into .before .before .loop-test .taken)
     (after-infer-into .infer-into .last .0) (after-infer-into .infer-into .result) (after-infer-into .infer-into .ensures)
-    (c .before .before .words .given .1) (c .row-size .ensures) (after-infer-into .infer-into .kept .0)
+    (c .before .before .words .given .1) (c .row-size-in .ensures) (after-infer-into .infer-into .kept .0)
 
 infer-items-same-length-2
     : (t : ℕ) → infer-items-lts.Need-same-length-2 (infer-items-claims t) (infer-items-at t) infer-items.Post infer-items-Inv-loop infer-items-μ-loop
@@ -515,45 +513,90 @@ infer-list-returns-3 t c =
 
 -- ---- infer_member
 
-infer-member-find-place-requires : (t : ℕ) → infer-member-lts.Need-find-place-requires (infer-member-claims t) (infer-member-at t) infer-member.Post
-infer-member-find-place-requires t c κs =
-    let at-start = c .before .before .before .before .before in
-    let w = at-start .pre .1 .0 in
-    (record { part = w .part; fields = w .olds; meets = w .meets .fields }, at-start .pre .1 .1)
+infer-member-add-name : (t : ℕ) → infer-member-lts.Need-add-name (infer-member-claims t) (infer-member-at t) infer-member.Post
+infer-member-add-name t c =
+    let w = c .before .before .before .pre .1 .0 in
+    omega (arith, value-within (w .meets .held), size-some (w .value), c .before .before .before .good .1 .1 .1 .1 .0 .0)
 
-infer-member-infer-into-requires : (t : ℕ) → infer-member-lts.Need-infer-into-requires (infer-member-claims t) (infer-member-at t) infer-member.Post
-infer-member-infer-into-requires t c κs =
-    let after-row-name = c .before .before .before .before in
-    let at-start = after-row-name .before .before .before .before in (
-      omega (arith, at-start .pre .0),
-      (
-        listed-inferable (at-start .args .had) (at-start .pre .1 .1) (after-row-name .row-name .ensures) (c .before .before .find-place .ensures)
-            (c .before .if1 .taken) (at-start .pre .1 .0),
-        at-start .pre .1 .1,
-      ),
+infer-member-mul-name : (t : ℕ) → infer-member-lts.Need-mul-name (infer-member-claims t) (infer-member-at t) infer-member.Post
+infer-member-mul-name t c =
+    let w = c .before .before .before .pre .1 .0 in
+    omega (arith, value-within (w .meets .held), size-some (w .value), c .before .before .before .good .1 .1 .1 .1 .0 .0)
+
+infer-member-shared-slice-read-name : (t : ℕ) → infer-member-lts.Need-shared-slice-read-name (infer-member-claims t) (infer-member-at t) infer-member.Post
+infer-member-shared-slice-read-name t c =
+    let w = c .before .before .before .before .pre .1 .0 in
+    omega (arith, value-within (w .meets .held), size-some (w .value))
+
+infer-member-find-listed-requires : (t : ℕ) → infer-member-lts.Need-find-listed-requires (infer-member-claims t) (infer-member-at t) infer-member.Post
+infer-member-find-listed-requires t c κs =
+    let w = c .before .before .before .before .before .pre .1 .0 in
+    record { part = w .part; fields = w .olds; meets = w .meets .fields }
+
+infer-member-infer-leaf-requires : (t : ℕ) → infer-member-lts.Need-infer-leaf-requires (infer-member-claims t) (infer-member-at t) infer-member.Post
+infer-member-infer-leaf-requires t c κs =
+    let after-row = c .before .before .before .before in
+    let after-find-listed = after-row .before .before in
+    let at-start = after-find-listed .before .before .before .before .before .before in (
+      listed-inferable (at-start .args .had) (at-start .pre .1 .1) (after-find-listed .find-listed .result) (after-find-listed .find-listed .ensures)
+          (after-row .row .given .1) (at-start .pre .1 .0),
+      (at-start .pre .1 .1, omega (arith, c .before .before .row-kind .ensures, c .before .if1 .taken)),
     )
 
 infer-member-same-length : (t : ℕ) → infer-member-lts.Need-same-length (infer-member-claims t) (infer-member-at t) infer-member.Post
 infer-member-same-length t c =
-    c .before .before .infer-into .kept .0
+    c .before .before .infer-leaf .kept .0
 
 infer-member-returns : (t : ℕ) → infer-member-lts.Need-returns (infer-member-claims t) (infer-member-at t) infer-member.Post
 infer-member-returns t c =
+    let after-infer-leaf = c .before .before in
+    let after-row = after-infer-leaf .before .before .before .before .before in
+    let after-find-listed = after-row .before .before in
+    let at-start = after-find-listed .before .before .before .before .before .before in
+    listed-answer (at-start .args .had) (at-start .pre .1 .1) (after-find-listed .find-listed .result) (after-find-listed .find-listed .ensures)
+    (after-row .row .given .1) (after-infer-leaf .infer-leaf .last .0) (after-infer-leaf .infer-leaf .result) (after-infer-leaf .infer-leaf .ensures)
+
+infer-member-infer-into-requires : (t : ℕ) → infer-member-lts.Need-infer-into-requires (infer-member-claims t) (infer-member-at t) infer-member.Post
+infer-member-infer-into-requires t c κs =
+    let after-row = c .before .before .before .before in
+    let after-find-listed = after-row .before .before in
+    let at-start = after-find-listed .before .before .before .before .before .before in (
+      omega (arith, at-start .pre .0),
+      (
+        listed-inferable (at-start .args .had) (at-start .pre .1 .1) (after-find-listed .find-listed .result) (after-find-listed .find-listed .ensures)
+            (after-row .row .given .1) (at-start .pre .1 .0),
+        at-start .pre .1 .1,
+      ),
+    )
+
+infer-member-same-length-2 : (t : ℕ) → infer-member-lts.Need-same-length-2 (infer-member-claims t) (infer-member-at t) infer-member.Post
+infer-member-same-length-2 t c =
+    c .before .before .infer-into .kept .0
+
+infer-member-returns-2 : (t : ℕ) → infer-member-lts.Need-returns-2 (infer-member-claims t) (infer-member-at t) infer-member.Post
+infer-member-returns-2 t c =
     let after-infer-into = c .before .before in
-    let after-row-name = after-infer-into .before .before .before .before .before in
-    let at-start = after-row-name .before .before .before .before in
-    listed-answer (at-start .args .had) (at-start .pre .1 .1) (after-row-name .row-name .ensures)
-    (after-infer-into .before .before .before .find-place .ensures) (after-infer-into .before .before .if1 .taken) (after-infer-into .infer-into .last .0)
-    (after-infer-into .infer-into .result) (after-infer-into .infer-into .ensures)
+    let after-row = after-infer-into .before .before .before .before .before in
+    let after-find-listed = after-row .before .before in
+    let at-start = after-find-listed .before .before .before .before .before .before in
+    listed-answer (at-start .args .had) (at-start .pre .1 .1) (after-find-listed .find-listed .result) (after-find-listed .find-listed .ensures)
+    (after-row .row .given .1) (after-infer-into .infer-into .last .0) (after-infer-into .infer-into .result) (after-infer-into .infer-into .ensures)
+
+infer-member-find-place-requires : (t : ℕ) → infer-member-lts.Need-find-place-requires (infer-member-claims t) (infer-member-at t) infer-member.Post
+infer-member-find-place-requires t c κs =
+    let at-start = c .before .before .before .before .before .before .before .before .before in
+    let w = at-start .pre .1 .0 in
+    (record { part = w .part; fields = w .olds; meets = w .meets .fields }, at-start .pre .1 .1)
 
 infer-member-open-row-requires : (t : ℕ) → infer-member-lts.Need-open-row-requires (infer-member-claims t) (infer-member-at t) infer-member.Post
 infer-member-open-row-requires t c κs =
-    let after-row-name = c .before .before .before .before .before in
-    let at-start = after-row-name .before .before .before .before in (
+    let after-enum-told = c .before .before .before .before in
+    let after-find-listed = after-enum-told .before .before in
+    let at-start = after-find-listed .before .before .before .before .before .before in (
       at-start .pre .1 .1,
       (
-        new-inside (at-start .args .had) (at-start .pre .1 .1) (after-row-name .row-name .ensures) (c .before .before .before .find-place .ensures)
-            (c .before .before .if1 .left) (at-start .pre .1 .0),
+        new-inside (at-start .args .had) (at-start .pre .1 .1) (after-find-listed .find-listed .result) (after-find-listed .find-listed .ensures)
+            (after-enum-told .enum-told .given .1) (c .before .before .find-place .ensures) (at-start .pre .1 .0),
         omega (arith, c .start-kinds .ensures, kind-bits-lt (member-start (at-start .args .had))),
       ),
     )
@@ -561,10 +604,11 @@ infer-member-open-row-requires t c κs =
 infer-member-add-infer-into : (t : ℕ) → infer-member-lts.Need-add-infer-into (infer-member-claims t) (infer-member-at t) infer-member.Post
 infer-member-add-infer-into t c =
     let after-open-row = c .before .before .before .before .before .before in
-    let after-find-place = after-open-row .before .before .before .before in
-    let at-start = after-find-place .before .before .before .before .before .before in
-    let r = new-room-then (at-start .args .had) (at-start .pre .1 .1) (after-find-place .before .before .row-name .ensures)
-    (after-find-place .find-place .ensures) (after-open-row .before .before .before .if1 .left) (after-open-row .open-row .last .0)
+    let after-enum-told = after-open-row .before .before .before .before .before in
+    let after-find-listed = after-enum-told .before .before in
+    let at-start = after-find-listed .before .before .before .before .before .before in
+    let r = new-room-then (at-start .args .had) (at-start .pre .1 .1) (after-find-listed .find-listed .result) (after-find-listed .find-listed .ensures)
+    (after-enum-told .enum-told .given .1) (after-open-row .before .before .before .find-place .ensures) (after-open-row .open-row .last .0)
     (after-open-row .open-row .result) (after-open-row .before .start-kinds .ensures) (after-open-row .open-row .ensures)
     (c .before .before .opened .given .1) (at-start .pre .1 .0) in
     omega (arith, r .enough, r .small)
@@ -573,84 +617,89 @@ infer-member-infer-into-requires-2 : (t : ℕ) → infer-member-lts.Need-infer-i
 infer-member-infer-into-requires-2 t c κs =
     let after-opened = c .before .before in
     let after-open-row = after-opened .before .before .before .before in
-    let else1 = after-open-row .before .before .before in
-    let after-row-name = else1 .before .before .before in
-    let at-start = after-row-name .before .before .before .before in (
+    let after-find-place = after-open-row .before .before .before in
+    let after-enum-told = after-find-place .before .before in
+    let after-find-listed = after-enum-told .before .before in
+    let at-start = after-find-listed .before .before .before .before .before .before in (
       omega (arith, at-start .pre .0),
       (
-        new-inferable (at-start .args .had) (at-start .pre .1 .1) (after-row-name .row-name .ensures) (else1 .before .find-place .ensures) (else1 .if1 .left)
-            (after-open-row .open-row .last .0) (after-open-row .open-row .result) (after-open-row .before .start-kinds .ensures)
-            (after-open-row .open-row .ensures) (after-opened .opened .given .1) (at-start .pre .1 .0),
-        new-room-then (at-start .args .had) (at-start .pre .1 .1) (after-row-name .row-name .ensures) (else1 .before .find-place .ensures) (else1 .if1 .left)
-            (after-open-row .open-row .last .0) (after-open-row .open-row .result) (after-open-row .before .start-kinds .ensures)
-            (after-open-row .open-row .ensures) (after-opened .opened .given .1) (at-start .pre .1 .0),
+        new-inferable (at-start .args .had) (at-start .pre .1 .1) (after-find-listed .find-listed .result) (after-find-listed .find-listed .ensures)
+            (after-enum-told .enum-told .given .1) (after-find-place .find-place .ensures) (after-open-row .open-row .last .0)
+            (after-open-row .open-row .result)
+            (after-open-row .before .start-kinds .ensures) (after-open-row .open-row .ensures) (after-opened .opened .given .1) (at-start .pre .1 .0),
+        new-room-then (at-start .args .had) (at-start .pre .1 .1) (after-find-listed .find-listed .result) (after-find-listed .find-listed .ensures)
+            (after-enum-told .enum-told .given .1) (after-find-place .find-place .ensures) (after-open-row .open-row .last .0)
+            (after-open-row .open-row .result)
+            (after-open-row .before .start-kinds .ensures) (after-open-row .open-row .ensures) (after-opened .opened .given .1) (at-start .pre .1 .0),
       ),
     )
 
-infer-member-add-t28 : (t : ℕ) → infer-member-lts.Need-add-t28 (infer-member-claims t) (infer-member-at t) infer-member.Post
-infer-member-add-t28 t c =
+infer-member-add-t39 : (t : ℕ) → infer-member-lts.Need-add-t39 (infer-member-claims t) (infer-member-at t) infer-member.Post
+infer-member-add-t39 t c =
     let after-infer-into2 = c .before .before .before .before .before in
     let after-open-row = after-infer-into2 .before .before .before .before .before .before .before in
-    let after-find-place = after-open-row .before .before .before .before in
-    let at-start = after-find-place .before .before .before .before .before .before in
-    omega (
-      arith,
-      new-grown (at-start .args .had) (at-start .pre .1 .1) (after-find-place .before .before .row-name .ensures) (after-find-place .find-place .ensures)
-          (after-open-row .before .before .before .if1 .left) (after-open-row .open-row .last .0) (after-open-row .open-row .result)
-          (after-open-row .before .start-kinds .ensures) (after-open-row .open-row .ensures) (after-infer-into2 .before .before .before .opened .given .1)
-          (after-infer-into2 .infer-into2 .last .0) (after-infer-into2 .infer-into2 .result) (after-infer-into2 .infer-into2 .ensures)
-          (c .before .words .given .1) (at-start .pre .1 .0),
-      at-start .pre .1 .1 .small,
-    )
-
-infer-member-same-length-2 : (t : ℕ) → infer-member-lts.Need-same-length-2 (infer-member-claims t) (infer-member-at t) infer-member.Post
-infer-member-same-length-2 t c =
-    let after-open-row = c .before .before .before .before in
-    after-open-row .open-row .kept .0
-
-infer-member-returns-2 : (t : ℕ) → infer-member-lts.Need-returns-2 (infer-member-claims t) (infer-member-at t) infer-member.Post
-infer-member-returns-2 t c =
-    let after-open-row = c .before .before .before .before in
-    let after-find-place = after-open-row .before .before .before .before in
-    let at-start = after-find-place .before .before .before .before .before .before in
-    new-full-first (at-start .args .had) (at-start .pre .1 .1) (after-find-place .before .before .row-name .ensures) (after-find-place .find-place .ensures)
-    (after-open-row .before .before .before .if1 .left) (after-open-row .open-row .last .0) (after-open-row .open-row .result)
-    (after-open-row .before .start-kinds .ensures) (after-open-row .open-row .ensures) (c .enum-told .given .1)
+    let after-enum-told = after-open-row .before .before .before .before .before in
+    let after-find-listed = after-enum-told .before .before in
+    let at-start = after-find-listed .before .before .before .before .before .before in
+    let g = new-grown (at-start .args .had) (at-start .pre .1 .1) (after-find-listed .find-listed .result) (after-find-listed .find-listed .ensures)
+    (after-enum-told .enum-told .given .1) (after-open-row .before .before .before .find-place .ensures) (after-open-row .open-row .last .0)
+    (after-open-row .open-row .result) (after-open-row .before .start-kinds .ensures) (after-open-row .open-row .ensures)
+    (after-infer-into2 .before .before .before .opened .given .1) (after-infer-into2 .infer-into2 .last .0) (after-infer-into2 .infer-into2 .result)
+    (after-infer-into2 .infer-into2 .ensures) (c .before .words .given .1) (at-start .pre .1 .0) in
+    omega (arith, g, at-start .pre .1 .1 .small)
 
 infer-member-same-length-3 : (t : ℕ) → infer-member-lts.Need-same-length-3 (infer-member-claims t) (infer-member-at t) infer-member.Post
 infer-member-same-length-3 t c =
-    let after-infer-into2 = c .before .before .before .before in
-    let after-open-row = after-infer-into2 .before .before .before .before .before .before .before in
-    after-infer-into2 .infer-into2 .kept .0 ∙ after-open-row .open-row .kept .0
+    let after-open-row = c .before .before .before .before in
+    after-open-row .open-row .kept .0
 
 infer-member-returns-3 : (t : ℕ) → infer-member-lts.Need-returns-3 (infer-member-claims t) (infer-member-at t) infer-member.Post
 infer-member-returns-3 t c =
-    let after-infer-into2 = c .before .before .before .before in
-    let after-open-row = after-infer-into2 .before .before .before .before .before .before .before in
-    let after-find-place = after-open-row .before .before .before .before in
-    let at-start = after-find-place .before .before .before .before .before .before in
-    new-full-then (at-start .args .had) (at-start .pre .1 .1) (after-find-place .before .before .row-name .ensures) (after-find-place .find-place .ensures)
-    (after-open-row .before .before .before .if1 .left) (after-open-row .open-row .last .0) (after-open-row .open-row .result)
-    (after-open-row .before .start-kinds .ensures) (after-open-row .open-row .ensures) (after-infer-into2 .before .before .before .opened .given .1)
-    (after-infer-into2 .infer-into2 .last .0) (after-infer-into2 .infer-into2 .result) (after-infer-into2 .infer-into2 .ensures) (c .enum-told2 .given .1)
+    let after-open-row = c .before .before .before .before in
+    let after-enum-told = after-open-row .before .before .before .before .before in
+    let after-find-listed = after-enum-told .before .before in
+    let at-start = after-find-listed .before .before .before .before .before .before in
+    new-full-first (at-start .args .had) (at-start .pre .1 .1) (after-find-listed .find-listed .result) (after-find-listed .find-listed .ensures)
+    (after-enum-told .enum-told .given .1) (after-open-row .before .before .before .find-place .ensures) (after-open-row .open-row .last .0)
+    (after-open-row .open-row .result) (after-open-row .before .start-kinds .ensures) (after-open-row .open-row .ensures) (c .enum-told2 .given .1)
 
 infer-member-same-length-4 : (t : ℕ) → infer-member-lts.Need-same-length-4 (infer-member-claims t) (infer-member-at t) infer-member.Post
 infer-member-same-length-4 t c =
-    let after-infer-into2 = c .before .before .before .before .before in
+    let after-infer-into2 = c .before .before .before .before in
     let after-open-row = after-infer-into2 .before .before .before .before .before .before .before in
     after-infer-into2 .infer-into2 .kept .0 ∙ after-open-row .open-row .kept .0
 
 infer-member-returns-4 : (t : ℕ) → infer-member-lts.Need-returns-4 (infer-member-claims t) (infer-member-at t) infer-member.Post
 infer-member-returns-4 t c =
+    let after-infer-into2 = c .before .before .before .before in
+    let after-open-row = after-infer-into2 .before .before .before .before .before .before .before in
+    let after-enum-told = after-open-row .before .before .before .before .before in
+    let after-find-listed = after-enum-told .before .before in
+    let at-start = after-find-listed .before .before .before .before .before .before in
+    new-full-then (at-start .args .had) (at-start .pre .1 .1) (after-find-listed .find-listed .result) (after-find-listed .find-listed .ensures)
+    (after-enum-told .enum-told .given .1) (after-open-row .before .before .before .find-place .ensures) (after-open-row .open-row .last .0)
+    (after-open-row .open-row .result) (after-open-row .before .start-kinds .ensures) (after-open-row .open-row .ensures)
+    (after-infer-into2 .before .before .before .opened .given .1) (after-infer-into2 .infer-into2 .last .0) (after-infer-into2 .infer-into2 .result)
+    (after-infer-into2 .infer-into2 .ensures) (c .enum-told3 .given .1)
+
+infer-member-same-length-5 : (t : ℕ) → infer-member-lts.Need-same-length-5 (infer-member-claims t) (infer-member-at t) infer-member.Post
+infer-member-same-length-5 t c =
     let after-infer-into2 = c .before .before .before .before .before in
     let after-open-row = after-infer-into2 .before .before .before .before .before .before .before in
-    let after-find-place = after-open-row .before .before .before .before in
-    let at-start = after-find-place .before .before .before .before .before .before in
-    new-answer (at-start .args .had) (at-start .pre .1 .1) (after-find-place .before .before .row-name .ensures) (after-find-place .find-place .ensures)
-    (after-open-row .before .before .before .if1 .left) (after-open-row .open-row .last .0) (after-open-row .open-row .result)
-    (after-open-row .before .start-kinds .ensures) (after-open-row .open-row .ensures) (after-infer-into2 .before .before .before .opened .given .1)
-    (after-infer-into2 .infer-into2 .last .0) (after-infer-into2 .infer-into2 .result) (after-infer-into2 .infer-into2 .ensures)
-    (c .before .words .given .1)
+    after-infer-into2 .infer-into2 .kept .0 ∙ after-open-row .open-row .kept .0
+
+infer-member-returns-5 : (t : ℕ) → infer-member-lts.Need-returns-5 (infer-member-claims t) (infer-member-at t) infer-member.Post
+infer-member-returns-5 t c =
+    let after-infer-into2 = c .before .before .before .before .before in
+    let after-open-row = after-infer-into2 .before .before .before .before .before .before .before in
+    let after-enum-told = after-open-row .before .before .before .before .before in
+    let after-find-listed = after-enum-told .before .before in
+    let at-start = after-find-listed .before .before .before .before .before .before in
+    new-answer (at-start .args .had) (at-start .pre .1 .1) (after-find-listed .find-listed .result) (after-find-listed .find-listed .ensures)
+    (after-enum-told .enum-told .given .1) (after-open-row .before .before .before .find-place .ensures) (after-open-row .open-row .last .0)
+    (after-open-row .open-row .result) (after-open-row .before .start-kinds .ensures) (after-open-row .open-row .ensures)
+    (after-infer-into2 .before .before .before .opened .given .1) (after-infer-into2 .infer-into2 .last .0) (after-infer-into2 .infer-into2 .result)
+    (after-infer-into2 .infer-into2 .ensures) (c .before .words .given .1)
 
 -- ---- infer_members
 
@@ -736,13 +785,22 @@ infer-members-add-grown t c =
       at-start .pre .1 .1 .small,
     )
 
+infer-members-row-size-in-requires
+    : (t : ℕ)
+    → infer-members-lts.Need-row-size-in-requires (infer-members-claims t) (infer-members-at t) infer-members.Post
+    infer-members-Inv-loop infer-members-μ-loop
+infer-members-row-size-in-requires t c κs =
+    let in-loop = c .before .before .before .before .before .before .before in
+    let at-start = in-loop .before .before .before .before .before in
+    members-row (at-start .pre .1 .1) (in-loop .before .loop .inv) (in-loop .loop-test .taken) (at-start .pre .1 .0 .meets)
+
 infer-members-add-i
     : (t : ℕ) → infer-members-lts.Need-add-i (infer-members-claims t) (infer-members-at t) infer-members.Post infer-members-Inv-loop infer-members-μ-loop
 infer-members-add-i t c =
     let in-loop = c .before .before .before .before .before .before .before .before in
     let at-start = in-loop .before .before .before .before .before in
     let z = members-size (at-start .pre .1 .1) (in-loop .before .loop .inv) (in-loop .loop-test .taken) (at-start .pre .1 .0 .meets) in
-    omega (arith, z .1, c .row-size .ensures, at-start .good .1 .1 .1 .1 .0 .0)
+    omega (arith, z .1, c .row-size-in .ensures, at-start .good .1 .1 .1 .1 .0 .0)
 
 infer-members-loop-less
     : (t : ℕ) → infer-members-lts.Need-loop-less (infer-members-claims t) (infer-members-at t) infer-members.Post infer-members-Inv-loop infer-members-μ-loop
@@ -750,7 +808,7 @@ infer-members-loop-less t c =
     let in-loop = c .before .before .before .before .before .before .before .before in
     let at-start = in-loop .before .before .before .before .before in
     let z = members-size (at-start .pre .1 .1) (in-loop .before .loop .inv) (in-loop .loop-test .taken) (at-start .pre .1 .0 .meets) in
-    omega (arith, z .0, z .2, c .row-size .ensures, in-loop .loop-test .taken)
+    omega (arith, z .0, z .2, c .row-size-in .ensures, in-loop .loop-test .taken)
 
 infer-members-loop-again
     : (t : ℕ) → infer-members-lts.Need-loop-again (infer-members-claims t) (infer-members-at t) infer-members.Post infer-members-Inv-loop infer-members-μ-loop
@@ -759,7 +817,7 @@ infer-members-loop-again t c =
     let at-start = after-infer-member .before .before .before .before .before .before .before in
     members-loop-on (at-start .pre .1 .1) (after-infer-member .before .before .before .loop .inv) (after-infer-member .before .before .loop-test .taken)
     (after-infer-member .infer-member .last .0) (after-infer-member .infer-member .result) (after-infer-member .infer-member .ensures)
-    (c .before .before .words .given .1) (c .row-size .ensures) (after-infer-member .infer-member .kept .0)
+    (c .before .before .words .given .1) (c .row-size-in .ensures) (after-infer-member .infer-member .kept .0)
 
 infer-members-same-length-2
     : (t : ℕ)
@@ -938,8 +996,7 @@ pub +infer-into+infer-items+infer-list+infer-member+infer-members+infer-record-s
     (infer-into-infer-record-requires t)
     (infer-into-same-length-2 t)
     (infer-into-returns-2 t)
-    (λ c κs. search needs)
-    (infer-into-raise-requires t)
+    (infer-into-infer-leaf-requires t)
     (infer-into-same-length-3 t)
     (infer-into-returns-3 t))
     (λ t. infer-items-lts.spec (infer-items-claims t) (infer-items-at t)
@@ -954,7 +1011,7 @@ pub +infer-into+infer-items+infer-list+infer-member+infer-members+infer-record-s
     (infer-items-returns t)
     (λ c. search needs)
     (infer-items-add-grown t)
-    (λ c κs. search needs)
+    (infer-items-row-size-in-requires t)
     (infer-items-add-i t)
     (infer-items-loop-less t)
     (infer-items-loop-again t)
@@ -982,24 +1039,32 @@ pub +infer-into+infer-items+infer-list+infer-member+infer-members+infer-record-s
     (infer-list-returns-3 t))
     (λ t. infer-member-lts.spec (infer-member-claims t) (infer-member-at t)
     infer-member.Post
-    (λ c κs. search needs)
-    (infer-member-find-place-requires t)
-    (infer-member-infer-into-requires t)
+    (infer-member-add-name t)
+    (infer-member-mul-name t)
+    (infer-member-shared-slice-read-name t)
+    (infer-member-find-listed-requires t)
+    (λ c. search needs) (λ c κs. search needs)
+    (infer-member-infer-leaf-requires t)
     (infer-member-same-length t)
     (infer-member-returns t)
+    (infer-member-infer-into-requires t)
+    (infer-member-same-length-2 t)
+    (infer-member-returns-2 t)
+    (λ c. search needs)
+    (infer-member-find-place-requires t)
     (λ c κs. search needs)
     (infer-member-open-row-requires t)
     (λ c. search needs) (λ c. search needs)
     (infer-member-add-infer-into t)
     (infer-member-infer-into-requires-2 t)
     (λ c. search needs) (λ c. search needs)
-    (infer-member-add-t28 t)
-    (infer-member-same-length-2 t)
-    (infer-member-returns-2 t)
+    (infer-member-add-t39 t)
     (infer-member-same-length-3 t)
     (infer-member-returns-3 t)
     (infer-member-same-length-4 t)
-    (infer-member-returns-4 t))
+    (infer-member-returns-4 t)
+    (infer-member-same-length-5 t)
+    (infer-member-returns-5 t))
     (λ t. infer-members-lts.spec (infer-members-claims t) (infer-members-at t)
     infer-members.Post
     infer-members-Inv-loop
@@ -1013,7 +1078,7 @@ pub +infer-into+infer-items+infer-list+infer-member+infer-members+infer-record-s
     (infer-members-returns t)
     (λ c. search needs)
     (infer-members-add-grown t)
-    (λ c κs. search needs)
+    (infer-members-row-size-in-requires t)
     (infer-members-add-i t)
     (infer-members-loop-less t)
     (infer-members-loop-again t)
