@@ -16,12 +16,12 @@ uint8_t answer[RUNVESTOL_ANSWER_BYTES];
 const uint8_t *bytes_of(const std::string &text) { return reinterpret_cast<const uint8_t *>(text.data()); }
 
 uint64_t check(const std::string &reader, const std::string &shape) {
-    return runvestol_check(bytes_of(reader), reader.size(), bytes_of(shape), shape.size(), output, sizeof output, answer,
+    return runvestol_check(RUNVESTOL_LARGEST, bytes_of(reader), reader.size(), bytes_of(shape), shape.size(), output, sizeof output, answer,
                            sizeof answer);
 }
 
 uint64_t admits(const std::string &shape, const std::string &document) {
-    return runvestol_admits(bytes_of(shape), shape.size(), bytes_of(document), document.size(), answer, sizeof answer);
+    return runvestol_admits(RUNVESTOL_LARGEST, bytes_of(shape), shape.size(), bytes_of(document), document.size(), answer, sizeof answer);
 }
 
 // One of the three calls on the texts of a row.

@@ -15,7 +15,7 @@ static std::string_view transform(Which which, const char *document, std::size_t
     static uint8_t output[2 * ROOM];
     static uint8_t answer[RUNVESTOL_ANSWER_BYTES];
     const std::string &reader = readers[which];
-    if (runvestol_run(bytes_of(reader.data()), reader.size(), bytes_of(document), length, output, sizeof output, answer,
+    if (runvestol_run(RUNVESTOL_LARGEST, bytes_of(reader.data()), reader.size(), bytes_of(document), length, output, sizeof output, answer,
                       sizeof answer) != RUNVESTOL_OK)
         return {};
     std::size_t written = 0;

@@ -12,13 +12,13 @@ uint8_t output[2 * ROOM];  // a shape may be longer than a document
 uint8_t answer[RUNVESTOL_ANSWER_BYTES];
 
 uint64_t call_infer(const std::string &shape, const char *document, std::size_t length) {
-    return runvestol_infer(bytes_of(shape), shape.size(), bytes_of(document), length, output, sizeof output, answer,
+    return runvestol_infer(RUNVESTOL_LARGEST, bytes_of(shape), shape.size(), bytes_of(document), length, output, sizeof output, answer,
                            sizeof answer);
 }
 
 struct Plain : Task {
     bool run(const char *document, std::size_t length) override {
-        return runvestol_plain(bytes_of(document), length, output, sizeof output, answer, sizeof answer) == RUNVESTOL_OK;
+        return runvestol_plain(RUNVESTOL_LARGEST, bytes_of(document), length, output, sizeof output, answer, sizeof answer) == RUNVESTOL_OK;
     }
 };
 
@@ -34,7 +34,7 @@ struct Admits : Task {
 
     explicit Admits(std::string text) : shape(std::move(text)) {}
     bool run(const char *document, std::size_t length) override {
-        return runvestol_admits(bytes_of(shape), shape.size(), bytes_of(document), length, answer, sizeof answer) ==
+        return runvestol_admits(RUNVESTOL_LARGEST, bytes_of(shape), shape.size(), bytes_of(document), length, answer, sizeof answer) ==
                    RUNVESTOL_OK &&
                answer[RUNVESTOL_YES_AT] == 1;
     }

@@ -4,44 +4,45 @@
 
 #include "runvestol.h"
 
-/* a text as the two parameters that it is */
+/* a text as the two parameters that it is, and a set as its four */
 #define LEND(text) (text).bytes, (text).length
+#define SET(limits) (limits)->bytes, (limits)->values, (limits)->nesting, (limits)->steps
 
-uint64_t call_plain(const struct text *texts, struct output output, uint8_t *answer)
+uint64_t call_plain(const struct limits *limits, const struct text *texts, struct output output, uint8_t *answer)
 {
-    return runvestol_plain(LEND(texts[0]), LEND(output), answer, RUNVESTOL_ANSWER_BYTES);
+    return runvestol_plain(SET(limits), LEND(texts[0]), LEND(output), answer, RUNVESTOL_ANSWER_BYTES);
 }
 
-uint64_t call_infer(const struct text *texts, struct output output, uint8_t *answer)
+uint64_t call_infer(const struct limits *limits, const struct text *texts, struct output output, uint8_t *answer)
 {
-    return runvestol_infer(LEND(texts[0]), LEND(texts[1]), LEND(output), answer, RUNVESTOL_ANSWER_BYTES);
+    return runvestol_infer(SET(limits), LEND(texts[0]), LEND(texts[1]), LEND(output), answer, RUNVESTOL_ANSWER_BYTES);
 }
 
-uint64_t call_join(const struct text *texts, struct output output, uint8_t *answer)
+uint64_t call_join(const struct limits *limits, const struct text *texts, struct output output, uint8_t *answer)
 {
-    return runvestol_join(LEND(texts[0]), LEND(texts[1]), LEND(output), answer, RUNVESTOL_ANSWER_BYTES);
+    return runvestol_join(SET(limits), LEND(texts[0]), LEND(texts[1]), LEND(output), answer, RUNVESTOL_ANSWER_BYTES);
 }
 
-uint64_t call_below(const struct text *texts, struct output output, uint8_t *answer)
+uint64_t call_below(const struct limits *limits, const struct text *texts, struct output output, uint8_t *answer)
 {
     (void)output;
-    return runvestol_below(LEND(texts[0]), LEND(texts[1]), answer, RUNVESTOL_ANSWER_BYTES);
+    return runvestol_below(SET(limits), LEND(texts[0]), LEND(texts[1]), answer, RUNVESTOL_ANSWER_BYTES);
 }
 
-uint64_t call_admits(const struct text *texts, struct output output, uint8_t *answer)
+uint64_t call_admits(const struct limits *limits, const struct text *texts, struct output output, uint8_t *answer)
 {
     (void)output;
-    return runvestol_admits(LEND(texts[0]), LEND(texts[1]), answer, RUNVESTOL_ANSWER_BYTES);
+    return runvestol_admits(SET(limits), LEND(texts[0]), LEND(texts[1]), answer, RUNVESTOL_ANSWER_BYTES);
 }
 
-uint64_t call_check(const struct text *texts, struct output output, uint8_t *answer)
+uint64_t call_check(const struct limits *limits, const struct text *texts, struct output output, uint8_t *answer)
 {
-    return runvestol_check(LEND(texts[0]), LEND(texts[1]), LEND(output), answer, RUNVESTOL_ANSWER_BYTES);
+    return runvestol_check(SET(limits), LEND(texts[0]), LEND(texts[1]), LEND(output), answer, RUNVESTOL_ANSWER_BYTES);
 }
 
-uint64_t call_run(const struct text *texts, struct output output, uint8_t *answer)
+uint64_t call_run(const struct limits *limits, const struct text *texts, struct output output, uint8_t *answer)
 {
-    return runvestol_run(LEND(texts[0]), LEND(texts[1]), LEND(output), answer, RUNVESTOL_ANSWER_BYTES);
+    return runvestol_run(SET(limits), LEND(texts[0]), LEND(texts[1]), LEND(output), answer, RUNVESTOL_ANSWER_BYTES);
 }
 
 static uint64_t word(const uint8_t *bytes)
@@ -52,11 +53,11 @@ static uint64_t word(const uint8_t *bytes)
     return value;
 }
 
-struct outcome make_call(library_call *call, const struct text *texts, struct output output)
+struct outcome make_call(library_call *call, const struct limits *limits, const struct text *texts, struct output output)
 {
     uint8_t answer[RUNVESTOL_ANSWER_BYTES] = {0};
-    uint64_t number = call(texts, output, answer);
-    return (struct outcome){number, word(answer + RUNVESTOL_TEXT_AT), word(answer + RUNVESTOL_PLACE_AT),
+    uint64_t number = call(limits, texts, output, answer);
+    return (struct outcome){*limits, number, word(answer + RUNVESTOL_TEXT_AT), word(answer + RUNVESTOL_PLACE_AT),
                             word(answer + RUNVESTOL_LENGTH_AT), word(answer + RUNVESTOL_STEPS_AT),
                             word(answer + RUNVESTOL_YES_AT) != 0};
 }
@@ -70,15 +71,16 @@ static bool make_room(struct output *output, size_t length)
     return true;
 }
 
-bool call_with_room(library_call *call, const struct text *texts, struct output *output, struct outcome *o)
+bool call_with_room(library_call *call, const struct limits *limits, const struct text *texts, struct output *output,
+                    struct outcome *o)
 {
-    if (output->length < RUNVESTOL_TEXT_BYTES && !make_room(output, RUNVESTOL_TEXT_BYTES))
+    if (output->length < RUNVESTOL_MOST_BYTES && !make_room(output, RUNVESTOL_MOST_BYTES))
         return false;
-    *o = make_call(call, texts, *output);
+    *o = make_call(call, limits, texts, *output);
     if (o->number != RUNVESTOL_OUTPUT_TOO_SHORT)
         return true;
     if (!make_room(output, o->length))
         return false;
-    *o = make_call(call, texts, *output);
+    *o = make_call(call, limits, texts, *output);
     return true;
 }

@@ -155,16 +155,16 @@ static bool add_wanted(struct text *words, const struct text *reader, const stru
 }
 
 /* What the form meets; nothing where the library does not pass the reader that is to tell. */
-static bool add_met(struct text *words, const struct text *probe, const struct text *shape, size_t line, uint64_t number)
+static bool add_met(struct text *words, const struct text *probe, const struct text *shape, size_t line, const struct outcome *refused)
 {
-    uint8_t written[RUNVESTOL_TEXT_BYTES];
+    uint8_t written[RUNVESTOL_MOST_BYTES];
     const struct text texts[] = {*probe, *shape};
-    struct outcome o = make_call(call_check, texts, (struct output){written, sizeof written});
+    struct outcome o = make_call(call_check, &refused->limits, texts, (struct output){written, sizeof written});
     if (o.number != RUNVESTOL_OK)
         return true;
     const struct text result = {NULL, written, o.length};
     size_t at = start_of_line(&result, line);
-    return number == RUNVESTOL_UNWANTED_KIND ? add_kinds(words, &result, at) : add_names(words, &result, at);
+    return refused->number == RUNVESTOL_UNWANTED_KIND ? add_kinds(words, &result, at) : add_names(words, &result, at);
 }
 
 bool reason_of_check(struct text *words, const struct text *texts, const struct outcome *o)
@@ -177,7 +177,7 @@ bool reason_of_check(struct text *words, const struct text *texts, const struct 
     if (o->number == RUNVESTOL_UNWANTED_KIND || o->number == RUNVESTOL_UNLISTED_NAME)
         count = forms_around(reader, o->place, forms);
     bool told = count > 0 && add_wanted(words, reader, &forms[count - 1], o->number)
-        && make_probe(&probe, reader, forms, count, &line) && add_met(words, &probe, shape, line, o->number);
+        && make_probe(&probe, reader, forms, count, &line) && add_met(words, &probe, shape, line, o);
     text_free(&probe);
     return told;
 }
@@ -185,9 +185,11 @@ bool reason_of_check(struct text *words, const struct text *texts, const struct 
 bool reason_of_run(struct text *words, const struct text *texts, const struct outcome *o)
 {
     struct form forms[MOST_LEVELS];
+    char step[NUMBER_WORDS];
     int count = 0;
     if (o->number == RUNVESTOL_STEP_LIMIT)
-        return add(words, "the form would be step 65,537 on ") && add(words, texts[1].name);
+        return add(words, "the form would be step ") && add(words, number_in_words(step, o->limits.steps + 1)) && add(words, " on ")
+            && add(words, texts[1].name);
     if (o->number == RUNVESTOL_STUCK)
         count = forms_around(&texts[0], o->place, forms);
     return count > 0 && add_wanted(words, &texts[0], &forms[count - 1], o->number)

@@ -15,22 +15,26 @@ struct meaning {
     const char *words;
 };
 
+/* of those that are said with numbers of the set */
+static const char by_limit[] = "";
+
 static const struct meaning meanings[] = {
     [RUNVESTOL_ANSWER_TOO_SHORT] = {false, "the answer buffer is too short"},
-    [RUNVESTOL_TEXT_TOO_LONG] = {false, "the text has over 16,384 bytes"},
+    [RUNVESTOL_TEXT_TOO_LONG] = {false, by_limit},
     [RUNVESTOL_JSON_SYNTAX] = {true, "no JSON text goes on like this"},
     [RUNVESTOL_NUMBER_LIMIT] = {true, "the number has over 18 digits, over 9 behind the point, or an exponent"},
     [RUNVESTOL_DUPLICATE_NAME] = {true, "the name stands a second time in its record"},
-    [RUNVESTOL_VALUE_LIMIT] = {true, "the value is the 513th or nested 33 deep"},
+    [RUNVESTOL_VALUE_LIMIT] = {true, by_limit},
     [RUNVESTOL_FORM_SYNTAX] = {true, "no shape or reader goes on like this"},
-    [RUNVESTOL_FORM_LIMIT] = {true, "the form is the 513th or nested 33 deep"},
+    [RUNVESTOL_FORM_LIMIT] = {true, by_limit},
     [RUNVESTOL_UNWANTED_KIND] = {true, "the form may meet a kind of value that it does not want"},
     [RUNVESTOL_UNLISTED_NAME] = {true, "the shape does not list the name"},
-    [RUNVESTOL_SHAPE_LIMIT] = {false, "the shape to be written has over 512 forms, 32 levels or 16,384 bytes"},
+    [RUNVESTOL_SHAPE_LIMIT] = {false, by_limit},
     [RUNVESTOL_STUCK] = {true, "the form met a kind of value that it does not want"},
-    [RUNVESTOL_STEP_LIMIT] = {true, "the form would be step 65,537"},
-    [RUNVESTOL_RESULT_LIMIT] = {false, "the result has over 512 values or 32 levels"},
+    [RUNVESTOL_STEP_LIMIT] = {true, by_limit},
+    [RUNVESTOL_RESULT_LIMIT] = {false, by_limit},
     [RUNVESTOL_OUTPUT_TOO_SHORT] = {false, "the output is too short"},
+    [RUNVESTOL_LIMIT_OUT_OF_RANGE] = {false, "a limit is out of its range"},
 };
 
 static struct meaning meaning_of(const struct text *text, uint64_t number, size_t place)
@@ -42,6 +46,30 @@ static struct meaning meaning_of(const struct text *text, uint64_t number, size_
     if (number == RUNVESTOL_FORM_SYNTAX && place == text->length)
         return (struct meaning){true, "the text ends where a shape or reader has to go on"};
     return meanings[number];
+}
+
+/* Says what a refusal by a limit means, with the numbers of the set. */
+static void say_limit(FILE *to, uint64_t number, const struct limits *limits)
+{
+    char bytes[NUMBER_WORDS], value[NUMBER_WORDS], values[NUMBER_WORDS], nesting[NUMBER_WORDS], deep[NUMBER_WORDS], step[NUMBER_WORDS];
+    number_in_words(bytes, limits->bytes);
+    number_in_words(values, limits->values);
+    number_in_words(nesting, limits->nesting);
+    number_in_words(deep, limits->nesting + 1);
+    number_in_words(step, limits->steps + 1);
+    place_in_words(value, limits->values + 1);
+    if (number == RUNVESTOL_TEXT_TOO_LONG)
+        fprintf(to, "the text has over %s bytes", bytes);
+    if (number == RUNVESTOL_VALUE_LIMIT)
+        fprintf(to, "the value is the %s or nested %s deep", value, deep);
+    if (number == RUNVESTOL_FORM_LIMIT)
+        fprintf(to, "the form is the %s or nested %s deep", value, deep);
+    if (number == RUNVESTOL_SHAPE_LIMIT)
+        fprintf(to, "the shape to be written has over %s forms, %s levels or %s bytes", values, nesting, bytes);
+    if (number == RUNVESTOL_STEP_LIMIT)
+        fprintf(to, "the form would be step %s", step);
+    if (number == RUNVESTOL_RESULT_LIMIT)
+        fprintf(to, "the result has over %s values or %s levels", values, nesting);
 }
 
 /* A place in a text, for a person: its line's number and first byte, and the characters of the line before it. */
@@ -122,6 +150,8 @@ void refusal_show(FILE *to, const struct text *texts, int count, const struct ou
     fprintf(to, "%s:%zu:%zu: refused %" PRIu64 " at %" PRIu64 ": ", text->name, p.line, p.characters + 1, o->number, o->place);
     if (reason != NULL && reason(&words, texts, o))
         show_words(to, &words);
+    else if (meaning.words == by_limit)
+        say_limit(to, o->number, &o->limits);
     else
         fputs(meaning.words, to);
     putc('\n', to);

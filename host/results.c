@@ -12,6 +12,7 @@
 
 /* What all documents have in common. */
 struct run {
+    const struct limits *limits;
     struct text reader;
     struct output output;
     bool several, steps;
@@ -28,7 +29,7 @@ static enum status run_document(struct run *run, const struct text *document)
 {
     const struct text texts[] = {run->reader, *document};
     struct outcome o;
-    if (!call_with_room(call_run, texts, &run->output, &o))
+    if (!call_with_room(call_run, run->limits, texts, &run->output, &o))
         return fail("the output");
     if (o.number != RUNVESTOL_OK) {
         refusal_show(stderr, texts, 2, &o, reason_of_run);
@@ -51,9 +52,9 @@ static enum status run_file(struct run *run, const char *name)
     return status;
 }
 
-enum status run_documents(char **names, int count, bool steps)
+enum status run_documents(const struct limits *limits, char **names, int count, bool steps)
 {
-    struct run run = {.several = count > 2, .steps = steps};
+    struct run run = {.limits = limits, .several = count > 2, .steps = steps};
     if (!text_load(&run.reader, names[0]))
         return fail(names[0]);
     enum status worst = DONE;

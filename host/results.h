@@ -4,6 +4,7 @@
 
 #include <stdbool.h>
 
+#include "limits.h"
 #include "status.h"
 
 /*
@@ -11,6 +12,6 @@
  * where these are several. A document that is refused is shown and left out, and so is a file that cannot be read; where the
  * reader itself is refused no further document is taken. With steps, says how many each result took.
  */
-enum status run_documents(char **names, int count, bool steps);
+enum status run_documents(const struct limits *limits, char **names, int count, bool steps);
 
 #endif

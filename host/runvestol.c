@@ -4,6 +4,7 @@
 #include <string.h>
 
 #include "call.h"
+#include "limits.h"
 #include "reason.h"
 #include "refusal.h"
 #include "results.h"
@@ -12,8 +13,9 @@
 #include "status.h"
 #include "text.h"
 
-/* The files of a command line. */
+/* The files of a command line, and the set for all calls. */
 struct files {
+    struct limits limits;
     const char *from; /* of --from, or NULL */
     bool steps;       /* whether --steps is there */
     char **names;
@@ -64,6 +66,7 @@ static void usage(FILE *to)
 {
     for (int i = 0; i < COMMANDS; i++)
         fprintf(to, "%s runvestol %s %s\n", i == 0 ? "usage:" : "      ", commands[i].name, commands[i].operands);
+    fputs("       runvestol --limits " LIMITS_WORDS " ..., with any of these behind it\n", to);
     fputs("       runvestol --help | --version\n", to);
 }
 
@@ -92,6 +95,10 @@ static void help(FILE *to)
           "out too, and writes each result on a line of its own where there are several documents; with --steps it tells\n"
           "on standard error how many steps each took.\n"
           "\n"
+          "The four numbers of --limits are those that documents, shapes and readers are held to: bytes of a text, 1,024 to\n"
+          "16,384; values, or forms, 16 to 512; nesting, 4 to 32; and steps of a run, 256 to 65,536. Without it each is the\n"
+          "largest.\n"
+          "\n"
           "Status: 0 done, or yes; 1 refused, or no; 2 wrong usage, or a file that cannot be read or written.\n",
           to);
 }
@@ -116,12 +123,12 @@ static enum status show_verdict(const struct output *output, const struct outcom
     return write_verdict(o->yes);
 }
 
-static enum status operate(const struct command *command, const struct text *texts, int count)
+static enum status operate(const struct command *command, const struct limits *limits, const struct text *texts, int count)
 {
     struct output output = {NULL, 0};
     struct outcome o;
     enum status status = REFUSED;
-    if (!call_with_room(command->call, texts, &output, &o))
+    if (!call_with_room(command->call, limits, texts, &output, &o))
         status = fail("the output");
     else if (o.number == RUNVESTOL_OK)
         status = command->show(&output, &o);
@@ -137,7 +144,7 @@ static enum status run_once(const struct command *command, const struct files *f
     int loaded = 0;
     while (loaded < files->count && text_load(&texts[loaded], files->names[loaded]))
         loaded++;
-    enum status status = loaded < files->count ? fail(files->names[loaded]) : operate(command, texts, loaded);
+    enum status status = loaded < files->count ? fail(files->names[loaded]) : operate(command, &files->limits, texts, loaded);
     while (loaded > 0)
         text_free(&texts[--loaded]);
     return status;
@@ -148,16 +155,19 @@ static enum status run_once(const struct command *command, const struct files *f
 static enum status run_infer(const struct command *command, const struct files *files)
 {
     (void)command;
-    return infer_samples(files->from, files->names, files->count);
+    return infer_samples(&files->limits, files->from, files->names, files->count);
 }
 
 static enum status run_run(const struct command *command, const struct files *files)
 {
     (void)command;
-    return run_documents(files->names, files->count, files->steps);
+    return run_documents(&files->limits, files->names, files->count, files->steps);
 }
 
 /* ---- the words of the command line */
+
+/* the one option before the command */
+static const char limits_option[] = "--limits";
 
 static const char *const options[] = {[FROM] = "--from", [STEPS] = "--steps"};
 
@@ -184,6 +194,8 @@ static enum status run_option(const char *option)
         return misused("--from SHAPE stands right behind infer", NULL);
     if (strcmp(option, options[STEPS]) == 0)
         return misused("--steps stands right behind run", NULL);
+    if (strcmp(option, limits_option) == 0)
+        return misused("--limits " LIMITS_WORDS " stands before the command", NULL);
     if (strcmp(option, "--help") == 0)
         help(stdout);
     else if (strcmp(option, "--version") == 0)
@@ -220,7 +232,8 @@ static enum option option_given(const struct command *command, int count, char *
     return option != NO_OPTION && count >= least && strcmp(words[2], options[option]) == 0 ? option : NO_OPTION;
 }
 
-int main(int count, char **words)
+/* Runs what the words behind --limits say, the first being the program's name. */
+static enum status run_words(const struct limits *limits, int count, char **words)
 {
     const struct command *command = count < 2 ? NULL : command_named(words[1]);
     enum option given = option_given(command, count, words);
@@ -233,6 +246,25 @@ int main(int count, char **words)
     if (command == NULL)
         return misused("unknown command", words[1]);
     int first = given == FROM ? 4 : given == STEPS ? 3 : 2;
-    const struct files files = {given == FROM ? words[3] : NULL, given == STEPS, words + first, count - first};
+    const struct files files = {*limits, given == FROM ? words[3] : NULL, given == STEPS, words + first, count - first};
     return run_command(command, &files);
+}
+
+/* With a set of limits of its own, which stands before the command. */
+static enum status run_limited(int count, char **words)
+{
+    struct limits limits;
+    if (count < 3)
+        return misused("--limits is followed by four numbers, " LIMITS_WORDS, NULL);
+    if (limits_parse(&limits, words[2], stderr))
+        return run_words(&limits, count - 2, words + 2);
+    usage(stderr);
+    return FAILED;
+}
+
+int main(int count, char **words)
+{
+    if (count > 1 && strcmp(words[1], limits_option) == 0)
+        return run_limited(count, words);
+    return run_words(&largest_limits, count, words);
 }

@@ -22,11 +22,11 @@ static bool load_start(struct text *shape, const char *from)
 }
 
 /* Joins a sample into the shape. A shape that is written is never longer than a text may be. */
-static enum fate join_sample(struct text *shape, const struct text *sample)
+static enum fate join_sample(const struct limits *limits, struct text *shape, const struct text *sample)
 {
-    uint8_t written[RUNVESTOL_TEXT_BYTES];
+    uint8_t written[RUNVESTOL_MOST_BYTES];
     const struct text texts[] = {*shape, *sample};
-    struct outcome o = make_call(call_infer, texts, (struct output){written, sizeof written});
+    struct outcome o = make_call(call_infer, limits, texts, (struct output){written, sizeof written});
     if (o.number != RUNVESTOL_OK) {
         refusal_show(stderr, texts, 2, &o, NULL);
         return o.text == 1 ? SHAPE_REFUSED : LEFT_OUT;
@@ -37,19 +37,19 @@ static enum fate join_sample(struct text *shape, const struct text *sample)
     return UNREADABLE;
 }
 
-static enum fate join_file(struct text *shape, const char *name)
+static enum fate join_file(const struct limits *limits, struct text *shape, const char *name)
 {
     struct text sample;
     if (!text_load(&sample, name)) {
         fail(name);
         return UNREADABLE;
     }
-    enum fate fate = join_sample(shape, &sample);
+    enum fate fate = join_sample(limits, shape, &sample);
     text_free(&sample);
     return fate;
 }
 
-enum status infer_samples(const char *from, char **names, int count)
+enum status infer_samples(const struct limits *limits, const char *from, char **names, int count)
 {
     static const enum status statuses[] = {DONE, REFUSED, REFUSED, FAILED};
     struct text shape;
@@ -57,7 +57,7 @@ enum status infer_samples(const char *from, char **names, int count)
         return fail(from == NULL ? "the shape" : from);
     enum fate worst = JOINED;
     for (int i = 0; i < count && worst < SHAPE_REFUSED; i++) {
-        enum fate fate = join_file(&shape, names[i]);
+        enum fate fate = join_file(limits, &shape, names[i]);
         worst = fate > worst ? fate : worst;
     }
     enum status written = worst < SHAPE_REFUSED ? write_output(shape.bytes, shape.length) : DONE;

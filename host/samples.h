@@ -2,6 +2,7 @@
 #ifndef HOST_SAMPLES_H
 #define HOST_SAMPLES_H
 
+#include "limits.h"
 #include "status.h"
 
 /*
@@ -9,6 +10,6 @@
  * that is NULL. A sample that is refused is shown and left out. Where the shape is refused that it begins with, or a
  * file cannot be read, nothing is written.
  */
-enum status infer_samples(const char *from, char **names, int count);
+enum status infer_samples(const struct limits *limits, const char *from, char **names, int count);
 
 #endif

@@ -6,7 +6,7 @@
 #include "draft.h"
 #include "runvestol.h"
 
-enum { FORMS = 512, LEVELS = 32, BYTES_MOST = RUNVESTOL_TEXT_BYTES };
+enum { FORMS = 512, LEVELS = 32, BYTES_MOST = RUNVESTOL_MOST_BYTES };
 
 /* The texts under way, and what is to be written. */
 extern struct draft first, second, result;

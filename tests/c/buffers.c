@@ -44,7 +44,7 @@ static void for_each_operation(void (*run)(const struct operation *))
 /* Lends a call's texts, output and an answer buffer of a length, on a side. */
 static struct loan lend_call(const struct call *call, size_t answer, enum side side)
 {
-    struct loan loan = {.output = lend(NULL, call->output, side), .answer = lend(NULL, answer, side)};
+    struct loan loan = {.limits = largest, .output = lend(NULL, call->output, side), .answer = lend(NULL, answer, side)};
     for (int i = 0; i < text_count(call->operation); i++)
         loan.texts[i] = lend(call->texts[i].at, call->texts[i].length, side);
     return loan;
@@ -104,7 +104,7 @@ static void a_short_answer_is_refused_before_a_short_output(void)
 
 static void too_long_with_any_answer(const struct operation *operation)
 {
-    static uint8_t spaces[RUNVESTOL_TEXT_BYTES + 1];
+    static uint8_t spaces[RUNVESTOL_MOST_BYTES + 1];
     memset(spaces, ' ', sizeof spaces);
     for (int text = 0; text < text_count(operation); text++) {
         struct call call = right_call(operation);
@@ -171,6 +171,7 @@ static void expect_with_null(const struct operation *operation, const bool *null
 {
     const struct call call = right_call(operation);
     struct loan loan = {
+        .limits = largest,
         .output = null[2] ? lend_null() : lend(NULL, call.output, AMID_GUARDS),
         .answer = null[3] ? lend_null() : lend(NULL, RUNVESTOL_ANSWER_BYTES, AMID_GUARDS),
     };
@@ -240,6 +241,7 @@ static void at_every_distance(const struct operation *operation)
     const struct call call = right_call(operation);
     for (size_t shift = 0; shift < 8; shift++) {
         struct loan loan = {
+            .limits = largest,
             .texts = {shifted(texts[0], shift, call.texts[0]), shifted(texts[1], shift, call.texts[1])},
             .output = {.bytes = output + shift, .length = call.output},
             .answer = {.bytes = answer + shift, .length = RUNVESTOL_ANSWER_BYTES},

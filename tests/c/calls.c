@@ -7,42 +7,45 @@
 #include "check.h"
 #include "runvestol.h"
 
-/* a lent buffer as the two parameters that it is */
+const struct limits largest = {RUNVESTOL_LARGEST}, smallest = {RUNVESTOL_SMALLEST};
+
+/* a lent buffer as the two parameters that it is, and a set as its four */
 #define LEND(lent) (lent).bytes, (lent).length
+#define SET(limits) (limits).bytes, (limits).values, (limits).nesting, (limits).steps
 
 static uint64_t call_plain(const struct loan *loan)
 {
-    return runvestol_plain(LEND(loan->texts[0]), LEND(loan->output), LEND(loan->answer));
+    return runvestol_plain(SET(loan->limits), LEND(loan->texts[0]), LEND(loan->output), LEND(loan->answer));
 }
 
 static uint64_t call_infer(const struct loan *loan)
 {
-    return runvestol_infer(LEND(loan->texts[0]), LEND(loan->texts[1]), LEND(loan->output), LEND(loan->answer));
+    return runvestol_infer(SET(loan->limits), LEND(loan->texts[0]), LEND(loan->texts[1]), LEND(loan->output), LEND(loan->answer));
 }
 
 static uint64_t call_join(const struct loan *loan)
 {
-    return runvestol_join(LEND(loan->texts[0]), LEND(loan->texts[1]), LEND(loan->output), LEND(loan->answer));
+    return runvestol_join(SET(loan->limits), LEND(loan->texts[0]), LEND(loan->texts[1]), LEND(loan->output), LEND(loan->answer));
 }
 
 static uint64_t call_below(const struct loan *loan)
 {
-    return runvestol_below(LEND(loan->texts[0]), LEND(loan->texts[1]), LEND(loan->answer));
+    return runvestol_below(SET(loan->limits), LEND(loan->texts[0]), LEND(loan->texts[1]), LEND(loan->answer));
 }
 
 static uint64_t call_admits(const struct loan *loan)
 {
-    return runvestol_admits(LEND(loan->texts[0]), LEND(loan->texts[1]), LEND(loan->answer));
+    return runvestol_admits(SET(loan->limits), LEND(loan->texts[0]), LEND(loan->texts[1]), LEND(loan->answer));
 }
 
 static uint64_t call_check(const struct loan *loan)
 {
-    return runvestol_check(LEND(loan->texts[0]), LEND(loan->texts[1]), LEND(loan->output), LEND(loan->answer));
+    return runvestol_check(SET(loan->limits), LEND(loan->texts[0]), LEND(loan->texts[1]), LEND(loan->output), LEND(loan->answer));
 }
 
 static uint64_t call_run(const struct loan *loan)
 {
-    return runvestol_run(LEND(loan->texts[0]), LEND(loan->texts[1]), LEND(loan->output), LEND(loan->answer));
+    return runvestol_run(SET(loan->limits), LEND(loan->texts[0]), LEND(loan->texts[1]), LEND(loan->output), LEND(loan->answer));
 }
 
 const struct operation operations[] = {
@@ -102,7 +105,7 @@ void expect_outcome(const struct operation *operation, struct loan *loan, const 
 {
     uint8_t answer[RUNVESTOL_ANSWER_BYTES];
     put_answer(answer, expected);
-    size_t answered = expected->number == RUNVESTOL_ANSWER_TOO_SHORT ? 0 : sizeof answer;
+    size_t answered = loan->answer.length < sizeof answer ? 0 : sizeof answer;
     uint64_t number = operation->call(loan);
     bool is_answered = number == expected->number && changed_only(&loan->answer, answer, answered);
     EXPECT(is_answered);
@@ -124,17 +127,30 @@ void take_all_back(struct loan *loan)
     take_back(&loan->answer);
 }
 
-void expect_of_texts(const struct operation *operation, const struct bytes *texts, size_t output,
-                     const struct outcome *expected)
+void expect_with(const struct limits *limits, const struct operation *operation, const struct bytes *texts, size_t output,
+                 size_t answer, const struct outcome *expected)
 {
     for (enum side side = AMID_GUARDS; side < SIDES; side++) {
         struct loan loan = {
+            .limits = *limits,
             .output = lend(NULL, output, side),
-            .answer = lend(NULL, RUNVESTOL_ANSWER_BYTES, side),
+            .answer = lend(NULL, answer, side),
         };
         for (int i = 0; i < text_count(operation); i++)
             loan.texts[i] = lend(texts[i].at, texts[i].length, side);
         expect_outcome(operation, &loan, expected);
         take_all_back(&loan);
     }
+}
+
+void expect_at(const struct limits *limits, const struct operation *operation, const struct bytes *texts, size_t output,
+               const struct outcome *expected)
+{
+    expect_with(limits, operation, texts, output, RUNVESTOL_ANSWER_BYTES, expected);
+}
+
+void expect_of_texts(const struct operation *operation, const struct bytes *texts, size_t output,
+                     const struct outcome *expected)
+{
+    expect_at(&largest, operation, texts, output, expected);
 }

@@ -4,8 +4,16 @@
 
 #include "lent.h"
 
-/* What is lent to a call; one without a second text or an output leaves that alone. */
+/* The set that a call is made with. */
+struct limits {
+    uint64_t bytes, values, nesting, steps;
+};
+
+extern const struct limits largest, smallest;
+
+/* What is handed to a call; one without a second text or an output leaves that alone. */
 struct loan {
+    struct limits limits;
     struct lent texts[2], output, answer;
 };
 
@@ -48,7 +56,15 @@ struct outcome {
 /* Expects that outcome of the call, with every byte kept that it does not write. */
 void expect_outcome(const struct operation *operation, struct loan *loan, const struct outcome *expected);
 
-/* Expects it of texts with an output of a length, each buffer once on every side, the answer buffer of 40 bytes. */
+/* Expects it of texts with an output and an answer buffer of some lengths, each buffer once on every side. */
+void expect_with(const struct limits *limits, const struct operation *operation, const struct bytes *texts, size_t output,
+                 size_t answer, const struct outcome *expected);
+
+/* With an answer buffer of 40 bytes. */
+void expect_at(const struct limits *limits, const struct operation *operation, const struct bytes *texts, size_t output,
+               const struct outcome *expected);
+
+/* At the largest set. */
 void expect_of_texts(const struct operation *operation, const struct bytes *texts, size_t output,
                      const struct outcome *expected);
 

@@ -43,6 +43,7 @@ static uint64_t make(const char *operation, struct bytes text_1, struct bytes te
 {
     uint8_t answer[RUNVESTOL_ANSWER_BYTES];
     const struct loan loan = {
+        .limits = largest,
         .texts = {{.bytes = (uint8_t *)text_1.at, .length = text_1.length},
                   {.bytes = (uint8_t *)text_2.at, .length = text_2.length}},
         .output = {.bytes = to->bytes, .length = room},
@@ -87,7 +88,7 @@ static uint64_t take_sample(struct chain *chain, struct bytes sample, size_t roo
 static void take_all(struct chain *chain, const int *order)
 {
     for (int i = 0; i < SAMPLES; i++)
-        EXPECT(take_sample(chain, samples[order[i]], RUNVESTOL_TEXT_BYTES) == RUNVESTOL_OK);
+        EXPECT(take_sample(chain, samples[order[i]], RUNVESTOL_MOST_BYTES) == RUNVESTOL_OK);
 }
 
 /* ---- every order */
@@ -131,9 +132,9 @@ static void expect_reached_past_refusals(const int *order)
 {
     struct chain chain = begin_chain();
     for (int i = 0; i < SAMPLES; i++) {
-        EXPECT(take_sample(&chain, refused_samples[order[i] % REFUSED_SAMPLES], RUNVESTOL_TEXT_BYTES) > RUNVESTOL_OK);
+        EXPECT(take_sample(&chain, refused_samples[order[i] % REFUSED_SAMPLES], RUNVESTOL_MOST_BYTES) > RUNVESTOL_OK);
         EXPECT(take_sample(&chain, samples[order[i]], 10) == RUNVESTOL_OUTPUT_TOO_SHORT);
-        EXPECT(take_sample(&chain, samples[order[i]], RUNVESTOL_TEXT_BYTES) == RUNVESTOL_OK);
+        EXPECT(take_sample(&chain, samples[order[i]], RUNVESTOL_MOST_BYTES) == RUNVESTOL_OK);
     }
     EXPECT(same_bytes(drafted(chain.shape), reached));
 }
@@ -157,7 +158,7 @@ static void a_second_round_of_the_samples_changes_nothing(void)
 /* The shape of a sample. */
 static struct bytes shape_of(int sample, struct draft *to)
 {
-    EXPECT(make("infer", bytes_of("(shape)"), samples[sample], RUNVESTOL_TEXT_BYTES, to) == RUNVESTOL_OK);
+    EXPECT(make("infer", bytes_of("(shape)"), samples[sample], RUNVESTOL_MOST_BYTES, to) == RUNVESTOL_OK);
     return drafted(to);
 }
 
@@ -166,10 +167,10 @@ static void infer_is_the_join_with_the_samples_shape(void)
     for (int i = 0; i < SAMPLES; i++) {
         for (int j = 0; j < SAMPLES; j++) {
             struct bytes a = shape_of(i, &drafts[0]), b = shape_of(j, &drafts[1]);
-            EXPECT(make("infer", a, samples[j], RUNVESTOL_TEXT_BYTES, &drafts[2]) == RUNVESTOL_OK);
-            EXPECT(make("join", a, b, RUNVESTOL_TEXT_BYTES, &drafts[3]) == RUNVESTOL_OK);
+            EXPECT(make("infer", a, samples[j], RUNVESTOL_MOST_BYTES, &drafts[2]) == RUNVESTOL_OK);
+            EXPECT(make("join", a, b, RUNVESTOL_MOST_BYTES, &drafts[3]) == RUNVESTOL_OK);
             EXPECT(same_bytes(drafted(&drafts[2]), drafted(&drafts[3])));
-            EXPECT(make("join", b, a, RUNVESTOL_TEXT_BYTES, &drafts[3]) == RUNVESTOL_OK);
+            EXPECT(make("join", b, a, RUNVESTOL_MOST_BYTES, &drafts[3]) == RUNVESTOL_OK);
             EXPECT(same_bytes(drafted(&drafts[2]), drafted(&drafts[3])));
         }
     }

@@ -1,4 +1,5 @@
-/* tests SEED FILE.tsv...: runs the suites and the vector files through the header. Last line `N passed, M failed`. */
+/* tests SEED [FILE.tsv LEFT-OUT]...: runs the suites and the vector files through the header, of each of which so many rows are
+   left out. Last line `N passed, M failed`. */
 #include <stdio.h>
 #include <stdlib.h>
 
@@ -8,8 +9,8 @@
 
 int main(int count, char **words)
 {
-    if (count < 3) {
-        fputs("usage: tests SEED FILE.tsv...\n", stderr);
+    if (count < 4 || count % 2 != 0) {
+        fputs("usage: tests SEED [FILE.tsv LEFT-OUT]...\n", stderr);
         return 2;
     }
     catch_walls();
@@ -24,8 +25,9 @@ int main(int count, char **words)
     reader_limits_suite();
     run_limits_suite();
     tiers_suite();
+    sets_suite();
     stack_suite();
-    for (int i = 2; i < count; i++)
-        run_vectors(words[i]);
+    for (int i = 2; i < count; i += 2)
+        run_vectors(words[i], atoi(words[i + 1]));
     return tally();
 }

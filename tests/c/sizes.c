@@ -9,7 +9,7 @@
 #include "runvestol.h"
 #include "suites.h"
 
-enum { LIMIT = RUNVESTOL_TEXT_BYTES, MILLIONS = 5000000 };
+enum { LIMIT = RUNVESTOL_MOST_BYTES, MILLIONS = 5000000 };
 
 static uint8_t *filled(size_t length, uint8_t byte)
 {

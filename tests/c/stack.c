@@ -15,10 +15,11 @@
 
 /* what a thread has on its stack besides: its start, its control block, and frames of the test */
 enum { THREAD_BYTES = 128 * 1024 };
-enum { PAINT = 0xA5, DEPTH = 32 };
+enum { PAINT = 0xA5 };
 
-/* The call under way, its texts, and the deepest that was seen of its operation. */
+/* The call under way, its set and texts, and the deepest that was seen of its operation. */
 static const struct operation *operation;
+static struct limits limits;
 static struct draft texts[2];
 static size_t deepest;
 
@@ -31,22 +32,22 @@ static bool is_list(const char *pattern, size_t level)
 
 static void put_document(struct draft *to, const char *pattern, const char *innermost)
 {
-    for (size_t i = 0; i + 1 < DEPTH; i++)
+    for (size_t i = 0; i + 1 < limits.nesting; i++)
         put(to, is_list(pattern, i) ? "[1, " : "{\"\\u0061\": 1, \"name\\n\": ");
     put(to, innermost);
-    for (size_t i = DEPTH - 1; i-- > 0;)
+    for (size_t i = limits.nesting - 1; i-- > 0;)
         put(to, is_list(pattern, i) ? " ]" : " }");
 }
 
 /* The shape of such a document, so that a call goes down both together. */
 static void put_shape(struct draft *to, const char *pattern, const char *innermost)
 {
-    for (size_t i = 0; i + 1 < DEPTH; i++) {
+    for (size_t i = 0; i + 1 < limits.nesting; i++) {
         put(to, i > 0 && is_list(pattern, i - 1) ? "(shape int " : "(shape ");
         put(to, is_list(pattern, i) ? "list " : "rec (member \"\\u0061\" (shape int)) (member \"name\\n\" ");
     }
     put(to, innermost);
-    for (size_t i = DEPTH - 1; i-- > 0;)
+    for (size_t i = limits.nesting - 1; i-- > 0;)
         put(to, is_list(pattern, i) ? " )" : " ) )");
 }
 
@@ -54,27 +55,29 @@ static const char *const patterns[] = {"[", "{", "[{", "{[", "[[{", "{{["};
 
 enum { PATTERNS = sizeof patterns / sizeof *patterns };
 
-/* What each pattern puts around a reader's innermost form, level by level; the first makes one place. The levels leave room
-   for the forms within one. With the last of the second text's values each goes with the next pattern's, which it goes down. */
+/* What each pattern puts around a reader's innermost form, level by level, how many levels of nesting that takes each time, and
+   how many times are left out, for the forms within one; the first makes one place. With the last of the second text's values
+   each goes with the next pattern's, which it goes down. */
 static const struct {
     const char *open, *close;
-    size_t levels;
+    size_t takes, less;
 } wrappers[PATTERNS] = {
-    {"(field \"name\\n\" ", ")", DEPTH - 2},
-    {"(when null (field \"name\\n\" (it 0)) (none) ", ")", DEPTH - 2},
-    {"(pack \"\\u0061\" (no) \"name\\n\" ", ")", DEPTH - 1},
-    {"(when rec (it 0) ", " (keep (it 0)))", DEPTH - 2},
-    {"(if ", " (yes) (no))", DEPTH - 1},
-    {"(each (it 0) (when list (it 0) ", " (none)))", DEPTH / 2 - 1},
+    {"(field \"name\\n\" ", ")", 1, 2},
+    {"(when null (field \"name\\n\" (it 0)) (none) ", ")", 1, 2},
+    {"(pack \"\\u0061\" (no) \"name\\n\" ", ")", 1, 1},
+    {"(when rec (it 0) ", " (keep (it 0)))", 1, 2},
+    {"(if ", " (yes) (no))", 1, 1},
+    {"(each (it 0) (when list (it 0) ", " (none)))", 2, 1},
 };
 
 static void put_reader(struct draft *to, size_t pattern, const char *innermost)
 {
+    size_t levels = limits.nesting / wrappers[pattern].takes - wrappers[pattern].less;
     bool is_place = pattern == 0;
     put(to, is_place ? "(keep " : "");
-    put_times(to, wrappers[pattern].open, wrappers[pattern].levels);
+    put_times(to, wrappers[pattern].open, levels);
     put(to, is_place ? "(it 0)" : innermost);
-    put_times(to, wrappers[pattern].close, wrappers[pattern].levels);
+    put_times(to, wrappers[pattern].close, levels);
     put(to, is_place ? ")" : "");
 }
 
@@ -102,13 +105,22 @@ static void put_text(int text, size_t pattern, size_t last)
         put_reader(&texts[text], pattern, innermost[kind][last]);
 }
 
-/* With the texts as they are, and as long as may be: a call may take less stack for short ones. */
+/* With spaces behind each text up to a length. */
+static void run_padded(void (*run)(void), size_t length)
+{
+    for (int i = 0; i < text_count(operation); i++)
+        put_times(&texts[i], " ", length - texts[i].length);
+    run();
+}
+
+/* With the texts as they are, and as long as may be: a call may take less stack for short ones. Those that are too long for a
+   small set are as long as others may be. */
 static void run_short_and_long(void (*run)(void))
 {
     run();
-    for (int i = 0; i < text_count(operation); i++)
-        put_times(&texts[i], " ", RUNVESTOL_TEXT_BYTES - texts[i].length);
-    run();
+    run_padded(run, limits.bytes);
+    if (limits.bytes < RUNVESTOL_MOST_BYTES)
+        run_padded(run, RUNVESTOL_MOST_BYTES);
 }
 
 /* Texts of one pattern, and of two, with every last value of the one beside every one of the other. */
@@ -129,7 +141,7 @@ static void for_each_deep_call(void (*run)(void))
 /* What a call leaves. */
 struct left {
     uint64_t number;
-    uint8_t output[RUNVESTOL_TEXT_BYTES], answer[RUNVESTOL_ANSWER_BYTES];
+    uint8_t output[RUNVESTOL_MOST_BYTES], answer[RUNVESTOL_ANSWER_BYTES];
 };
 
 struct place {
@@ -151,6 +163,7 @@ static struct lent lent_text(struct draft *draft)
 static void lend_all(struct left *left)
 {
     loan = (struct loan){
+        .limits = limits,
         .texts = {lent_text(&texts[0]), lent_text(&texts[1])},
         .output = {.bytes = left->output, .length = sizeof left->output},
         .answer = {.bytes = left->answer, .length = sizeof left->answer},
@@ -227,10 +240,27 @@ static void measure(void)
 static void a_call_takes_about_the_stack_that_the_header_says(void)
 {
     deepest = 0;
+    limits = largest;
     for_each_deep_call(measure);
     printf("the deepest stack of %s: %zu bytes; the header asks for %zu\n", operation->name, deepest, operation->stack);
     EXPECT(deepest <= operation->stack);
     EXPECT(2 * deepest >= operation->stack);
+}
+
+/* The most of all calls at the smallest set. */
+static void calls_take_about_the_stack_that_the_header_says_for_the_smallest_set(void)
+{
+    size_t most = 0;
+    limits = smallest;
+    for (size_t i = 0; i < operation_count; i++) {
+        operation = &operations[i];
+        deepest = 0;
+        for_each_deep_call(measure);
+        printf("the deepest stack of %s at the smallest set: %zu bytes\n", operation->name, deepest);
+        most = deepest > most ? deepest : most;
+    }
+    EXPECT(most <= RUNVESTOL_SMALLEST_STACK_BYTES);
+    EXPECT(2 * most >= RUNVESTOL_SMALLEST_STACK_BYTES);
 }
 
 static void call_with_little_stack(void)
@@ -251,6 +281,7 @@ static void call_with_little_stack(void)
 
 static void a_call_runs_on_a_thread_that_has_just_the_stack_that_the_header_asks_for(void)
 {
+    limits = largest;
     for_each_deep_call(call_with_little_stack);
 }
 
@@ -265,6 +296,7 @@ static void the_header_asks_for_the_most_of_all_calls(void)
 void stack_suite(void)
 {
     RUN(the_header_asks_for_the_most_of_all_calls);
+    RUN(calls_take_about_the_stack_that_the_header_says_for_the_smallest_set);
     for (size_t i = 0; i < operation_count; i++) {
         operation = &operations[i];
         RUN(a_call_takes_about_the_stack_that_the_header_says);

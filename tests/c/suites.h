@@ -12,6 +12,7 @@ void limits_suite(void);
 void reader_limits_suite(void);
 void run_limits_suite(void);
 void tiers_suite(void);
+void sets_suite(void);
 void stack_suite(void);
 
 #endif

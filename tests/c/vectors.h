@@ -2,8 +2,8 @@
 #ifndef VECTORS_H
 #define VECTORS_H
 
-/* Runs each row as a case. Rows with limits of their own are left out and counted on a line; a file of which no row is run
-   is a case that fails. */
-void run_vectors(const char *path);
+/* Runs each row as a case; one that cannot be read fails. Rows with a work slice that is too short are left out, each named on a
+   line. A further case has these be so many, and some row be run. */
+void run_vectors(const char *path, int left_out);
 
 #endif

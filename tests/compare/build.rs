@@ -48,6 +48,7 @@ fn parameter(text: &str) -> String {
         ("const uint8_t *", "*const u8"),
         ("uint8_t *", "*mut u8"),
         ("size_t ", "usize"),
+        ("uint64_t ", "u64"),
     ];
     let text = text.trim();
     let known = types

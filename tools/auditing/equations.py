@@ -1,8 +1,9 @@
 """The rule on public contracts: each is just the equations with the definition of its name, compared as text.
 
 Of `runvestol_X` the definition is `X-call` of crates/definitions/specs/Calls.antt, of `X` in operations it is `X-operation` of
-Operations.antt there. The definition's signature says what it takes: a source and limits, for which the contract has `read-json`
-and `standard`; then all parameters of the function, in order and by their names."""
+Operations.antt there. The definition's signature says what it takes: a source, for which the contract has `read-json`; limits, which
+stand before all other parameters, of a call as the four numbers of a set; then all other parameters of the function, in order and by
+their names."""
 import re
 
 from .contracts import CITED
@@ -11,11 +12,16 @@ from .functions import functions
 from .imports import uses
 from .sources import Source, sources
 
-# What a contract has where a signature asks for a source or for limits, and the file that it is from.
-HANDED = {"Source": "read-json", "Limits": "standard"}
-HOMES = {"read-json": "Json", "standard": "Limits"}
-# Where the published lengths of work slices are defined, and where they are evaluated at the paper's limits.
+# What a contract has where a signature asks for a source, what makes limits of four numbers, and the files of what a contract names.
+READS, MAKES = "read-json", "set-of"
+HOMES = {READS: "Json", MAKES: "Limits"}
+# The parameters that are the limits: of an operation, and of a call; and what stands for them in its contract.
+LIMITS = [("limits", "Limits")]
+SET = [(name, "u64") for name in ("bytes", "values", "nesting", "steps")]
+HANDED = f"({MAKES} {' '.join(name for name, _ in SET)})"
+# Where the published lengths of work slices are defined; and the sets that they are evaluated at, with the ending of the rows' names.
 SLICES = "WorkSlices"
+SETS = (("standard", ""), ("smallest", "-at-the-smallest"))
 EVALUATED = f"crates/{CITED}/specs/MoreSamples.antt"
 
 BYTES = {"&[u8]", "&mut [u8]"}
@@ -33,11 +39,11 @@ class Definition:
         *self.arguments, (_, self.result) = arguments(kind)
         self.there = bool(kind)
 
-    def handed(self):
-        """Takes what stands for a source and for limits off the front."""
-        words = []
-        while self.arguments and not self.arguments[0][0] and self.arguments[0][1] in HANDED:
-            words.append(HANDED[self.arguments.pop(0)[1]])
+    def handed(self, limits):
+        """Takes a source and limits off the front, and gives what stands for them."""
+        words, handed = [], {"Source": READS, "Limits": limits}
+        while self.arguments and not self.arguments[0][0] and self.arguments[0][1] in handed:
+            words.append(handed[self.arguments.pop(0)[1]])
         return words
 
     def rest(self):
@@ -63,8 +69,11 @@ def call(root, source, function):
         return
     if not function.exported or not re.search(r"#\[no_mangle\]\s*$", source.text[: function.at]):
         yield function.at, f'{function.name} is not marked #[no_mangle] pub extern "C"'
-    words = [definition.name, *definition.handed(), *map(at_entry, function.parameters)]
-    yield from fitting(function, function.parameters, definition, "Called")
+    others = function.parameters[len(SET) :]
+    yield from first(function, SET)
+    words = [definition.name, *definition.handed(HANDED), *map(at_entry, others)]
+    yield from limited(function, definition, HANDED in words)
+    yield from fitting(function, others, definition, "Called")
     yield from imported(source, function, definition, words)
     yield from stated(function, " ".join(words), {"number": ("r", ".number"), "answered": ("answer", ".answer"), "written": ("output", ".output")})
 
@@ -76,8 +85,9 @@ def operation(root, source, function):
         yield function.at, f"the public function {function.name} has no {function.name}-operation in {definition.file}"
         return
     work = [parameter for parameter in function.parameters if parameter.type == WORK]
-    others = [parameter for parameter in function.parameters if parameter.type != WORK]
-    words = [definition.name, *definition.handed()]
+    others = [parameter for parameter in function.parameters[len(LIMITS) :] if parameter.type != WORK]
+    yield from first(function, LIMITS)
+    words = [definition.name, *definition.handed("limits")]
     lengths, definition.arguments = definition.arguments[:1], definition.arguments[1:]
     if lengths != [(("published", "lent"), "List ℕ")]:
         yield function.at, f"{definition.name} does not take the published and the lent lengths of work slices first"
@@ -87,11 +97,25 @@ def operation(root, source, function):
     except ValueError as wrong:
         yield function.at, str(wrong)
         return
-    words += [listed(f"length {at_entry(parameter)}" for parameter in work), *definition.handed(), *map(at_entry, others)]
+    words += [listed(f"length {at_entry(parameter)}" for parameter in work), *definition.handed("limits"), *map(at_entry, others)]
+    yield from limited(function, definition, "limits" in words)
     yield from fitting(function, others, definition, "Done" if function.writes() else "Answer")
     yield from imported(source, function, definition, words)
     ends = {"answered": ("r", ".answer"), "written": ("output", ".output")}
     yield from stated(function, " ".join(words), ends if function.writes() else {"answered": ("r", "")})
+
+
+def first(function, limits):
+    """The limits stand before all other parameters."""
+    found = [(parameter.name, parameter.type) for parameter in function.parameters[: len(limits)]]
+    if found != limits:
+        yield function.at, f"{function.name} does not take {', '.join(f'{name}: {kind}' for name, kind in limits)} first"
+
+
+def limited(function, definition, takes):
+    """The definition goes by limits too: a contract that names none would hold at no set of the caller's."""
+    if not takes:
+        yield function.at, f"{definition.name} of {definition.file} takes no Limits"
 
 
 def at_entry(parameter):
@@ -104,29 +128,30 @@ def listed(words):
 
 
 def published(root, name, slices):
-    """The published lengths of an operation's work slices, as its contract has them: the definition of its name at the paper's
-    limits, which a row of the further samples evaluates to what the table of docs/WORK-SLICES.md prints."""
+    """The published lengths of an operation's work slices, as its contract has them: the definition of its name at the limits handed
+    over, which rows of the further samples evaluate at two sets to what the table of docs/WORK-SLICES.md prints."""
     rows = printed(root).get(name, [])
     if [row[0] for row in rows] != slices:
         told = ", ".join(row[0] for row in rows) or "none"
         raise ValueError(f"the work slices of {name} are {', '.join(slices) or 'none'}, and docs/WORK-SLICES.md prints {told}")
-    wanted = f"{name}-slices standard ≡ {listed(words for _, words in rows)[1:-1]}"
-    path = root / EVALUATED
-    kind = signature(Source(root, path), f"published-for-{name}") if path.is_file() else ""
-    if " ".join(kind.split()) != wanted:
-        raise ValueError(f"`published-for-{name}` of {EVALUATED} does not state {wanted}, as docs/WORK-SLICES.md prints")
-    return f"({name}-slices standard)"
+    for at, (limits, ending) in enumerate(SETS, 1):
+        wanted = f"{name}-slices {limits} ≡ {listed(row[at] for row in rows)[1:-1]}"
+        path, row = root / EVALUATED, f"published-for-{name}{ending}"
+        kind = signature(Source(root, path), row) if path.is_file() else ""
+        if " ".join(kind.split()) != wanted:
+            raise ValueError(f"`{row}` of {EVALUATED} does not state {wanted}, as docs/WORK-SLICES.md prints")
+    return f"({name}-slices limits)"
 
 
 def printed(root):
-    """The rows of the table of docs/WORK-SLICES.md: {operation: [(slice, words)]}."""
+    """The rows of the table of docs/WORK-SLICES.md: {operation: [(slice, words at the largest set, words at the smallest)]}."""
     path, found = root / "docs/WORK-SLICES.md", {}
     text = path.read_text(encoding="utf-8", errors="replace") if path.is_file() else ""
-    table = re.search(r"^\| Operation \| Slice \| Words \|.*\n((?:\|.*\n)*)", text, re.M)
+    table = re.search(r"^\| Operation \| Slice \| Words \| At the smallest set \|.*\n((?:\|.*\n)*)", text, re.M)
     for row in table[1].split("\n") if table else ():
         cells = [cell.strip() for cell in row.split("|")[1:-1]]
-        for name in re.findall(r"`([^`]+)`", cells[0]) if len(cells) > 2 else ():
-            found.setdefault(name, []).append((cells[1].strip("`"), cells[2].replace(",", "")))
+        for name in re.findall(r"`([^`]+)`", cells[0]) if len(cells) > 3 else ():
+            found.setdefault(name, []).append((cells[1].strip("`"), cells[2].replace(",", ""), cells[3].replace(",", "")))
     return found
 
 
@@ -144,7 +169,7 @@ def fitting(function, parameters, definition, result):
 def imported(source, function, definition, words):
     """The definition, the source and the limits are those of the crate of definitions, and nothing else of their name."""
     wanted = {definition.name: definition.file.rpartition("/")[2].removesuffix(".antt")}
-    wanted.update({word: HOMES[word] for word in words if word in HOMES})
+    wanted.update({word: HOMES[word] for word in re.findall(r"[^\s()]+", " ".join(words)) if word in HOMES})
     wanted.update({m[1]: SLICES for word in words if (m := re.match(r"\((\S+-slices) ", word))})
     brought = [(item.name, item.path) for _, _, items in uses(source) for item in items]
     for name, module in wanted.items():

@@ -4,7 +4,7 @@ ghost use mathlib.Core.List.{_++_};
 ghost use Prim.Native.Nat.{_+_, _≤_};
 ghost use lib.ListN.{length, take, drop};
 ghost use Rattle.definitions.specs.Operations.{refusal, said};
-ghost use Rattle.definitions.specs.Calls.{little-endian, answer-words};
+ghost use Rattle.definitions.specs.Calls.{little-endian, answer-words, answered};
 use definitions::Answer;
 
 // The answer of a refusal.
@@ -50,7 +50,7 @@ fn put_word(buffer: &mut [u8], at: usize, word: u64)
 }
 
 // Writes an answer's five words.
-pub fn put_answer(buffer: &mut [u8], answer: Answer)
+fn put_answer(buffer: &mut [u8], answer: Answer)
     requires { ⌜ 40 ≤ length (now buffer) ⌝ }
     ensures written { λ _. ⌜ now (buffer .exit) ≡ answer-words answer ++ drop 40 (now (buffer .entry)) ⌝ }
 {
@@ -59,4 +59,15 @@ pub fn put_answer(buffer: &mut [u8], answer: Answer)
     put_word(buffer, 16, answer.length as u64);
     put_word(buffer, 24, answer.steps as u64);
     put_word(buffer, 32, answer.yes as u64);
+}
+
+// Tells an answer as a C call does: its number is returned, and its words go into the buffer, unless that is too short.
+pub fn tell(buffer: &mut [u8], answer: Answer) -> u64
+    ensures number { λ r. ⌜ r ≡ answer .number ⌝ }
+    ensures written { λ _. ⌜ now (buffer .exit) ≡ answered (now (buffer .entry)) answer ⌝ }
+{
+    if 40 <= buffer.len() {
+        put_answer(buffer, answer);
+    }
+    answer.number // the other values are in the buffer
 }

@@ -22,7 +22,7 @@ use Rattle.definitions.specs.Operations
 use Rattle.definitions.specs.Calls
 
 unfoldable pub evaluate : Unit {0}
-unfolding Limits.standard Bytes.bytes Bytes.between Bytes.look Bytes.is Bytes.white-table Bytes.found Bytes.white Bytes.order Bytes.same Outcome._>>=_
+unfolding Limits.standard Limits.smallest Limits.in-range Bytes.bytes Bytes.between Bytes.look Bytes.is Bytes.white-table Bytes.found Bytes.white Bytes.order Bytes.same Outcome._>>=_
     Outcome.place Outcome.placed Utf8.head-table Utf8.encode Text.head-step Text.char-step Text.behind-tail Text.escape-table Text.escape-step Text.hex-table
     Text.digit-fits Text.pair-of Text.unicode Text.digit-step Text.text-step Number.is-int Number.most-coefficient Number.most-scale Number.no-digits
     Number.beyond Number.number-of Number.e-rows Number.int-rows Number.next Number.complete Number.shifted Number.extend Number.spelled Value.items-onto
@@ -48,7 +48,7 @@ unfolding Limits.standard Bytes.bytes Bytes.between Bytes.look Bytes.is Bytes.wh
     Checking.check-place Checking.check Checking.check-reader Running.gives Running.enter Running.stuck-unless Running.member-of Running.members-of
     Running.field-value Running.converted Running.items-of Running.int-value Running.truth Running.run-place Running.run-items Running.run Running.run-reader
     Operations.refusal Operations.output-short Operations.written Operations.said Operations._>>=_ Operations.source Operations.in-text Operations.judge-text
-    Operations.judge-both Operations.slices-short Operations.judge-work Operations.prelude Operations.shape-out Operations.result-out Operations.deliver
+    Operations.judge-both Operations.slices-short Operations.judge-work Operations.judge-limits Operations.prelude Operations.shape-out Operations.result-out Operations.deliver
     Operations.finish Operations.say Operations.plain-judged Operations.infer-judged Operations.join-judged Operations.below-judged Operations.admits-judged
     Operations.check-judged Operations.run-judged Operations.plain-operation Operations.infer-operation Operations.join-operation Operations.below-operation
     Operations.admits-operation Operations.check-operation Operations.run-operation Calls.little-endian Calls.as-word Calls.answer-words Calls.answered

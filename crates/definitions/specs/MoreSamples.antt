@@ -5,7 +5,9 @@ use mathlib.Core.Path.{_≡_, refl}
 use mathlib.Core.Bool.{true, false}
 use mathlib.Core.List.{List, [], _∷_, _++_}
 use lib.ListN.{replicate}
-use Rattle.definitions.specs.Limits.{standard}
+use Rattle.definitions.specs.declared.Limits.{Limits}
+use Rattle.definitions.specs.declared.Answer.{Answer}
+use Rattle.definitions.specs.Limits.{set, standard, smallest}
 use Rattle.definitions.specs.Bytes.{Bytes, bytes}
 use Rattle.definitions.specs.Outcome.{ok, refused}
 use Rattle.definitions.specs.Json.{read-json}
@@ -56,6 +58,95 @@ published-for-check = refl
 published-for-run : run-slices standard ≡ 1536 ∷ 1536 ∷ 1536 ∷ 32 ∷ 4927 ∷ []
 unfolding evaluate
 published-for-run = refl
+
+published-for-plain-at-the-smallest : plain-slices smallest ≡ 48 ∷ 143 ∷ []
+unfolding evaluate
+published-for-plain-at-the-smallest = refl
+
+published-for-infer-at-the-smallest : infer-slices smallest ≡ 32 ∷ 48 ∷ 271 ∷ []
+unfolding evaluate
+published-for-infer-at-the-smallest = refl
+
+published-for-admits-at-the-smallest : admits-slices smallest ≡ 32 ∷ 48 ∷ 271 ∷ []
+unfolding evaluate
+published-for-admits-at-the-smallest = refl
+
+published-for-join-at-the-smallest : join-slices smallest ≡ 32 ∷ 32 ∷ 256 ∷ []
+unfolding evaluate
+published-for-join-at-the-smallest = refl
+
+published-for-below-at-the-smallest : below-slices smallest ≡ 32 ∷ 32 ∷ 256 ∷ []
+unfolding evaluate
+published-for-below-at-the-smallest = refl
+
+published-for-check-at-the-smallest : check-slices smallest ≡ 48 ∷ 32 ∷ 32 ∷ 4 ∷ 266 ∷ []
+unfolding evaluate
+published-for-check-at-the-smallest = refl
+
+published-for-run-at-the-smallest : run-slices smallest ≡ 48 ∷ 48 ∷ 48 ∷ 4 ∷ 281 ∷ []
+unfolding evaluate
+published-for-run-at-the-smallest = refl
+
+-- ---- request Q-6: 18, "a limit outside its range, before 1"; each end is in range, one past it is not
+
+abbrev at-set : Limits → Answer
+at-set l = plain-operation read-json (plain-slices l) (0 ∷ []) l (bytes "1") [] .answer
+
+at-the-largest : at-set standard ≡ refusal 1 0 0
+unfolding evaluate
+at-the-largest = refl
+
+at-the-smallest : at-set smallest ≡ refusal 1 0 0
+unfolding evaluate
+at-the-smallest = refl
+
+few-bytes : at-set (set 1023 16 4 256) ≡ refusal 18 0 0
+unfolding evaluate
+few-bytes = refl
+
+many-bytes : at-set (set 16385 16 4 256) ≡ refusal 18 0 0
+unfolding evaluate
+many-bytes = refl
+
+few-values : at-set (set 1024 15 4 256) ≡ refusal 18 0 0
+unfolding evaluate
+few-values = refl
+
+many-values : at-set (set 1024 513 4 256) ≡ refusal 18 0 0
+unfolding evaluate
+many-values = refl
+
+flat : at-set (set 1024 16 3 256) ≡ refusal 18 0 0
+unfolding evaluate
+flat = refl
+
+deep : at-set (set 1024 16 33 256) ≡ refusal 18 0 0
+unfolding evaluate
+deep = refl
+
+few-steps-handed : at-set (set 1024 16 4 255) ≡ refusal 18 0 0
+unfolding evaluate
+few-steps-handed = refl
+
+many-steps-handed : at-set (set 1024 16 4 65537) ≡ refusal 18 0 0
+unfolding evaluate
+many-steps-handed = refl
+
+-- "judged as whole 64-bit numbers"
+beyond-a-word-of-32 : at-set (set 4294968320 16 4 256) ≡ refusal 18 0 0
+unfolding evaluate
+beyond-a-word-of-32 = refl
+
+-- in C an answer buffer under 40 bytes included: the number alone is told, and nothing is written
+out-of-range-call : plain-call read-json (set 1023 16 4 256) (bytes "1") (room 1) (room 39) ≡ record { number = 18; answer = room 39; output = room 1 }
+unfolding evaluate
+out-of-range-call = refl
+
+out-of-range-told
+    : plain-call read-json (set 1023 16 4 256) (bytes "1") (room 1) (room 41)
+    ≡ record { number = 18; answer = words 0 0 0 0 0 ++ room 1; output = room 1 }
+unfolding evaluate
+out-of-range-told = refl
 
 -- what short texts ask for; of an empty document 16 values, since 32 brackets that are open are 32 in as many bytes
 asked-by-nothing : for-document standard 0 ≡ 48 ∷ 15 ∷ []

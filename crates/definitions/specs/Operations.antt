@@ -11,7 +11,7 @@ use Rattle.definitions.specs.declared.Limits.{Limits}
 use Rattle.definitions.specs.declared.Answer.{Answer}
 use Rattle.definitions.specs.declared.Format.{Format}
 use Rattle.definitions.specs.declared.Format.the-variants.{Json}
-use Rattle.definitions.specs.Limits.{over}
+use Rattle.definitions.specs.Limits.{in-range, over}
 use Rattle.definitions.specs.Bytes.{Bytes}
 use Rattle.definitions.specs.Outcome.{Outcome, ok, refused}
 use Rattle.definitions.specs.Value.{Value, size, nesting}
@@ -101,9 +101,13 @@ slices-short (m ∷ ms) (n ∷ ns) = ltb n m || slices-short ms ns
 unfoldable pub judge-work : (published lent : List ℕ) → Judged (Unit {0})
 judge-work published lent = elim (slices-short published lent) [ true ↦ stopped (refusal 1 0 0) | false ↦ passed tt ]
 
--- the prelude, and then what is judged of the texts. One place for what goes before a text: 1 today
-unfoldable pub prelude : {A : Type 0} → (published lent : List ℕ) → Judged A → Judged A
-prelude published lent judged = judge-work published lent >>= λ w. judged
+-- refusal 18: "a limit outside its range, before 1"; of the whole set, whichever the operation reads
+unfoldable pub judge-limits : Limits → Judged (Unit {0})
+judge-limits l = elim (in-range l) [ true ↦ passed tt | false ↦ stopped (refusal 18 0 0) ]
+
+-- the prelude, and then what is judged of the texts. One place for what goes before a text: 18 and 1
+unfoldable pub prelude : {A : Type 0} → Limits → (published lent : List ℕ) → Judged A → Judged A
+prelude l published lent judged = judge-limits l >>= λ r. judge-work published lent >>= λ w. judged
 
 -- ---- what is to be written
 
@@ -192,24 +196,24 @@ run-judged source l reader document =
 -- ---- the seven operations on lent work slices
 
 unfoldable pub plain-operation : Source → (published lent : List ℕ) → Limits → (document output : Bytes) → Done
-plain-operation source published lent l document output = finish output (prelude published lent (plain-judged source l document))
+plain-operation source published lent l document output = finish output (prelude l published lent (plain-judged source l document))
 
 unfoldable pub infer-operation : Source → (published lent : List ℕ) → Limits → (shape document output : Bytes) → Done
 infer-operation source published lent l shape document output =
-    finish output (prelude published lent (infer-judged source l shape document))
+    finish output (prelude l published lent (infer-judged source l shape document))
 
 unfoldable pub join-operation : (published lent : List ℕ) → Limits → (first second output : Bytes) → Done
-join-operation published lent l first second output = finish output (prelude published lent (join-judged l first second))
+join-operation published lent l first second output = finish output (prelude l published lent (join-judged l first second))
 
 unfoldable pub below-operation : (published lent : List ℕ) → Limits → (first second : Bytes) → Answer
-below-operation published lent l first second = say (prelude published lent (below-judged l first second))
+below-operation published lent l first second = say (prelude l published lent (below-judged l first second))
 
 unfoldable pub admits-operation : Source → (published lent : List ℕ) → Limits → (shape document : Bytes) → Answer
-admits-operation source published lent l shape document = say (prelude published lent (admits-judged source l shape document))
+admits-operation source published lent l shape document = say (prelude l published lent (admits-judged source l shape document))
 
 unfoldable pub check-operation : (published lent : List ℕ) → Limits → (reader shape output : Bytes) → Done
-check-operation published lent l reader shape output = finish output (prelude published lent (check-judged l reader shape))
+check-operation published lent l reader shape output = finish output (prelude l published lent (check-judged l reader shape))
 
 unfoldable pub run-operation : Source → (published lent : List ℕ) → Limits → (reader document output : Bytes) → Done
 run-operation source published lent l reader document output =
-    finish output (prelude published lent (run-judged source l reader document))
+    finish output (prelude l published lent (run-judged source l reader document))

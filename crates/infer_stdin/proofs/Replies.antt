@@ -113,8 +113,8 @@ module _ (text document : Bytes) where
   unfolding infer-operation standard
   same out =
       ap (λ j. finish out j)
-      (prelude-long (infer-slices standard)
-      (length (replicate {A = ℕ} 1024 0) ∷ length (replicate {A = ℕ} 1536 0) ∷ length (replicate {A = ℕ} 4607 0) ∷ []) judged
+      (prelude-long standard (infer-slices standard)
+      (length (replicate {A = ℕ} 1024 0) ∷ length (replicate {A = ℕ} 1536 0) ∷ length (replicate {A = ℕ} 4607 0) ∷ []) judged refl
       (three-long 1024 1536 4607 _ _ _ (omega (arith, length-replicate {A = ℕ} 1024 0)) (omega (arith, length-replicate {A = ℕ} 1536 0))
       (omega (arith, length-replicate {A = ℕ} 4607 0))))
 

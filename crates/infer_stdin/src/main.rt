@@ -55,6 +55,7 @@ fn reply(document: &[u8], output: &mut [u8]) -> usize
     let mut nodes = [0u64; NODES];
     let mut pool = [0u64; POOL];
     let answer = operations::infer(
+        slices::STANDARD, // the largest set
         b"(shape)",
         document,
         output,

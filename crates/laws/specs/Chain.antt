@@ -7,7 +7,7 @@ use mathlib.Core.List.{List, [], _∷_, _++_, map}
 use lib.Dec.{eqb}
 use lib.ListN.{length, take, drop}
 use Rattle.definitions.specs.declared.Limits.{Limits}
-use Rattle.definitions.specs.Limits.{over}
+use Rattle.definitions.specs.Limits.{in-range, over}
 use Rattle.definitions.specs.Bytes.{Bytes, bytes}
 use Rattle.definitions.specs.Outcome.{ok, refused}
 use Rattle.definitions.specs.Value.{Value, size, nesting}
@@ -135,12 +135,9 @@ pub record Proper-source (source : Source) : Type 0 where
   pub names-once : (l : Limits) (document : Bytes) (v : Value) → source l document ≡ ok v → distinct v ≡ true
   pub names-in-UTF-8 : (l : Limits) (document : Bytes) (v : Value) → source l document ≡ ok v → Good-shape (shape-of v)
 
--- a set of limits in the ranges of request Q-6
-pub record In-range (l : Limits) : Type 0 where
-  pub bytes : (1024 ≤ l .bytes) × (l .bytes ≤ 16384)
-  pub values : (16 ≤ l .values) × (l .values ≤ 512)
-  pub nesting : (4 ≤ l .nesting) × (l .nesting ≤ 32)
-  pub steps : (256 ≤ l .steps) × (l .steps ≤ 65536)
+-- a set of limits that no operation refuses
+abbrev pub In-range : Limits → Type 0
+In-range l = in-range l ≡ true
 
 -- "Demand 3 is a single claim about the list and what follows it": of a list of infer calls with any samples and any lent
 -- buffers, where for-infer, for-check and for-run are the published lengths of the work slices

@@ -18,6 +18,7 @@ use Rattle.definitions.specs.Admits.{admits}
 use Rattle.definitions.specs.ShapeText.{read-shape, write-shape}
 use Rattle.definitions.specs.Evaluate.{evaluate}
 use Rattle.definitions.specs.Operations.{Source}
+use Rattle.laws.specs.LimitRanges.{bounds-of}
 use Rattle.laws.specs.Distinct.{distinct}
 use Rattle.laws.specs.Good.{Good-shape}
 use Rattle.laws.specs.OrderLaws.{below-refl, below-trans, below-antisym}
@@ -40,8 +41,9 @@ ok-same {A} {o} {a} {b} p q = ap (from a) (sym p ∙ q)
     from d (ok x) = x
     from d (refused n k) = d
 
--- t is the text of s, a well-formed shape within the limits
+-- t is the text of s, a well-formed shape within the limits, which are in range
 pub record Stands (l : Limits) (t : Bytes) (s : Shape) : Type 0 where
+  pub range : In-range l
   pub text : t ≡ write-shape s
   pub sorted : ascending s ≡ true
   pub good : Good-shape s
@@ -67,14 +69,15 @@ nothing-small = (refl, refl, refl)
 pub stands-start : (l : Limits) → In-range l → Stands l start nothing
 stands-start l r =
     record {
+      range = r;
       text = start-text;
       sorted = nothing-ascending;
       good = nothing-good;
       fits =
           let (f, d, b) = nothing-small in
-          let v : 16 ≤ l .values = r .values .0 in
-          let n : 4 ≤ l .nesting = r .nesting .0 in
-          let k : 1024 ≤ l .bytes = r .bytes .0 in
+          let v : 16 ≤ l .values = bounds-of r .values .0 in
+          let n : 4 ≤ l .nesting = bounds-of r .nesting .0 in
+          let k : 1024 ≤ l .bytes = bounds-of r .bytes .0 in
           fits-shape l nothing (omega (arith, f)) (omega (arith, d)) (omega (arith, b));
     }
 
@@ -129,6 +132,7 @@ module _ (source : Source) (proper : Proper-source source) (published : List ℕ
       → Stands l (left-by source published l c t) (join s (shape-of v))
   join-stands {c} {t} {s} {v} h a =
       record {
+        range = h .range;
         text = accepted-left source published l c t s v a .1;
         sorted = join-ascending s (shape-of v) (h .sorted) (shape-of-ascending v);
         good = join-good s (shape-of v) (h .good) (proper .names-in-UTF-8 l (c .sample) v (a .reads-sample .value));
@@ -203,7 +207,7 @@ module _ (source : Source) (proper : Proper-source source) (published : List ℕ
     where
       go : (b : Bool) → takes source published l c t ≡ b → Reaches (c ∷ cs) t s
       go true e =
-          let a = taken-accepted source published l proper c t (numbered-shape l t) e in
+          let a = taken-accepted source published l proper c t e in
           let a′ = same-shape h (a .2) in
           reaches-taken c cs t s (a .1) h a′ (rest (left-by source published l c t) (join s (shape-of (a .1))) (join-stands h a′))
       go false e =
@@ -229,6 +233,7 @@ module _ (source : Source) (proper : Proper-source source) (published : List ℕ
       let f = shape-fits l top (k .fits) in
       let w : length (write-shape (join s (shape-of v))) ≤ length (write-shape top) = write-mono _ top j (k .sorted) m in
       record {
+        range = h .range;
         work = long .work;
         short-text = stands-short h;
         reads-shape = stands-reads h;

@@ -7,6 +7,7 @@ use mathlib.Core.List.{List}
 use lib.Dec.{ltb}
 use lib.ListN.{length, take}
 use Rattle.definitions.specs.declared.Limits.{Limits}
+use Rattle.definitions.specs.Limits.{in-range}
 use Rattle.definitions.specs.Bytes.{Bytes}
 use Rattle.definitions.specs.Outcome.{Outcome, ok, refused}
 use Rattle.definitions.specs.Value.{Value}
@@ -33,6 +34,7 @@ use Rattle.laws.specs.Judging.{shape-out-passed}
 use Rattle.laws.specs.Judging.{shape-fits, result-over, result-out-over, result-out-fits, deliver-short, deliver-room, finish-zero}
 use Rattle.laws.specs.Judging.{finish-written, front}
 use Rattle.laws.specs.Numbered.{numbered-shape, numbered-reader, numbered-check-reader}
+use Rattle.laws.specs.Positives.{check-positive}
 use Rattle.laws.specs.Chain.{Reads, Ends, gives, short-work, out-of-steps, too-large, no-room, Passes, Proper-source}
 use Rattle.laws.specs.ChainReached.{Stands, stands-reads, ok-same}
 
@@ -41,17 +43,14 @@ module _ (published lent : List ℕ) (l : Limits) where
 
   -- what is judged of a check before its output
   abbrev checked : Bytes → Bytes → Judged Text-out
-  checked reader text = prelude published lent (check-judged l reader text)
+  checked reader text = prelude l published lent (check-judged l reader text)
 
   checked-positive : (reader text : Bytes) → Positive (checked reader text)
-  unfolding check-judged
-  checked-positive reader text =
-      prelude-positive published lent (check-judged l reader text)
-      (bind-positive _ _ (both-positive l read-reader reader read-shape text (numbered-reader l reader) (numbered-shape l text)) λ (r, s).
-      bind-positive _ _ (in-text-positive 1 (check-reader r s) (numbered-check-reader r s)) λ t. shape-out-positive l t)
+  checked-positive reader text = prelude-positive l published lent (check-judged l reader text) (check-positive l reader text)
 
   -- why a check gave 0
   pub record Passed (reader text output : Bytes) (r : Result) (s u : Shape) : Type 0 where
+    pub range : in-range l ≡ true
     pub work : slices-short published lent ≡ false
     pub short-reader : length reader ≤ l .bytes
     pub reads-reader : read-reader l reader ≡ ok r
@@ -68,7 +67,7 @@ module _ (published lent : List ℕ) (l : Limits) where
       → (r : Result) × (s : Shape) × (u : Shape) × Passed reader text output r s u
   unfolding check-operation check-judged
   checked-passed reader text output o e room =
-      let (w, f) = prelude-passed published lent (check-judged l reader text) o e in
+      let (d, w, f) = prelude-passed l published lent (check-judged l reader text) o e in
       let (r, s, p, k) = both-passed l read-reader reader read-shape text _ o f in
       let (u, g, h) = bind-passed (in-text 1 (check-reader r s)) _ o k in
       let (x, y) = shape-out-passed l u o h in (
@@ -76,6 +75,7 @@ module _ (published lent : List ℕ) (l : Limits) where
         s,
         u,
         record {
+          range = d;
           work = w;
           short-reader = p .first-short;
           reads-reader = p .first-read;
@@ -104,7 +104,7 @@ module _ (published lent : List ℕ) (l : Limits) where
 module _ (source : Source) (published lent : List ℕ) (l : Limits) where
   -- what is judged of a run before its output
   abbrev ran : Bytes → Bytes → Judged Text-out
-  ran reader document = prelude published lent (run-judged source l reader document)
+  ran reader document = prelude l published lent (run-judged source l reader document)
 
   -- what both texts come to
   abbrev run-then : Result → Value → Judged Text-out
@@ -116,7 +116,7 @@ module _ (source : Source) (published lent : List ℕ) (l : Limits) where
 
   module _
       (reader document output : Bytes) (r : Result) (v : Value) (u : Shape) (short-reader : length reader ≤ l .bytes)
-      (reads-reader : read-reader l reader ≡ ok r) (reads : Reads source l document v)
+      (reads-reader : read-reader l reader ≡ ok r) (reads : Reads source l document v) (range : in-range l ≡ true)
     where
       abbrev End : Done → Type 0
       End = Ends published lent l r v u output
@@ -125,7 +125,7 @@ module _ (source : Source) (published lent : List ℕ) (l : Limits) where
       ran-runs : slices-short published lent ≡ false → ran reader document ≡ run-then r v
       unfolding run-judged
       ran-runs e =
-          prelude-long published lent (run-judged source l reader document) e
+          prelude-long l published lent (run-judged source l reader document) range e
           ∙ bind-of _
           (both-read l read-reader reader source document r v short-reader reads-reader (reads .short-enough) (reads .value))
 
@@ -164,7 +164,9 @@ module _ (source : Source) (published lent : List ℕ) (l : Limits) where
         where
           go : (b : Bool) → slices-short published lent ≡ b → End (finish output (ran reader document))
           go true q =
-              subst (λ (m : Judged Text-out). End (finish output m)) (sym (prelude-short published lent (run-judged source l reader document) q)) (short-work q)
+              subst (λ (m : Judged Text-out). End (finish output m))
+              (sym (prelude-short l published lent (run-judged source l reader document) range q))
+              (short-work q)
           go false q = subst (λ (m : Judged Text-out). End (finish output m)) (sym (ran-runs q)) (ends-run q (run-reader r l v) refl h)
 
 -- ---- both
@@ -190,7 +192,7 @@ passes source proper for-check for-run l text s h reader output lent e =
           reads = p .reads-reader;
           ends =
               λ document output′ lent′ v d m.
-              run-ends source for-run lent′ l reader document output′ r v u (p .short-reader) (p .reads-reader) d
+              run-ends source for-run lent′ l reader document output′ r v u (p .short-reader) (p .reads-reader) d (p .range)
               (sound r l s v u (h .sorted) (proper .names-once l document v (d .value)) (reader-scoped l reader r (p .reads-reader))
               (reader-proper l reader r (p .reads-reader)) (p .checks) m);
         }

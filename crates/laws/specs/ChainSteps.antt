@@ -5,6 +5,7 @@ use mathlib.Core.Bool.{true, false}
 use mathlib.Core.List.{List, _++_}
 use lib.ListN.{length, take, drop}
 use Rattle.definitions.specs.declared.Limits.{Limits}
+use Rattle.definitions.specs.Limits.{in-range}
 use Rattle.definitions.specs.Bytes.{Bytes}
 use Rattle.definitions.specs.Outcome.{Outcome, ok, refused}
 use Rattle.definitions.specs.Value.{Value}
@@ -17,15 +18,17 @@ use Rattle.laws.specs.Tests.{eqb-eq, eq-eqb}
 use Rattle.laws.specs.Judging.{Numbered, Positive, bind-of, bind-positive, prelude-positive, both-positive, shape-out-positive, prelude-long}
 use Rattle.laws.specs.Judging.{prelude-passed, both-read, both-passed, shape-over, shape-out-passed, shape-out-fits, finish-zero}
 use Rattle.laws.specs.Judging.{finish-written, front}
+use Rattle.laws.specs.Positives.{source-numbered, infer-positive}
 use Rattle.laws.specs.Chain.{Call, infers, takes, left-by, Reads, Proper-source}
 
 module _ (source : Source) (published : List ℕ) (l : Limits) where
   -- what is judged of a call before its output
   abbrev judged : Call → Bytes → Judged Text-out
-  judged c t = prelude published (c .lent) (infer-judged source l t (c .sample))
+  judged c t = prelude l published (c .lent) (infer-judged source l t (c .sample))
 
   -- why a call was accepted: shape text and sample were read, and the join fits the limits and the output
   pub record Accepted (c : Call) (t : Bytes) (s : Shape) (v : Value) : Type 0 where
+    pub range : in-range l ≡ true
     pub work : slices-short published (c .lent) ≡ false
     pub short-text : length t ≤ l .bytes
     pub reads-shape : read-shape l t ≡ ok s
@@ -43,7 +46,7 @@ module _ (source : Source) (published : List ℕ) (l : Limits) where
       → judged c t ≡ passed (to-write (write-shape (join s (shape-of v))) 0)
   unfolding infer-judged
   judged-accepted c t s v a =
-      prelude-long published (c .lent) (infer-judged source l t (c .sample)) (a .work)
+      prelude-long l published (c .lent) (infer-judged source l t (c .sample)) (a .range) (a .work)
       ∙ bind-of _
       (both-read l read-shape t source (c .sample) s v (a .short-text) (a .reads-shape) (a .reads-sample .short-enough)
       (a .reads-sample .value))
@@ -88,12 +91,13 @@ module _ (source : Source) (published : List ℕ) (l : Limits) where
       → (s : Shape) × (v : Value) × Accepted c t s v
   unfolding infer-judged
   passed-accepted c t o e room =
-      let (w, f) = prelude-passed published (c .lent) (infer-judged source l t (c .sample)) o e in
+      let (r, w, f) = prelude-passed l published (c .lent) (infer-judged source l t (c .sample)) o e in
       let (s, v, p, g) = both-passed l read-shape t source (c .sample) _ o f in
       let (x, y) = shape-out-passed l (join s (shape-of v)) o g in (
         s,
         v,
         record {
+          range = r;
           work = w;
           short-text = p .first-short;
           reads-shape = p .first-read;
@@ -103,20 +107,9 @@ module _ (source : Source) (published : List ℕ) (l : Limits) where
         },
       )
 
-  source-numbered : Proper-source source → (d : Bytes) → Numbered (source l d)
-  source-numbered proper d = go (source l d) refl
-    where
-      go : (o : Outcome ℕ Value) → source l d ≡ o → Numbered o
-      go (ok v) e = tt
-      go (refused n p) e = proper .numbered l d n p e
-
-  judged-positive
-      : Proper-source source → (c : Call) (t : Bytes) → Numbered (read-shape l t) → Positive (judged c t)
-  unfolding infer-judged
-  judged-positive proper c t numbered =
-      prelude-positive published (c .lent) (infer-judged source l t (c .sample))
-      (bind-positive _ _ (both-positive l read-shape t source (c .sample) numbered (source-numbered proper (c .sample))) λ (s, v).
-      shape-out-positive l (join s (shape-of v)))
+  judged-positive : Proper-source source → (c : Call) (t : Bytes) → Positive (judged c t)
+  judged-positive proper c t =
+      prelude-positive l published (c .lent) (infer-judged source l t (c .sample)) (infer-positive source l (source-numbered proper l) t (c .sample))
 
   infers-number : (c : Call) (t : Bytes) → infers source published l c t .answer .number ≡ 0 → finish (c .output) (judged c t) .answer .number ≡ 0
   unfolding infers infer-operation
@@ -124,9 +117,9 @@ module _ (source : Source) (published : List ℕ) (l : Limits) where
 
   -- a call whose number is 0 was accepted for these reasons
   pub taken-accepted
-      : Proper-source source → (c : Call) (t : Bytes) → Numbered (read-shape l t)
+      : Proper-source source → (c : Call) (t : Bytes)
       → takes source published l c t ≡ true → (s : Shape) × (v : Value) × Accepted c t s v
   unfolding takes
-  taken-accepted proper c t numbered e =
-      let f = finish-zero (c .output) (judged c t) (judged-positive proper c t numbered) (infers-number c t (eqb-eq e)) in
+  taken-accepted proper c t e =
+      let f = finish-zero (c .output) (judged c t) (judged-positive proper c t) (infers-number c t (eqb-eq e)) in
       passed-accepted c t (f .0) (f .1) (f .2)

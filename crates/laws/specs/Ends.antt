@@ -4,10 +4,12 @@ use Prim.Native.Nat.{ℕ}
 use mathlib.Core.Path.{_≡_, refl, sym, ap, _∙_}
 use mathlib.Core.Bool.{Bool, true, false}
 use mathlib.Core.List.{List}
+use Rattle.definitions.specs.declared.Limits.{Limits}
 use Rattle.definitions.specs.declared.Answer.{Answer}
+use Rattle.definitions.specs.Limits.{in-range}
 use Rattle.definitions.specs.Bytes.{Bytes}
 use Rattle.definitions.specs.Operations.{Done, Judged, passed, stopped, _>>=_, refusal, Text-out, slices-short, prelude, finish, say}
-use Rattle.laws.specs.Judging.{bind-of, bind-stopped, prelude-short, prelude-long}
+use Rattle.laws.specs.Judging.{bind-of, bind-stopped, prelude-out, prelude-short, prelude-long}
 
 -- ---- with an output
 
@@ -37,14 +39,18 @@ module _ {A : Type 0} {m : Judged A} (out : Bytes) (f : A → Judged Text-out) w
   finishes-passed g c = finishes-as out (bind-of f g) c
 
 -- behind the prelude
-module _ (published lent : List ℕ) (out : Bytes) (j : Judged Text-out) {r : Answer} where
-  pub finishes-short : slices-short published lent ≡ true → r ≡ refusal 1 0 0 → Comes (finish out (prelude published lent j)) r out
-  finishes-short s e = stopped-keeps out e (prelude-short published lent j s)
+module _ (l : Limits) (published lent : List ℕ) (out : Bytes) (j : Judged Text-out) {r : Answer} where
+  pub finishes-out : in-range l ≡ false → r ≡ refusal 18 0 0 → Comes (finish out (prelude l published lent j)) r out
+  finishes-out h e = stopped-keeps out e (prelude-out l published lent j h)
 
-  pub finishes-long
-      : {out′ : Bytes} → slices-short published lent ≡ false → Comes (finish out j) r out′
-      → Comes (finish out (prelude published lent j)) r out′
-  finishes-long s c = finishes-as out (prelude-long published lent j s) c
+  module _ (h : in-range l ≡ true) where
+    pub finishes-short : slices-short published lent ≡ true → r ≡ refusal 1 0 0 → Comes (finish out (prelude l published lent j)) r out
+    finishes-short s e = stopped-keeps out e (prelude-short l published lent j h s)
+
+    pub finishes-long
+        : {out′ : Bytes} → slices-short published lent ≡ false → Comes (finish out j) r out′
+        → Comes (finish out (prelude l published lent j)) r out′
+    finishes-long s c = finishes-as out (prelude-long l published lent j h s) c
 
 -- ---- without an output
 
@@ -59,10 +65,15 @@ module _ {A : Type 0} {m : Judged A} (f : A → Judged Bool) where
   pub says-passed : {x : A} {r : Answer} → m ≡ passed x → r ≡ say (f x) → r ≡ say (m >>= f)
   says-passed g c = says-as (bind-of f g) c
 
-module _ (published lent : List ℕ) (j : Judged Bool) {r : Answer} where
-  pub says-short : slices-short published lent ≡ true → r ≡ refusal 1 0 0 → r ≡ say (prelude published lent j)
+module _ (l : Limits) (published lent : List ℕ) (j : Judged Bool) {r : Answer} where
+  pub says-out : in-range l ≡ false → r ≡ refusal 18 0 0 → r ≡ say (prelude l published lent j)
   unfolding say
-  says-short s e = says-as (prelude-short published lent j s) e
+  says-out h e = says-as (prelude-out l published lent j h) e
 
-  pub says-long : slices-short published lent ≡ false → r ≡ say j → r ≡ say (prelude published lent j)
-  says-long s c = says-as (prelude-long published lent j s) c
+  module _ (h : in-range l ≡ true) where
+    pub says-short : slices-short published lent ≡ true → r ≡ refusal 1 0 0 → r ≡ say (prelude l published lent j)
+    unfolding say
+    says-short s e = says-as (prelude-short l published lent j h s) e
+
+    pub says-long : slices-short published lent ≡ false → r ≡ say j → r ≡ say (prelude l published lent j)
+    says-long s c = says-as (prelude-long l published lent j h s) c

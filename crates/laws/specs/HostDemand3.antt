@@ -21,6 +21,7 @@ use Rattle.definitions.specs.Reader.{Result}
 use Rattle.definitions.specs.Running.{Ran, run-reader}
 use Rattle.definitions.specs.Operations.{Done, Source, refusal, output-short, written, check-operation}
 use Rattle.definitions.specs.Calls.{Called, answered, call, buffer-published, buffer-lent, infer-call, check-call, run-call}
+use Rattle.laws.specs.LimitRanges.{bounds-of}
 use Rattle.laws.specs.Judging.{shape-fits}
 use Rattle.laws.specs.Numbered.{numbered-shape}
 use Rattle.laws.specs.Chain.{Each, each-none, each-one, Reordered, Call, start, infers, takes, left-by, reached, accepted, Long-enough}
@@ -74,7 +75,7 @@ module _ (source : Source) (proper : Proper-source source) (l : Limits) (range :
       ap (word-at 2) (answer-as c t)
       ∙ length-read (c .answer) _ (length (write-shape (join s (shape-of v)))) (long-lent (c .answer) (a .work))
       (ap (λ (d : Done). d .answer) (infers-written source buffer-published l (as-operation c) t s v a))
-      (le-trans (shape-fits l (join s (shape-of v)) (a .fits) .2) (range .bytes .1))
+      (le-trans (shape-fits l (join s (shape-of v)) (a .fits) .2) (bounds-of range .bytes .1))
 
   handed-as
       : (c : Infer-call) (t : Bytes) (s : Shape) (v : Value) → Accepted source buffer-published l (as-operation c) t s v
@@ -99,7 +100,7 @@ module _ (source : Source) (proper : Proper-source source) (l : Limits) (range :
       go : (b : Bool) → accepts source l c t ≡ b → kept-text source l c t ≡ left-by source buffer-published l (as-operation c) t
       go true e =
           let e′ = sym (accepts-as c t) ∙ e in
-          let (s, v, a) = taken-accepted source buffer-published l proper (as-operation c) t (numbered-shape l t) e′ in
+          let (s, v, a) = taken-accepted source buffer-published l proper (as-operation c) t e′ in
           kept-taken c t e ∙ handed-as c t s v a ∙ sym (left-taken source buffer-published l (as-operation c) t e′)
       go false e =
           kept-refused c t e ∙ sym (refused-left source buffer-published l (as-operation c) t (sym (accepts-as c t) ∙ e))
@@ -187,7 +188,7 @@ module _ (source : Source) (l : Limits) (range : In-range l) where
   unfolding check-call call
   check-length reader text output answer r s u p =
       length-read answer _ (length (write-shape u)) (long-lent answer (p .work)) (p .answer)
-      (le-trans (shape-fits l u (p .fits) .2) (range .bytes .1))
+      (le-trans (shape-fits l u (p .fits) .2) (bounds-of range .bytes .1))
 
   passes-call
       : (shape : Shape) (reader text output answer : Bytes) → check-call l reader text output answer .number ≡ 0

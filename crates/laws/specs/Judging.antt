@@ -10,7 +10,7 @@ use lib.ListN.{length, take, drop}
 use lib.Seq.{take-append-seam}
 use Rattle.definitions.specs.declared.Limits.{Limits}
 use Rattle.definitions.specs.declared.Answer.{Answer}
-use Rattle.definitions.specs.Limits.{over}
+use Rattle.definitions.specs.Limits.{in-range, over}
 use Rattle.definitions.specs.Bytes.{Bytes}
 use Rattle.definitions.specs.Outcome.{Outcome, ok, refused}
 use Rattle.definitions.specs.Value.{Value, size, nesting}
@@ -19,7 +19,8 @@ use Rattle.definitions.specs.Shape.{Shape, forms, levels}
 use Rattle.definitions.specs.ShapeText.{write-shape}
 use Rattle.definitions.specs.Running.{Ran}
 use Rattle.definitions.specs.Operations.{Done, Judged, passed, stopped, _>>=_, refusal, output-short, written, Reading, in-text, judge-text}
-use Rattle.definitions.specs.Operations.{judge-both, slices-short, judge-work, prelude, Text-out, to-write, shape-out, result-out, deliver, finish}
+use Rattle.definitions.specs.Operations.{judge-both, slices-short, judge-work, judge-limits, prelude, Text-out, to-write, shape-out}
+use Rattle.definitions.specs.Operations.{result-out, deliver, finish}
 use Rattle.laws.specs.Tests.{ltb-le, le-ltb}
 use Rattle.laws.specs.Bools.{or-false-left, or-false-right}
 
@@ -50,6 +51,14 @@ unfolding refusal
 refusal-positive n k p h = h
 
 -- ---- each cause, both ways
+
+pub limits-out : (l : Limits) → in-range l ≡ false → judge-limits l ≡ stopped (refusal 18 0 0)
+unfolding judge-limits
+limits-out l e = rw (e, judge-limits)
+
+pub limits-in : (l : Limits) → in-range l ≡ true → judge-limits l ≡ passed tt
+unfolding judge-limits
+limits-in l e = rw (e, judge-limits)
 
 pub work-short : (published lent : List ℕ) → slices-short published lent ≡ true → judge-work published lent ≡ stopped (refusal 1 0 0)
 unfolding judge-work
@@ -150,14 +159,26 @@ bind-stopped f e = ap (λ m. m >>= f) e
 
 -- ---- the prelude, and two texts: what is judged of them passed for these reasons
 
-module _ {A : Type 0} (published lent : List ℕ) (j : Judged A) where
-  pub prelude-short : slices-short published lent ≡ true → prelude published lent j ≡ stopped (refusal 1 0 0)
+module _ {A : Type 0} (l : Limits) (published lent : List ℕ) (j : Judged A) where
+  pub prelude-out : in-range l ≡ false → prelude l published lent j ≡ stopped (refusal 18 0 0)
   unfolding prelude
-  prelude-short e = bind-stopped _ (work-short published lent e)
+  prelude-out r = bind-stopped _ (limits-out l r)
 
-  pub prelude-long : slices-short published lent ≡ false → prelude published lent j ≡ j
-  unfolding prelude
-  prelude-long e = bind-of _ (work-long published lent e)
+  module _ (r : in-range l ≡ true) where
+    pub prelude-short : slices-short published lent ≡ true → prelude l published lent j ≡ stopped (refusal 1 0 0)
+    unfolding prelude
+    prelude-short e = bind-of _ (limits-in l r) ∙ bind-stopped _ (work-short published lent e)
+
+    pub prelude-long : slices-short published lent ≡ false → prelude l published lent j ≡ j
+    unfolding prelude
+    prelude-long e = bind-of _ (limits-in l r) ∙ bind-of _ (work-long published lent e)
+
+pub limits-passed : (l : Limits) {u : Unit {0}} → judge-limits l ≡ passed u → in-range l ≡ true
+limits-passed l {u} e = go (in-range l) refl
+  where
+    go : (b : Bool) → in-range l ≡ b → in-range l ≡ true
+    go true q = q
+    go false q = stopped-not-passed (sym (limits-out l q) ∙ e)
 
 pub work-passed : (published lent : List ℕ) {u : Unit {0}} → judge-work published lent ≡ passed u → slices-short published lent ≡ false
 work-passed published lent {u} e = go (slices-short published lent) refl
@@ -167,11 +188,12 @@ work-passed published lent {u} e = go (slices-short published lent) refl
     go false q = q
 
 pub prelude-passed
-    : {A : Type 0} (published lent : List ℕ) (j : Judged A) (a : A) → prelude published lent j ≡ passed a
-    → (slices-short published lent ≡ false) × (j ≡ passed a)
+    : {A : Type 0} (l : Limits) (published lent : List ℕ) (j : Judged A) (a : A) → prelude l published lent j ≡ passed a
+    → (in-range l ≡ true) × (slices-short published lent ≡ false) × (j ≡ passed a)
 unfolding prelude
-prelude-passed published lent j a e =
-    let (w, f, g) = bind-passed (judge-work published lent) (λ w. j) a e in (work-passed published lent f, g)
+prelude-passed l published lent j a e =
+    let (r, d, h) = bind-passed (judge-limits l) (λ r. judge-work published lent >>= λ w. j) a e in
+    let (w, f, g) = bind-passed (judge-work published lent) (λ w. j) a h in (limits-passed l d, work-passed published lent f, g)
 
 pub in-text-passed : {A : Type 0} (k : ℕ) (o : Outcome ℕ A) (a : A) → in-text k o ≡ passed a → o ≡ ok a
 unfolding in-text
@@ -276,9 +298,17 @@ text-positive k l read s h = go (ltb (l .bytes) (length s)) refl
     go true q = rw (text-long k l read s q) (refusal-positive 2 k 0 (lit< tt))
     go false q = rw (text-short k l read s q) (in-text-positive k (read l s) h)
 
-pub prelude-positive : {A : Type 0} (published lent : List ℕ) (j : Judged A) → Positive j → Positive (prelude published lent j)
+limits-positive : (l : Limits) → Positive (judge-limits l)
+limits-positive l = go (in-range l) refl
+  where
+    go : (b : Bool) → in-range l ≡ b → Positive (judge-limits l)
+    go true q = rw (limits-in l q) tt
+    go false q = rw (limits-out l q) (refusal-positive 18 0 0 (lit< tt))
+
+pub prelude-positive : {A : Type 0} (l : Limits) (published lent : List ℕ) (j : Judged A) → Positive j → Positive (prelude l published lent j)
 unfolding prelude
-prelude-positive published lent j h = bind-positive _ _ (work-positive published lent) λ w. h
+prelude-positive l published lent j h =
+    bind-positive _ _ (limits-positive l) λ r. bind-positive _ _ (work-positive published lent) λ w. h
 
 pub both-positive
     : {A B : Type 0} (l : Limits) (read : Reading A) (s : Bytes) (read′ : Reading B) (t : Bytes) → Numbered (read l s)

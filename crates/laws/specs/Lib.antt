@@ -1,5 +1,6 @@
 pub mod Bools
 pub mod Tests
+pub mod LimitRanges
 pub mod Distinct
 pub mod Rfc3629
 pub mod Tree
@@ -141,3 +142,6 @@ pub mod Counterexamples
 pub mod HostCounterexamples
 pub mod Statements
 pub mod Theorems
+pub mod Larger
+pub mod Positives
+pub mod LargerLimits

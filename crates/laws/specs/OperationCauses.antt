@@ -1,6 +1,7 @@
--- The causes of each operation's refusals, a constructor for each row of document 01's table, with number, text, place and length; the
--- order in which they are judged; and what it is to be refused with the first of them. Rows 3 to 6 are the constructors of `Cause`, 7 and 8
--- those of `Shape-cause` and `Reader-cause`, 9 and 10 those of `Refuses`, 12 and 13 those of `Halts`. Assumes nothing.
+-- The causes of each operation's refusals, a constructor for each row of document 01's table and for 18 of request Q-6, with number,
+-- text, place and length; the order in which they are judged; and what it is to be refused with the first of them. Rows 3 to 6 are the
+-- constructors of `Cause`, 7 and 8 those of `Shape-cause` and `Reader-cause`, 9 and 10 those of `Refuses`, 12 and 13 those of `Halts`.
+-- Assumes nothing.
 use Prim.Native.Nat.{ℕ, _<_}
 use mathlib.Core.Path.{_≡_}
 use mathlib.Core.Bool.{true, false, _||_}
@@ -9,7 +10,7 @@ use lib.Dec.{ltb}
 use lib.ListN.{length}
 use Rattle.definitions.specs.declared.Limits.{Limits}
 use Rattle.definitions.specs.declared.Answer.{Answer}
-use Rattle.definitions.specs.Limits.{over}
+use Rattle.definitions.specs.Limits.{in-range, over}
 use Rattle.definitions.specs.Bytes.{Bytes}
 use Rattle.definitions.specs.Outcome.{ok}
 use Rattle.definitions.specs.Value.{Value, size, nesting}
@@ -36,37 +37,41 @@ pub record Refusal : Type 0 where
   pub needed : ℕ
 
 -- "Cause, in the order judged"; "Within one text 2 goes first ..; all of text 1's causes up to 8 go before any of text 2's."
--- The stages: the work slices; of text 1 its length, then what is in it; of text 2 the same; 9, 10, 12 and 13; 11 and 14; 15
+-- The stages: the set of limits; the work slices; of text 1 its length, then what is in it; of text 2 the same; 9, 10, 12 and 13; 11 and 14; 15
+
+-- request Q-6, 18: "a limit outside its range, before 1"; "zeros if they have no place"
+abbrev pub at-limits : Refusal
+at-limits = record { stage = 0; number = 18; text = 0; place = 0; needed = 0 }
 
 -- row 1: "zeros"
 abbrev pub at-slices : Refusal
-at-slices = record { stage = 0; number = 1; text = 0; place = 0; needed = 0 }
+at-slices = record { stage = 1; number = 1; text = 0; place = 0; needed = 0 }
 
 -- row 2: "text"
 abbrev pub over-long-1 : Refusal
-over-long-1 = record { stage = 1; number = 2; text = 1; place = 0; needed = 0 }
+over-long-1 = record { stage = 2; number = 2; text = 1; place = 0; needed = 0 }
 
 abbrev pub over-long-2 : Refusal
-over-long-2 = record { stage = 3; number = 2; text = 2; place = 0; needed = 0 }
+over-long-2 = record { stage = 4; number = 2; text = 2; place = 0; needed = 0 }
 
 -- rows 3 to 8: "text, place"
 abbrev pub in-text-1 : (number place : ℕ) → Refusal
-in-text-1 n p = record { stage = 2; number = n; text = 1; place = p; needed = 0 }
+in-text-1 n p = record { stage = 3; number = n; text = 1; place = p; needed = 0 }
 
 abbrev pub in-text-2 : (number place : ℕ) → Refusal
-in-text-2 n p = record { stage = 4; number = n; text = 2; place = p; needed = 0 }
+in-text-2 n p = record { stage = 5; number = n; text = 2; place = p; needed = 0 }
 
 -- rows 9, 10, 12 and 13: "text, place of form"; the reader is text 1
 abbrev pub at-form : (number place : ℕ) → Refusal
-at-form n p = record { stage = 5; number = n; text = 1; place = p; needed = 0 }
+at-form n p = record { stage = 6; number = n; text = 1; place = p; needed = 0 }
 
 -- rows 11 and 14: "zeros"; they "are judged for the whole result"
 abbrev pub too-large : (number : ℕ) → Refusal
-too-large n = record { stage = 6; number = n; text = 0; place = 0; needed = 0 }
+too-large n = record { stage = 7; number = n; text = 0; place = 0; needed = 0 }
 
 -- row 15: "length needed"
 abbrev pub no-room : (needed : ℕ) → Refusal
-no-room k = record { stage = 7; number = 15; text = 0; place = 0; needed = k }
+no-room k = record { stage = 8; number = 15; text = 0; place = 0; needed = k }
 
 -- the answer of a refusal: "unused fields are 0 or false"
 abbrev pub answer-of : Refusal → Answer
@@ -94,6 +99,10 @@ abbrev pub Result-over : Limits → Value → Type 0
 Result-over l v = over l (size v) (nesting v) ≡ true
 
 module _ (published lent : List ℕ) (l : Limits) where
+  -- "a limit outside its range"
+  abbrev Out-of-range : Type 0
+  Out-of-range = in-range l ≡ false
+
   -- "a work slice shorter than published"
   abbrev Slices-short : Type 0
   Slices-short = slices-short published lent ≡ true
@@ -103,6 +112,7 @@ module _ (published lent : List ℕ) (l : Limits) where
   Over-long s = l .bytes < length s
 
   pub data Plain-cause (document output : Bytes) : Refusal → Type 0 where
+    row-18 : Out-of-range → Plain-cause document output at-limits
     row-1 : Slices-short → Plain-cause document output at-slices
     row-2 : Over-long document → Plain-cause document output over-long-1
     rows-3-to-6 : {n p : ℕ} → Cause l document n p → Plain-cause document output (in-text-1 n p)
@@ -111,6 +121,7 @@ module _ (published lent : List ℕ) (l : Limits) where
         → Plain-cause document output (no-room (length (plain v)))
 
   pub data Infer-cause (first document output : Bytes) : Refusal → Type 0 where
+    row-18 : Out-of-range → Infer-cause first document output at-limits
     row-1 : Slices-short → Infer-cause first document output at-slices
     row-2-first : Over-long first → Infer-cause first document output over-long-1
     rows-7-and-8 : {n p : ℕ} → Shape-cause l first n p → Infer-cause first document output (in-text-1 n p)
@@ -125,6 +136,7 @@ module _ (published lent : List ℕ) (l : Limits) where
         → Infer-cause first document output (no-room (length (write-shape (join s (shape-of v)))))
 
   pub data Join-cause (first second output : Bytes) : Refusal → Type 0 where
+    row-18 : Out-of-range → Join-cause first second output at-limits
     row-1 : Slices-short → Join-cause first second output at-slices
     row-2-first : Over-long first → Join-cause first second output over-long-1
     rows-7-and-8-first : {n p : ℕ} → Shape-cause l first n p → Join-cause first second output (in-text-1 n p)
@@ -138,6 +150,7 @@ module _ (published lent : List ℕ) (l : Limits) where
         → Join-cause first second output (no-room (length (write-shape (join s t))))
 
   pub data Below-cause (first second : Bytes) : Refusal → Type 0 where
+    row-18 : Out-of-range → Below-cause first second at-limits
     row-1 : Slices-short → Below-cause first second at-slices
     row-2-first : Over-long first → Below-cause first second over-long-1
     rows-7-and-8-first : {n p : ℕ} → Shape-cause l first n p → Below-cause first second (in-text-1 n p)
@@ -145,6 +158,7 @@ module _ (published lent : List ℕ) (l : Limits) where
     rows-7-and-8-second : {n p : ℕ} → Shape-cause l second n p → Below-cause first second (in-text-2 n p)
 
   pub data Admits-cause (first document : Bytes) : Refusal → Type 0 where
+    row-18 : Out-of-range → Admits-cause first document at-limits
     row-1 : Slices-short → Admits-cause first document at-slices
     row-2-first : Over-long first → Admits-cause first document over-long-1
     rows-7-and-8 : {n p : ℕ} → Shape-cause l first n p → Admits-cause first document (in-text-1 n p)
@@ -152,6 +166,7 @@ module _ (published lent : List ℕ) (l : Limits) where
     rows-3-to-6 : {n p : ℕ} → Cause l document n p → Admits-cause first document (in-text-2 n p)
 
   pub data Check-cause (reader second output : Bytes) : Refusal → Type 0 where
+    row-18 : Out-of-range → Check-cause reader second output at-limits
     row-1 : Slices-short → Check-cause reader second output at-slices
     row-2-first : Over-long reader → Check-cause reader second output over-long-1
     rows-7-and-8-first : {n p : ℕ} → Reader-cause l reader n p → Check-cause reader second output (in-text-1 n p)
@@ -168,6 +183,7 @@ module _ (published lent : List ℕ) (l : Limits) where
         → length output < length (write-shape u) → Check-cause reader second output (no-room (length (write-shape u)))
 
   pub data Run-cause (reader document output : Bytes) : Refusal → Type 0 where
+    row-18 : Out-of-range → Run-cause reader document output at-limits
     row-1 : Slices-short → Run-cause reader document output at-slices
     row-2-first : Over-long reader → Run-cause reader document output over-long-1
     rows-7-and-8 : {n p : ℕ} → Reader-cause l reader n p → Run-cause reader document output (in-text-1 n p)

@@ -23,7 +23,7 @@ use Rattle.laws.specs.FormCauses.{Shape-cause}
 use Rattle.laws.specs.ChainReached.{ok-same}
 use Rattle.laws.specs.OperationCauses.{Refusal, Refused-with-the-first}
 use Rattle.laws.specs.OperationCauses.{by-none, Plain-cause, Infer-cause, Join-cause, Below-cause, Admits-cause}
-use Rattle.laws.specs.OperationCausesFirst.{first-by, Cause-of, slices, long-1, in-1, long-2}
+use Rattle.laws.specs.OperationCausesFirst.{first-by, Cause-of, limits, slices, long-1, in-1, long-2}
 use Rattle.laws.specs.OperationCausesFirst.{in-2, later, two-texts, No-cause, one-text}
 use Rattle.laws.specs.OperationCausesParts.{exact-json, exact-shape, answer-in, finishing}
 use Rattle.laws.specs.OperationCausesParts.{saying, End-cause, end-late, end-first, Shape-end, shape-first}
@@ -36,8 +36,8 @@ module _ (published lent : List ℕ) (l : Limits) where
     abbrev After-plain : Refusal → Type 0
     After-plain k = (v : Value) × (read-json l document ≡ ok v) × End-cause 15 false (plain v) output k
 
-    plain-late : (k : Refusal) → After-plain k → 5 ≤ k .stage
-    plain-late k (v, e, c) = let n : 5 < k .stage = end-late k c in omega arith
+    plain-late : (k : Refusal) → After-plain k → 6 ≤ k .stage
+    plain-late k (v, e, c) = let n : 6 < k .stage = end-late k c in omega arith
 
     plain-end : (v : Value) → read-json l document ≡ ok v → Refused-with-the-first After-plain (answer-in output (passed (to-write (plain v) 0)))
     plain-end v e =
@@ -49,6 +49,7 @@ module _ (published lent : List ℕ) (l : Limits) where
     Plain-causes = Cause-of published lent l (Cause l document) document No-cause [] After-plain
 
     plain-to : (k : Refusal) → Plain-causes k → Plain-cause published lent l document output k
+    plain-to k (limits e) = Plain-cause.row-18 e
     plain-to k (slices e) = Plain-cause.row-1 e
     plain-to k (long-1 e) = Plain-cause.row-2 e
     plain-to k (in-1 c) = Plain-cause.rows-3-to-6 c
@@ -58,6 +59,7 @@ module _ (published lent : List ℕ) (l : Limits) where
     plain-to k (later (v, e, short c)) = Plain-cause.row-15 e c
 
     plain-from : (k : Refusal) → Plain-cause published lent l document output k → Plain-causes k
+    plain-from k (Plain-cause.row-18 e) = limits e
     plain-from k (Plain-cause.row-1 e) = slices e
     plain-from k (Plain-cause.row-2 e) = long-1 e
     plain-from k (Plain-cause.rows-3-to-6 c) = in-1 c
@@ -77,8 +79,8 @@ module _ (published lent : List ℕ) (l : Limits) where
     After-infer k =
         (s : Shape) × (v : Value) × (read-shape l first ≡ ok s) × (read-json l document ≡ ok v) × Shape-end l output (join s (shape-of v)) k
 
-    infer-late : (k : Refusal) → After-infer k → 5 ≤ k .stage
-    infer-late k (s, v, e, f, c) = let n : 5 < k .stage = end-late k c in omega arith
+    infer-late : (k : Refusal) → After-infer k → 6 ≤ k .stage
+    infer-late k (s, v, e, f, c) = let n : 6 < k .stage = end-late k c in omega arith
 
     infer-end
         : (s : Shape) (v : Value) → read-shape l first ≡ ok s → read-json l document ≡ ok v
@@ -94,6 +96,7 @@ module _ (published lent : List ℕ) (l : Limits) where
     Infer-causes = Cause-of published lent l (Shape-cause l first) first (Cause l document) document After-infer
 
     infer-to : (k : Refusal) → Infer-causes k → Infer-cause published lent l first document output k
+    infer-to k (limits e) = Infer-cause.row-18 e
     infer-to k (slices e) = Infer-cause.row-1 e
     infer-to k (long-1 e) = Infer-cause.row-2-first e
     infer-to k (in-1 c) = Infer-cause.rows-7-and-8 c
@@ -103,6 +106,7 @@ module _ (published lent : List ℕ) (l : Limits) where
     infer-to k (later (s, v, e, f, short c)) = Infer-cause.row-15 e f c
 
     infer-from : (k : Refusal) → Infer-cause published lent l first document output k → Infer-causes k
+    infer-from k (Infer-cause.row-18 e) = limits e
     infer-from k (Infer-cause.row-1 e) = slices e
     infer-from k (Infer-cause.row-2-first e) = long-1 e
     infer-from k (Infer-cause.rows-7-and-8 c) = in-1 c
@@ -128,8 +132,8 @@ module _ (published lent : List ℕ) (l : Limits) where
     After-join k =
         (s : Shape) × (t : Shape) × (read-shape l first ≡ ok s) × (read-shape l second ≡ ok t) × Shape-end l output (join s t) k
 
-    join-late : (k : Refusal) → After-join k → 5 ≤ k .stage
-    join-late k (s, t, e, f, c) = let n : 5 < k .stage = end-late k c in omega arith
+    join-late : (k : Refusal) → After-join k → 6 ≤ k .stage
+    join-late k (s, t, e, f, c) = let n : 6 < k .stage = end-late k c in omega arith
 
     join-end
         : (s t : Shape) → read-shape l first ≡ ok s → read-shape l second ≡ ok t
@@ -145,6 +149,7 @@ module _ (published lent : List ℕ) (l : Limits) where
     Join-causes = Cause-of published lent l (Shape-cause l first) first (Shape-cause l second) second After-join
 
     join-to : (k : Refusal) → Join-causes k → Join-cause published lent l first second output k
+    join-to k (limits e) = Join-cause.row-18 e
     join-to k (slices e) = Join-cause.row-1 e
     join-to k (long-1 e) = Join-cause.row-2-first e
     join-to k (in-1 c) = Join-cause.rows-7-and-8-first c
@@ -154,6 +159,7 @@ module _ (published lent : List ℕ) (l : Limits) where
     join-to k (later (s, t, e, f, short c)) = Join-cause.row-15 e f c
 
     join-from : (k : Refusal) → Join-cause published lent l first second output k → Join-causes k
+    join-from k (Join-cause.row-18 e) = limits e
     join-from k (Join-cause.row-1 e) = slices e
     join-from k (Join-cause.row-2-first e) = long-1 e
     join-from k (Join-cause.rows-7-and-8-first c) = in-1 c
@@ -177,7 +183,7 @@ module _ (published lent : List ℕ) (l : Limits) where
   abbrev After-none : Refusal → Type 0
   After-none k = ⊥
 
-  none-late : (k : Refusal) → After-none k → 5 ≤ k .stage
+  none-late : (k : Refusal) → After-none k → 6 ≤ k .stage
   none-late k e = absurd e
 
   said-first : (y : Bool) → Refused-with-the-first After-none (say (passed y))
@@ -189,6 +195,7 @@ module _ (published lent : List ℕ) (l : Limits) where
     Below-causes = Cause-of published lent l (Shape-cause l first) first (Shape-cause l second) second After-none
 
     below-to : (k : Refusal) → Below-causes k → Below-cause published lent l first second k
+    below-to k (limits e) = Below-cause.row-18 e
     below-to k (slices e) = Below-cause.row-1 e
     below-to k (long-1 e) = Below-cause.row-2-first e
     below-to k (in-1 c) = Below-cause.rows-7-and-8-first c
@@ -197,6 +204,7 @@ module _ (published lent : List ℕ) (l : Limits) where
     below-to k (later e) = absurd e
 
     below-from : (k : Refusal) → Below-cause published lent l first second k → Below-causes k
+    below-from k (Below-cause.row-18 e) = limits e
     below-from k (Below-cause.row-1 e) = slices e
     below-from k (Below-cause.row-2-first e) = long-1 e
     below-from k (Below-cause.rows-7-and-8-first c) = in-1 c
@@ -215,6 +223,7 @@ module _ (published lent : List ℕ) (l : Limits) where
     Admits-causes = Cause-of published lent l (Shape-cause l first) first (Cause l document) document After-none
 
     admits-to : (k : Refusal) → Admits-causes k → Admits-cause published lent l first document k
+    admits-to k (limits e) = Admits-cause.row-18 e
     admits-to k (slices e) = Admits-cause.row-1 e
     admits-to k (long-1 e) = Admits-cause.row-2-first e
     admits-to k (in-1 c) = Admits-cause.rows-7-and-8 c
@@ -223,6 +232,7 @@ module _ (published lent : List ℕ) (l : Limits) where
     admits-to k (later e) = absurd e
 
     admits-from : (k : Refusal) → Admits-cause published lent l first document k → Admits-causes k
+    admits-from k (Admits-cause.row-18 e) = limits e
     admits-from k (Admits-cause.row-1 e) = slices e
     admits-from k (Admits-cause.row-2-first e) = long-1 e
     admits-from k (Admits-cause.rows-7-and-8 c) = in-1 c

@@ -36,19 +36,13 @@ use Rattle.laws.specs.CheckRules.{Refuses}
 use Rattle.laws.specs.CheckRulesHold.{refuses-exactly}
 use Rattle.laws.specs.RunRules.{Halts}
 use Rattle.laws.specs.RunRulesHold.{halts-exactly}
+use Rattle.laws.specs.Positives.{numbered-json, numbered-run}
 use Rattle.laws.specs.OperationCauses.{Refusal, too-large, no-room, Before, earlier-stage, same-stage, Refused-with-the-first}
 use Rattle.laws.specs.OperationCauses.{by-cause, by-none}
 use Rattle.laws.specs.OperationCausesFirst.{Exact}
 use Rattle.laws.specs.OperationCausesFirst.{Ending}
 
 -- ---- the parts
-
-pub numbered-json : (l : Limits) (s : Bytes) → Numbered (read-json l s)
-numbered-json l s = go (read-json l s) refl
-  where
-    go : (o : Outcome ℕ Value) → read-json l s ≡ o → Numbered o
-    go (ok v) e = tt
-    go (refused n p) e = cause-numbered (json-refused l s n p e)
 
 pub exact-json : (l : Limits) (s : Bytes) → Exact (read-json l s) (Cause l s)
 exact-json l s = record { caused = json-refused l s; least = json-cause-refuses l s; numbered = numbered-json l s }
@@ -66,17 +60,6 @@ exact-check r s =
       least = λ n p c. (n, p, refuses-exactly r s n p .1 c, same-place refl (omega arith));
       numbered = numbered-check-reader r s;
     }
-
-pub numbered-run : (r : Result) (l : Limits) (v : Value) → Numbered (run-reader r l v)
-numbered-run r l v = go (run-reader r l v) refl
-  where
-    halt : {n : ℕ} → (n ≡ 12) ⊎ (n ≡ 13) → 0 < n
-    halt (inl e) = omega arith
-    halt (inr e) = omega arith
-
-    go : (o : Outcome ℕ (Ran Value)) → run-reader r l v ≡ o → Numbered o
-    go (ok x) e = tt
-    go (refused n p) e = halt (run-refusals r l v n p e)
 
 pub exact-run : (r : Result) (l : Limits) (v : Value) → Exact (run-reader r l v) (Halts l (v ∷ []) 0 r)
 exact-run r l v =
@@ -104,7 +87,7 @@ pub data End-cause (n : ℕ) (large : Bool) (b output : Bytes) : Refusal → Typ
   over : large ≡ true → End-cause n large b output (too-large n)
   short : length output < length b → End-cause n large b output (no-room (length b))
 
-pub end-late : {n : ℕ} {large : Bool} {b output : Bytes} (k : Refusal) → End-cause n large b output k → 5 < k .stage
+pub end-late : {n : ℕ} {large : Bool} {b output : Bytes} (k : Refusal) → End-cause n large b output k → 6 < k .stage
 end-late k (over e) = lit< tt
 end-late k (short e) = lit< tt
 

@@ -28,7 +28,7 @@ use Rattle.laws.specs.ChainReached.{ok-same}
 use Rattle.laws.specs.OperationCauses.{Refusal, at-form, Before, earlier-stage, same-stage, Refused-with-the-first}
 use Rattle.laws.specs.OperationCauses.{by-cause}
 use Rattle.laws.specs.OperationCauses.{Check-cause, Run-cause}
-use Rattle.laws.specs.OperationCausesFirst.{exact-free, exact-first, exact-number, first-by, Cause-of, slices, long-1, in-1, long-2}
+use Rattle.laws.specs.OperationCausesFirst.{exact-free, exact-first, exact-number, first-by, Cause-of, limits, slices, long-1, in-1, long-2}
 use Rattle.laws.specs.OperationCausesFirst.{in-2, later, two-texts}
 use Rattle.laws.specs.OperationCausesParts.{exact-json, exact-shape, exact-reader, exact-check, exact-run, answer-in, finishing}
 use Rattle.laws.specs.OperationCausesParts.{end-late, Shape-end, shape-first, Result-end, result-first}
@@ -43,9 +43,9 @@ module _ (published lent : List ℕ) (l : Limits) where
       refuses : {n p : ℕ} → Refuses (s ∷ []) r n p → Check-end r s (at-form n p)
       gives : {u : Shape} {k : Refusal} → Checks (s ∷ []) r u → Shape-end l output u k → Check-end r s k
 
-    check-end-late : {r : Result} {s : Shape} (k : Refusal) → Check-end r s k → 5 ≤ k .stage
+    check-end-late : {r : Result} {s : Shape} (k : Refusal) → Check-end r s k → 6 ≤ k .stage
     check-end-late k (refuses c) = lit≤ tt
-    check-end-late k (gives d c) = let n : 5 < k .stage = end-late k c in omega arith
+    check-end-late k (gives d c) = let n : 6 < k .stage = end-late k c in omega arith
 
     check-end
         : (r : Result) (s : Shape)
@@ -72,7 +72,7 @@ module _ (published lent : List ℕ) (l : Limits) where
     After-check k =
         (r : Result) × (s : Shape) × (read-reader l reader ≡ ok r) × (read-shape l second ≡ ok s) × Check-end output r s k
 
-    after-check-late : (k : Refusal) → After-check k → 5 ≤ k .stage
+    after-check-late : (k : Refusal) → After-check k → 6 ≤ k .stage
     after-check-late k (r, s, e, f, c) = check-end-late output k c
 
     after-check
@@ -88,6 +88,7 @@ module _ (published lent : List ℕ) (l : Limits) where
     Check-causes = Cause-of published lent l (Reader-cause l reader) reader (Shape-cause l second) second After-check
 
     check-to : (k : Refusal) → Check-causes k → Check-cause published lent l reader second output k
+    check-to k (limits e) = Check-cause.row-18 e
     check-to k (slices e) = Check-cause.row-1 e
     check-to k (long-1 e) = Check-cause.row-2-first e
     check-to k (in-1 c) = Check-cause.rows-7-and-8-first c
@@ -98,6 +99,7 @@ module _ (published lent : List ℕ) (l : Limits) where
     check-to k (later (r, s, e, f, gives d (short c))) = Check-cause.row-15 e f d c
 
     check-from : (k : Refusal) → Check-cause published lent l reader second output k → Check-causes k
+    check-from k (Check-cause.row-18 e) = limits e
     check-from k (Check-cause.row-1 e) = slices e
     check-from k (Check-cause.row-2-first e) = long-1 e
     check-from k (Check-cause.rows-7-and-8-first c) = in-1 c
@@ -124,9 +126,9 @@ module _ (published lent : List ℕ) (l : Limits) where
       halts : {n p : ℕ} → Halts l (v ∷ []) 0 r n p → Run-end r v (at-form n p)
       runs : {w : Value} {m : ℕ} {k : Refusal} → Runs l (v ∷ []) 0 r w m → Result-end l output w k → Run-end r v k
 
-    run-end-late : {r : Result} {v : Value} (k : Refusal) → Run-end r v k → 5 ≤ k .stage
+    run-end-late : {r : Result} {v : Value} (k : Refusal) → Run-end r v k → 6 ≤ k .stage
     run-end-late k (halts c) = lit≤ tt
-    run-end-late k (runs d c) = let n : 5 < k .stage = end-late k c in omega arith
+    run-end-late k (runs d c) = let n : 6 < k .stage = end-late k c in omega arith
 
     run-end
         : (r : Result) (v : Value)
@@ -155,7 +157,7 @@ module _ (published lent : List ℕ) (l : Limits) where
     After-run k =
         (r : Result) × (v : Value) × (read-reader l reader ≡ ok r) × (read-json l document ≡ ok v) × Run-end output r v k
 
-    after-run-late : (k : Refusal) → After-run k → 5 ≤ k .stage
+    after-run-late : (k : Refusal) → After-run k → 6 ≤ k .stage
     after-run-late k (r, v, e, f, c) = run-end-late output k c
 
     after-run
@@ -171,6 +173,7 @@ module _ (published lent : List ℕ) (l : Limits) where
     Run-causes = Cause-of published lent l (Reader-cause l reader) reader (Cause l document) document After-run
 
     run-to : (k : Refusal) → Run-causes k → Run-cause published lent l reader document output k
+    run-to k (limits e) = Run-cause.row-18 e
     run-to k (slices e) = Run-cause.row-1 e
     run-to k (long-1 e) = Run-cause.row-2-first e
     run-to k (in-1 c) = Run-cause.rows-7-and-8 c
@@ -181,6 +184,7 @@ module _ (published lent : List ℕ) (l : Limits) where
     run-to k (later (r, v, e, f, runs d (short c))) = Run-cause.row-15 e f d c
 
     run-from : (k : Refusal) → Run-cause published lent l reader document output k → Run-causes k
+    run-from k (Run-cause.row-18 e) = limits e
     run-from k (Run-cause.row-1 e) = slices e
     run-from k (Run-cause.row-2-first e) = long-1 e
     run-from k (Run-cause.rows-7-and-8 c) = in-1 c

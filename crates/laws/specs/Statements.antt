@@ -6,12 +6,12 @@
 use Prim.Native.Nat.{ℕ, _≤_, _<_}
 use mathlib.Core.Path.{_≡_}
 use mathlib.Core.Logic.{_⊎_, _↔_}
-use mathlib.Core.Bool.{Bool, true}
+use mathlib.Core.Bool.{Bool, true, false}
 use mathlib.Core.List.{List, [], _∷_, _++_}
 use lib.ListN.{length, take, drop}
 use Rattle.definitions.specs.declared.Limits.{Limits}
 use Rattle.definitions.specs.declared.Answer.{Answer}
-use Rattle.definitions.specs.Limits.{standard}
+use Rattle.definitions.specs.Limits.{standard, in-range}
 use Rattle.definitions.specs.Bytes.{Bytes}
 use Rattle.definitions.specs.Outcome.{ok, refused}
 use Rattle.definitions.specs.Value.{Value, size, nesting}
@@ -26,10 +26,10 @@ use Rattle.definitions.specs.ShapeText.{read-shape, write-shape}
 use Rattle.definitions.specs.Reader.{Result, read-reader}
 use Rattle.definitions.specs.Checking.{check-reader}
 use Rattle.definitions.specs.Running.{Ran, run-reader}
-use Rattle.definitions.specs.Operations.{Done, Source, Judged, prelude, Text-out, finish, say, plain-operation, infer-operation, join-operation}
-use Rattle.definitions.specs.Operations.{below-operation, admits-operation, check-operation, run-operation}
+use Rattle.definitions.specs.Operations.{Done, Source, Judged, refusal, slices-short, prelude, Text-out, finish, say, plain-operation, infer-operation}
+use Rattle.definitions.specs.Operations.{join-operation, below-operation, admits-operation, check-operation, run-operation}
 use Rattle.definitions.specs.Calls.{Called, answer-words, answered, call, quiet, buffer-published, buffer-lent, plain-call, infer-call, join-call}
-use Rattle.definitions.specs.Calls.{check-call, run-call}
+use Rattle.definitions.specs.Calls.{below-call, admits-call, check-call, run-call}
 use Rattle.laws.specs.Distinct.{distinct}
 use Rattle.laws.specs.Tree.{Tree, meaning, Fits}
 use Rattle.laws.specs.Rfc8259.{JSON-text}
@@ -42,6 +42,7 @@ use Rattle.laws.specs.Readers.{scoped, proper, Safe}
 use Rattle.laws.specs.CheckRules.{Checks, Refuses}
 use Rattle.laws.specs.RunRules.{Runs, Stuck, Out-of-steps}
 use Rattle.laws.specs.Chain.{Call, Proper-source, In-range, Demand-3}
+use Rattle.laws.specs.Larger.{Larger, Reads-on}
 use Rattle.laws.specs.OperationCauses.{Refused-with-the-first, Plain-cause, Infer-cause, Join-cause, Below-cause, Admits-cause}
 use Rattle.laws.specs.OperationCauses.{Check-cause, Run-cause}
 use Rattle.laws.specs.AnswerWords.{In-word, Words-of}
@@ -319,26 +320,35 @@ Demand-3-for-documents = Demand-3-from read-json
 
 -- ---- demand 3 over C calls
 
--- a call is its operation behind the prelude, whatever is judged of its texts: under 40 bytes of answer buffer it is 1 and nothing is
--- written; else the number is returned, and text, place, length, steps and yes are put into the buffer
+-- a call is its operation behind the prelude, whatever is judged of its texts: at limits out of range it is 18, and the output is kept;
+-- under 40 bytes of answer buffer it is 1 and nothing is written; else the number is returned, and text, place, length, steps and yes are
+-- put into the buffer
 pub record Calls-are-operations : Type 0 where
+  pub writes-out
+      : (l : Limits) (buffer output : Bytes) (j : Judged Text-out) → in-range l ≡ false
+      → call buffer (finish output (prelude l buffer-published (buffer-lent buffer) j))
+      ≡ record { number = 18; answer = answered buffer (refusal 18 0 0); output = output }
   pub writes-short
-      : (buffer output : Bytes) (j : Judged Text-out) → length buffer < 40
-      → call buffer (finish output (prelude buffer-published (buffer-lent buffer) j)) ≡ record { number = 1; answer = buffer; output = output }
+      : (l : Limits) (buffer output : Bytes) (j : Judged Text-out) → in-range l ≡ true → length buffer < 40
+      → call buffer (finish output (prelude l buffer-published (buffer-lent buffer) j)) ≡ record { number = 1; answer = buffer; output = output }
   pub writes-long
-      : (buffer output : Bytes) (j : Judged Text-out) → 40 ≤ length buffer
-      → call buffer (finish output (prelude buffer-published (buffer-lent buffer) j))
+      : (l : Limits) (buffer output : Bytes) (j : Judged Text-out) → in-range l ≡ true → 40 ≤ length buffer
+      → call buffer (finish output (prelude l buffer-published (buffer-lent buffer) j))
       ≡ record {
         number = finish output j .answer .number;
         answer = answer-words (finish output j .answer) ++ drop 40 buffer;
         output = finish output j .output;
       }
+  pub says-out
+      : (l : Limits) (buffer : Bytes) (j : Judged Bool) → in-range l ≡ false
+      → call buffer (quiet (say (prelude l buffer-published (buffer-lent buffer) j)))
+      ≡ record { number = 18; answer = answered buffer (refusal 18 0 0); output = [] }
   pub says-short
-      : (buffer : Bytes) (j : Judged Bool) → length buffer < 40
-      → call buffer (quiet (say (prelude buffer-published (buffer-lent buffer) j))) ≡ record { number = 1; answer = buffer; output = [] }
+      : (l : Limits) (buffer : Bytes) (j : Judged Bool) → in-range l ≡ true → length buffer < 40
+      → call buffer (quiet (say (prelude l buffer-published (buffer-lent buffer) j))) ≡ record { number = 1; answer = buffer; output = [] }
   pub says-long
-      : (buffer : Bytes) (j : Judged Bool) → 40 ≤ length buffer
-      → call buffer (quiet (say (prelude buffer-published (buffer-lent buffer) j)))
+      : (l : Limits) (buffer : Bytes) (j : Judged Bool) → in-range l ≡ true → 40 ≤ length buffer
+      → call buffer (quiet (say (prelude l buffer-published (buffer-lent buffer) j)))
       ≡ record { number = say j .number; answer = answer-words (say j) ++ drop 40 buffer; output = [] }
 
 -- what a call put into a buffer of 40 bytes or more is read from it, where the numbers fit into words
@@ -366,3 +376,69 @@ Results-handed-on =
 -- the paper's own limits are in range
 abbrev pub Standard-in-range : Type 0
 Standard-in-range = In-range standard
+
+-- ---- request Q-6: one set beside another
+
+-- an operation that succeeds at a set comes to the same at every larger one in range, with slices as long as published for that
+pub record Operations-go-on (source : Source) : Type 0 where
+  pub by-plain
+      : (l m : Limits) → Larger l m → In-range m → (published lent for-larger lent-to-it : List ℕ) → slices-short for-larger lent-to-it ≡ false
+      → (document output : Bytes) → plain-operation source published lent l document output .answer .number ≡ 0
+      → plain-operation source for-larger lent-to-it m document output ≡ plain-operation source published lent l document output
+  pub by-infer
+      : (l m : Limits) → Larger l m → In-range m → (published lent for-larger lent-to-it : List ℕ) → slices-short for-larger lent-to-it ≡ false
+      → (shape document output : Bytes) → infer-operation source published lent l shape document output .answer .number ≡ 0
+      → infer-operation source for-larger lent-to-it m shape document output ≡ infer-operation source published lent l shape document output
+  pub by-join
+      : (l m : Limits) → Larger l m → In-range m → (published lent for-larger lent-to-it : List ℕ) → slices-short for-larger lent-to-it ≡ false
+      → (first second output : Bytes) → join-operation published lent l first second output .answer .number ≡ 0
+      → join-operation for-larger lent-to-it m first second output ≡ join-operation published lent l first second output
+  pub by-below
+      : (l m : Limits) → Larger l m → In-range m → (published lent for-larger lent-to-it : List ℕ) → slices-short for-larger lent-to-it ≡ false
+      → (first second : Bytes) → below-operation published lent l first second .number ≡ 0
+      → below-operation for-larger lent-to-it m first second ≡ below-operation published lent l first second
+  pub by-admits
+      : (l m : Limits) → Larger l m → In-range m → (published lent for-larger lent-to-it : List ℕ) → slices-short for-larger lent-to-it ≡ false
+      → (shape document : Bytes) → admits-operation source published lent l shape document .number ≡ 0
+      → admits-operation source for-larger lent-to-it m shape document ≡ admits-operation source published lent l shape document
+  pub by-check
+      : (l m : Limits) → Larger l m → In-range m → (published lent for-larger lent-to-it : List ℕ) → slices-short for-larger lent-to-it ≡ false
+      → (reader shape output : Bytes) → check-operation published lent l reader shape output .answer .number ≡ 0
+      → check-operation for-larger lent-to-it m reader shape output ≡ check-operation published lent l reader shape output
+  pub by-run
+      : (l m : Limits) → Larger l m → In-range m → (published lent for-larger lent-to-it : List ℕ) → slices-short for-larger lent-to-it ≡ false
+      → (reader document output : Bytes) → run-operation source published lent l reader document output .answer .number ≡ 0
+      → run-operation source for-larger lent-to-it m reader document output ≡ run-operation source published lent l reader document output
+
+-- and so does a C call, with the buffers that it had
+pub record Calls-go-on (source : Source) : Type 0 where
+  pub by-plain
+      : (l m : Limits) → Larger l m → In-range m → (document output buffer : Bytes) → plain-call source l document output buffer .number ≡ 0
+      → plain-call source m document output buffer ≡ plain-call source l document output buffer
+  pub by-infer
+      : (l m : Limits) → Larger l m → In-range m → (shape document output buffer : Bytes)
+      → infer-call source l shape document output buffer .number ≡ 0
+      → infer-call source m shape document output buffer ≡ infer-call source l shape document output buffer
+  pub by-join
+      : (l m : Limits) → Larger l m → In-range m → (first second output buffer : Bytes) → join-call l first second output buffer .number ≡ 0
+      → join-call m first second output buffer ≡ join-call l first second output buffer
+  pub by-below
+      : (l m : Limits) → Larger l m → In-range m → (first second buffer : Bytes) → below-call l first second buffer .number ≡ 0
+      → below-call m first second buffer ≡ below-call l first second buffer
+  pub by-admits
+      : (l m : Limits) → Larger l m → In-range m → (shape document buffer : Bytes) → admits-call source l shape document buffer .number ≡ 0
+      → admits-call source m shape document buffer ≡ admits-call source l shape document buffer
+  pub by-check
+      : (l m : Limits) → Larger l m → In-range m → (reader shape output buffer : Bytes) → check-call l reader shape output buffer .number ≡ 0
+      → check-call m reader shape output buffer ≡ check-call l reader shape output buffer
+  pub by-run
+      : (l m : Limits) → Larger l m → In-range m → (reader document output buffer : Bytes)
+      → run-call source l reader document output buffer .number ≡ 0
+      → run-call source m reader document output buffer ≡ run-call source l reader document output buffer
+
+-- over every source that reads on at larger sets, and so over JSON
+abbrev pub Larger-sets-go-on-from-every-source : Type 0
+Larger-sets-go-on-from-every-source = (source : Source) → Proper-source source → Reads-on source → Operations-go-on source × Calls-go-on source
+
+abbrev pub Larger-sets-go-on : Type 0
+Larger-sets-go-on = Operations-go-on read-json × Calls-go-on read-json

@@ -1,7 +1,6 @@
 -- The statements of Statements.antt, proved: each by the lemmas of the files that it cites. Assumes nothing.
-use mathlib.Core.Path.{ap, _∙_}
-use lib.Dec.{lit≤}
-use Rattle.definitions.specs.Limits.{standard}
+use mathlib.Core.Path.{refl, ap, _∙_}
+use Rattle.definitions.specs.Limits.{standard, in-range}
 use Rattle.definitions.specs.Outcome.{ok}
 use Rattle.definitions.specs.Json.{read-json}
 use Rattle.laws.specs.JsonAdequate.{json-accepted-to, json-accepted-from, json-distinct, json-refused}
@@ -29,7 +28,7 @@ use Rattle.laws.specs.SoundSteps.{run-enough, run-stuck, run-13}
 use Rattle.laws.specs.Soundness.{sound}
 use Rattle.laws.specs.Chain.{Proper-source}
 use Rattle.laws.specs.Demand3.{demand-3}
-use Rattle.laws.specs.CallLaws.{writes-short, writes-long, says-short, says-long}
+use Rattle.laws.specs.CallLaws.{writes-out, writes-short, writes-long, says-out, says-short, says-long}
 use Rattle.laws.specs.AnswerWordsRead.{words-read-back}
 use Rattle.laws.specs.HostDemand3.{demand-3-over-calls, result-handed-on}
 use Rattle.laws.specs.Statements.{Documents-by-the-RFC, Documents-refused-for-cause, Documents-refused-for-the-least}
@@ -41,7 +40,8 @@ use Rattle.laws.specs.Statements.{Checking-by-the-rules, Running-by-the-
 use Rattle.laws.specs.Statements.{Demand-3-for-documents, Standard-in-range}
 use Rattle.laws.specs.Statements.{Written-documents-read-back, Calls-keep-the-output, Refused-with-the-first-cause}
 use Rattle.laws.specs.Statements.{Calls-are-operations, Answers-read-back, Demand-3-of-calls-from-every-source, Demand-3-of-calls}
-use Rattle.laws.specs.Statements.{Only-the-steps-run-out, Results-handed-on}
+use Rattle.laws.specs.LargerLimits.{json-reads-on, operations-go-on, calls-go-on}
+use Rattle.laws.specs.Statements.{Only-the-steps-run-out, Results-handed-on, Larger-sets-go-on-from-every-source, Larger-sets-go-on}
 
 -- ---- reading
 
@@ -179,7 +179,14 @@ demand-3-for-documents = demand-3 read-json json-proper
 
 pub calls-are-operations : Calls-are-operations
 calls-are-operations =
-    record { writes-short = writes-short; writes-long = writes-long; says-short = says-short; says-long = says-long }
+    record {
+      writes-out = writes-out;
+      writes-short = writes-short;
+      writes-long = writes-long;
+      says-out = says-out;
+      says-short = says-short;
+      says-long = says-long;
+    }
 
 pub answers-read-back : Answers-read-back
 answers-read-back = words-read-back
@@ -194,7 +201,13 @@ pub results-handed-on : Results-handed-on
 results-handed-on l r v u output answer c e z small = result-handed-on e z small
 
 pub standard-in-range : Standard-in-range
-unfolding standard
-standard-in-range =
-    record
-    { bytes = (lit≤ tt, lit≤ tt); values = (lit≤ tt, lit≤ tt); nesting = (lit≤ tt, lit≤ tt); steps = (lit≤ tt, lit≤ tt) }
+unfolding standard in-range
+standard-in-range = refl
+
+-- ---- request Q-6: one set beside another
+
+pub larger-sets-go-on-from-every-source : Larger-sets-go-on-from-every-source
+larger-sets-go-on-from-every-source source proper on = (operations-go-on source proper on, calls-go-on source proper on)
+
+pub larger-sets-go-on : Larger-sets-go-on
+larger-sets-go-on = larger-sets-go-on-from-every-source read-json json-proper json-reads-on

@@ -19,8 +19,9 @@ use Rattle.definitions.specs.Running.{Ran, run-reader}
 use Rattle.definitions.specs.Operations.{Done, Source, Judged, passed, written, in-text, judge-text, prelude, Text-out, to-write, result-out}
 use Rattle.definitions.specs.Operations.{plain-judged, run-judged, plain-operation, infer-operation, join-operation, check-operation, run-operation}
 use Rattle.definitions.specs.Calls.{call, plain-call, infer-call, join-call, check-call, run-call}
+use Rattle.laws.specs.LimitRanges.{bounds-of}
 use Rattle.laws.specs.Bools.{or-false-left, or-false-right}
-use Rattle.laws.specs.Tests.{ltb-le}
+use Rattle.laws.specs.Tests.{ltb-le, le-ltb}
 use Rattle.laws.specs.JsonAdequate.{json-accepted-to, json-distinct}
 use Rattle.laws.specs.ReaderFacts.{reader-proper}
 use Rattle.laws.specs.RoundLaws.{plain-reads-back, plain-idempotent, json-read-good, reader-read-good, run-good}
@@ -30,7 +31,7 @@ use Rattle.laws.specs.Judging.{Positive, bind-positive, prelude-positive
 use Rattle.laws.specs.Judging.{stopped-not-passed, passed-same, bind-passed, prelude-passed, text-passed, both-passed, in-text-passed}
 use Rattle.laws.specs.Judging.{result-over, result-out-over, result-out-fits, finish-zero, finish-written, front}
 use Rattle.laws.specs.Numbered.{numbered-reader}
-use Rattle.laws.specs.OperationCausesParts.{numbered-json, numbered-run}
+use Rattle.laws.specs.Positives.{numbered-json, plain-positive, run-positive}
 use Rattle.laws.specs.WrittenShapes.{refusal-keeps}
 
 -- ---- what a run gives reads back
@@ -41,7 +42,7 @@ unfolding most-coefficient
 read-small l r s v e =
     let (x, h, f, m) = json-accepted-to l s v e in
     let k : size v ≤ l .values = subst (λ (w : Value). size w ≤ l .values) m (f .values) in
-    let n : l .values ≤ 512 = r .values .1 in
+    let n : l .values ≤ 512 = bounds-of r .values .1 in
     le-trans (le-trans k n) (lit≤ tt)
 
 pub result-reads-back
@@ -57,14 +58,7 @@ result-reads-back l range text s r v x t e run small shallow =
 
 -- ---- the operations
 
-result-out-positive : (l : Limits) (x : Ran Value) → Positive (result-out l x)
-result-out-positive l x = go (result-over l (x .result)) refl
-  where
-    go : (b : Bool) → result-over l (x .result) ≡ b → Positive (result-out l x)
-    go true q = rw (result-out-over l x q) (refusal-positive 14 0 0 (lit< tt))
-    go false q = rw (result-out-fits l x q) tt
-
-result-out-passed
+pub result-out-passed
     : (l : Limits) (x : Ran Value) (t : Text-out) → result-out l x ≡ passed t
     → (result-over l (x .result) ≡ false) × (t ≡ to-write (plain (x .result)) (x .steps))
 result-out-passed l x t e = go (result-over l (x .result)) refl
@@ -73,27 +67,28 @@ result-out-passed l x t e = go (result-over l (x .result)) refl
     go true q = stopped-not-passed (sym (result-out-over l x q) ∙ e)
     go false q = (q, passed-same (sym e ∙ result-out-fits l x q))
 
-result-fits : (l : Limits) (v : Value) → result-over l v ≡ false → (size v ≤ l .values) × (nesting v ≤ l .nesting)
+pub result-fits : (l : Limits) (v : Value) → result-over l v ≡ false → (size v ≤ l .values) × (nesting v ≤ l .nesting)
 result-fits l v e = (
   ltb-le _ _ (or-false-left (ltb (l .values) (size v)) (ltb (l .nesting) (nesting v)) e),
   ltb-le _ _ (or-false-right (ltb (l .values) (size v)) (ltb (l .nesting) (nesting v)) e),
 )
 
+pub fits-result : (l : Limits) (v : Value) → size v ≤ l .values → nesting v ≤ l .nesting → result-over l v ≡ false
+fits-result l v a b = rw (le-ltb _ _ a, le-ltb _ _ b) refl
+
 module _ (published lent : List ℕ) (l : Limits) where
   abbrev plained : Bytes → Judged Text-out
-  plained document = prelude published lent (plain-judged read-json l document)
+  plained document = prelude l published lent (plain-judged read-json l document)
 
-  plain-positive : (document : Bytes) → Positive (plained document)
-  unfolding plain-judged
-  plain-positive document =
-      prelude-positive published lent (plain-judged read-json l document)
-      (bind-positive _ _ (text-positive 1 l read-json document (numbered-json l document)) λ v. tt)
+  plained-positive : (document : Bytes) → Positive (plained document)
+  plained-positive document =
+      prelude-positive l published lent (plain-judged read-json l document) (plain-positive read-json l (numbered-json l) document)
 
   plain-passed : (document : Bytes) (o : Text-out) → plained document ≡ passed o
       → (v : Value) × (read-json l document ≡ ok v) × (o ≡ to-write (plain v) 0)
   unfolding plain-judged
   plain-passed document o e =
-      let (w, f) = prelude-passed published lent (plain-judged read-json l document) o e in
+      let (d, w, f) = prelude-passed l published lent (plain-judged read-json l document) o e in
       let (v, g, h) = bind-passed (judge-text 1 l read-json document) _ o f in
       (v, text-passed 1 l read-json document v g .1, sym (passed-same h))
 
@@ -105,7 +100,7 @@ module _ (published lent : List ℕ) (l : Limits) where
       ≡ ok v)
   unfolding plain-operation
   plain-operation-reads-back document output e =
-      let (o, p, room) = finish-zero output (plained document) (plain-positive document) e in
+      let (o, p, room) = finish-zero output (plained document) (plained-positive document) e in
       let (v, f, g) = plain-passed document o p in (
         v,
         f,
@@ -115,14 +110,11 @@ module _ (published lent : List ℕ) (l : Limits) where
       )
 
   abbrev runned : Bytes → Bytes → Judged Text-out
-  runned reader document = prelude published lent (run-judged read-json l reader document)
+  runned reader document = prelude l published lent (run-judged read-json l reader document)
 
-  run-positive : (reader document : Bytes) → Positive (runned reader document)
-  unfolding run-judged
-  run-positive reader document =
-      prelude-positive published lent (run-judged read-json l reader document)
-      (bind-positive _ _ (both-positive l read-reader reader read-json document (numbered-reader l reader) (numbered-json l document)) λ (r, v).
-      bind-positive _ _ (in-text-positive 1 (run-reader r l v) (numbered-run r l v)) λ x. result-out-positive l x)
+  runned-positive : (reader document : Bytes) → Positive (runned reader document)
+  runned-positive reader document =
+      prelude-positive l published lent (run-judged read-json l reader document) (run-positive read-json l (numbered-json l) reader document)
 
   -- why a run gave 0
   record Gave (reader document : Bytes) (o : Text-out) (r : Result) (v : Value) (x : Ran Value) : Type 0 where
@@ -137,7 +129,7 @@ module _ (published lent : List ℕ) (l : Limits) where
       → (r : Result) × (v : Value) × (x : Ran Value) × Gave reader document o r v x
   unfolding run-judged
   run-passed reader document o e =
-      let (w, f) = prelude-passed published lent (run-judged read-json l reader document) o e in
+      let (d, w, f) = prelude-passed l published lent (run-judged read-json l reader document) o e in
       let (r, v, p, k) = both-passed l read-reader reader read-json document _ o f in
       let (x, g, h) = bind-passed (in-text 1 (run-reader r l v)) _ o k in
       let (a, b) = result-out-passed l x o h in (
@@ -162,7 +154,7 @@ module _ (published lent : List ℕ) (l : Limits) where
       ≡ ok (x .result))
   unfolding run-operation written
   run-operation-reads-back range reader document output e =
-      let (o, p, room) = finish-zero output (runned reader document) (run-positive reader document) e in
+      let (o, p, room) = finish-zero output (runned reader document) (runned-positive reader document) e in
       let (r, v, x, g) = run-passed reader document o p in
       let fit = result-fits l (x .result) (g .fits) in
       let f = finish-written output o p room in (

@@ -26,6 +26,7 @@ use Rattle.laws.specs.Judging.{Positive, bind-positive, prelude-positive
 use Rattle.laws.specs.Judging.{shape-over, shape-out-passed, shape-fits, deliver-short, deliver-room, finish-zero, finish-written, front}
 use Rattle.laws.specs.Numbered.{numbered-shape}
 use Rattle.laws.specs.Tests.{eq-eqb}
+use Rattle.laws.specs.Positives.{join-positive}
 use Rattle.laws.specs.Chain.{Call, infers, takes, Proper-source}
 use Rattle.laws.specs.ChainSteps.{Accepted, accepted-left, taken-accepted, left-taken}
 use Rattle.laws.specs.ChainReaders.{check-passed}
@@ -59,7 +60,7 @@ unfolding infers takes
 infer-reads-back source proper published lent l shape document output e =
     let c : Call = record { sample = document; output = output; lent = lent } in
     let t : takes source published l c shape ≡ true = eq-eqb e in
-    go c t (taken-accepted source published l proper c shape (numbered-shape l shape) t)
+    go c t (taken-accepted source published l proper c shape t)
   where
     go : (c : Call) → takes source published l c shape ≡ true → ((s : Shape) × (v : Value) × Accepted source published l c shape s v)
         → (s : Shape) × (v : Value) × (read-shape l shape ≡ ok s) × (source l (c .sample) ≡ ok v)
@@ -80,14 +81,10 @@ infer-reads-back source proper published lent l shape document output e =
 module _ (published lent : List ℕ) (l : Limits) where
   -- what is judged of a join before its output
   abbrev joined : Bytes → Bytes → Judged Text-out
-  joined first second = prelude published lent (join-judged l first second)
+  joined first second = prelude l published lent (join-judged l first second)
 
   joined-positive : (first second : Bytes) → Positive (joined first second)
-  unfolding join-judged
-  joined-positive first second =
-      prelude-positive published lent (join-judged l first second)
-      (bind-positive _ _ (both-positive l read-shape first read-shape second (numbered-shape l first) (numbered-shape l second)) λ (s, t).
-      shape-out-positive l (join s t))
+  joined-positive first second = prelude-positive l published lent (join-judged l first second) (join-positive l first second)
 
   pub join-reads-back
       : (first second output : Bytes) → join-operation published lent l first second output .answer .number ≡ 0
@@ -104,7 +101,7 @@ module _ (published lent : List ℕ) (l : Limits) where
           → (s : Shape) × (t : Shape) × (read-shape l first ≡ ok s) × (read-shape l second ≡ ok t)
           × (read-shape l (take (finish output (joined first second) .answer .length) (finish output (joined first second) .output)) ≡ ok (join s t))
       go o p room =
-          let (w, f) = prelude-passed published lent (join-judged l first second) o p in
+          let (d, w, f) = prelude-passed l published lent (join-judged l first second) o p in
           let (s, t, b, g) = both-passed l read-shape first read-shape second _ o f in
           let (x, y) = shape-out-passed l (join s t) o g in
           let r = b .first-read in

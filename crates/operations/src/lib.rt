@@ -1,9 +1,8 @@
-// The operations of the scope document on lent slices: nothing is asked of what is lent, every answer is one of the
-// definitions, and so is the output afterwards.
+// The operations of the scope document on lent slices, at limits that are handed over: nothing is asked of what is lent or handed
+// over, every answer is one of the definitions, and so is the output afterwards.
 ghost use mathlib.Core.Path.{_≡_};
 ghost use mathlib.Core.List.{[], _∷_};
 ghost use lib.ListN.{length};
-ghost use Rattle.definitions.specs.Limits.{standard};
 ghost use Rattle.definitions.specs.Json.{read-json};
 ghost use Rattle.definitions.specs.Operations.{plain-operation, infer-operation, join-operation, below-operation, admits-operation};
 ghost use Rattle.definitions.specs.Operations.{check-operation, run-operation};
@@ -11,25 +10,33 @@ ghost use Rattle.definitions.specs.WorkSlices.{plain-slices, infer-slices, join
 ghost use Rattle.definitions.specs.WorkSlices.{run-slices};
 use definitions::Answer;
 use definitions::Format;
+use definitions::Limits;
 
 // Writes a document as plain JSON.
-pub fn plain(document: &[u8], output: &mut [u8], nodes: &mut [u64], pool: &mut [u64]) -> Answer
+pub fn plain(
+    limits: Limits,
+    document: &[u8],
+    output: &mut [u8],
+    nodes: &mut [u64],
+    pool: &mut [u64],
+) -> Answer
     ensures answered { λ r. ⌜ r ≡
-        plain-operation read-json (plain-slices standard) (length (now (nodes .entry)) ∷ length (now (pool .entry)) ∷ []) standard
+        plain-operation read-json (plain-slices limits) (length (now (nodes .entry)) ∷ length (now (pool .entry)) ∷ []) limits
         (now (document .entry)) (now (output .entry)) .answer ⌝ }
     ensures written { λ _. ⌜ now (output .exit) ≡
-        plain-operation read-json (plain-slices standard) (length (now (nodes .entry)) ∷ length (now (pool .entry)) ∷ []) standard
+        plain-operation read-json (plain-slices limits) (length (now (nodes .entry)) ∷ length (now (pool .entry)) ∷ []) limits
         (now (document .entry)) (now (output .entry)) .output ⌝ }
 {
-    let limits = slices::STANDARD;
-    if slices::document_short(limits, nodes.len(), pool.len()) {
-        return answers::refusal(1, 0, 0);
+    let stop = slices::judge_document(limits, nodes.len(), pool.len());
+    if stop != 0 {
+        return answers::refusal(stop, 0, 0);
     }
     perform::plain(Format::Json, document, output, nodes, pool, limits)
 }
 
 // Joins the shape of a document into a shape, and writes it.
 pub fn infer(
+    limits: Limits,
     shape: &[u8],
     document: &[u8],
     output: &mut [u8],
@@ -38,17 +45,17 @@ pub fn infer(
     pool: &mut [u64],
 ) -> Answer
     ensures answered { λ r. ⌜ r ≡
-        infer-operation read-json (infer-slices standard)
-        (length (now (shapes .entry)) ∷ length (now (nodes .entry)) ∷ length (now (pool .entry)) ∷ []) standard
+        infer-operation read-json (infer-slices limits)
+        (length (now (shapes .entry)) ∷ length (now (nodes .entry)) ∷ length (now (pool .entry)) ∷ []) limits
         (now (shape .entry)) (now (document .entry)) (now (output .entry)) .answer ⌝ }
     ensures written { λ _. ⌜ now (output .exit) ≡
-        infer-operation read-json (infer-slices standard)
-        (length (now (shapes .entry)) ∷ length (now (nodes .entry)) ∷ length (now (pool .entry)) ∷ []) standard
+        infer-operation read-json (infer-slices limits)
+        (length (now (shapes .entry)) ∷ length (now (nodes .entry)) ∷ length (now (pool .entry)) ∷ []) limits
         (now (shape .entry)) (now (document .entry)) (now (output .entry)) .output ⌝ }
 {
-    let limits = slices::STANDARD;
-    if slices::shape_document_short(limits, shapes.len(), nodes.len(), pool.len()) { // a shape and a document
-        return answers::refusal(1, 0, 0);
+    let stop = slices::judge_shape_document(limits, shapes.len(), nodes.len(), pool.len()); // a shape and a document
+    if stop != 0 {
+        return answers::refusal(stop, 0, 0);
     }
     let rows = 2 * limits.values; // the table grows to the result, and not past 11
     perform::infer(
@@ -65,6 +72,7 @@ pub fn infer(
 
 // Joins two shapes, and writes the result.
 pub fn join(
+    limits: Limits,
     first: &[u8],
     second: &[u8],
     output: &mut [u8],
@@ -73,17 +81,17 @@ pub fn join(
     pool: &mut [u64],
 ) -> Answer
     ensures answered { λ r. ⌜ r ≡
-        join-operation (join-slices standard)
-        (length (now (shapes .entry)) ∷ length (now (others .entry)) ∷ length (now (pool .entry)) ∷ []) standard
+        join-operation (join-slices limits)
+        (length (now (shapes .entry)) ∷ length (now (others .entry)) ∷ length (now (pool .entry)) ∷ []) limits
         (now (first .entry)) (now (second .entry)) (now (output .entry)) .answer ⌝ }
     ensures written { λ _. ⌜ now (output .exit) ≡
-        join-operation (join-slices standard)
-        (length (now (shapes .entry)) ∷ length (now (others .entry)) ∷ length (now (pool .entry)) ∷ []) standard
+        join-operation (join-slices limits)
+        (length (now (shapes .entry)) ∷ length (now (others .entry)) ∷ length (now (pool .entry)) ∷ []) limits
         (now (first .entry)) (now (second .entry)) (now (output .entry)) .output ⌝ }
 {
-    let limits = slices::STANDARD;
-    if slices::two_shapes_short(limits, shapes.len(), others.len(), pool.len()) { // two shapes
-        return answers::refusal(1, 0, 0);
+    let stop = slices::judge_two_shapes(limits, shapes.len(), others.len(), pool.len()); // two shapes
+    if stop != 0 {
+        return answers::refusal(stop, 0, 0);
     }
     let rows = 2 * limits.values; // as for infer
     perform::join(
@@ -99,6 +107,7 @@ pub fn join(
 
 // Whether a shape is below another.
 pub fn below(
+    limits: Limits,
     first: &[u8],
     second: &[u8],
     shapes: &mut [u64],
@@ -106,19 +115,20 @@ pub fn below(
     pool: &mut [u64],
 ) -> Answer
     ensures answered { λ r. ⌜ r ≡
-        below-operation (below-slices standard)
-        (length (now (shapes .entry)) ∷ length (now (others .entry)) ∷ length (now (pool .entry)) ∷ []) standard
+        below-operation (below-slices limits)
+        (length (now (shapes .entry)) ∷ length (now (others .entry)) ∷ length (now (pool .entry)) ∷ []) limits
         (now (first .entry)) (now (second .entry)) ⌝ }
 {
-    let limits = slices::STANDARD;
-    if slices::two_shapes_short(limits, shapes.len(), others.len(), pool.len()) { // as for join
-        return answers::refusal(1, 0, 0);
+    let stop = slices::judge_two_shapes(limits, shapes.len(), others.len(), pool.len()); // as for join
+    if stop != 0 {
+        return answers::refusal(stop, 0, 0);
     }
     perform::below(first, second, shapes, others, pool, limits)
 }
 
 // Whether a shape admits a document.
 pub fn admits(
+    limits: Limits,
     shape: &[u8],
     document: &[u8],
     shapes: &mut [u64],
@@ -126,19 +136,20 @@ pub fn admits(
     pool: &mut [u64],
 ) -> Answer
     ensures answered { λ r. ⌜ r ≡
-        admits-operation read-json (admits-slices standard)
-        (length (now (shapes .entry)) ∷ length (now (nodes .entry)) ∷ length (now (pool .entry)) ∷ []) standard
+        admits-operation read-json (admits-slices limits)
+        (length (now (shapes .entry)) ∷ length (now (nodes .entry)) ∷ length (now (pool .entry)) ∷ []) limits
         (now (shape .entry)) (now (document .entry)) ⌝ }
 {
-    let limits = slices::STANDARD;
-    if slices::shape_document_short(limits, shapes.len(), nodes.len(), pool.len()) { // as for infer
-        return answers::refusal(1, 0, 0);
+    let stop = slices::judge_shape_document(limits, shapes.len(), nodes.len(), pool.len()); // as for infer
+    if stop != 0 {
+        return answers::refusal(stop, 0, 0);
     }
     perform::admits(Format::Json, shape, document, shapes, nodes, pool, limits)
 }
 
 // Checks a reader against a shape, and writes the shape of what it gives.
 pub fn check(
+    limits: Limits,
     reader: &[u8],
     shape: &[u8],
     output: &mut [u8],
@@ -149,34 +160,35 @@ pub fn check(
     pool: &mut [u64],
 ) -> Answer
     ensures answered { λ r. ⌜ r ≡
-        check-operation (check-slices standard)
+        check-operation (check-slices limits)
         (length (now (forms .entry)) ∷ length (now (shapes .entry)) ∷ length (now (results .entry))
-        ∷ length (now (bindings .entry)) ∷ length (now (pool .entry)) ∷ []) standard
+        ∷ length (now (bindings .entry)) ∷ length (now (pool .entry)) ∷ []) limits
         (now (reader .entry)) (now (shape .entry)) (now (output .entry)) .answer ⌝ }
     ensures written { λ _. ⌜ now (output .exit) ≡
-        check-operation (check-slices standard)
+        check-operation (check-slices limits)
         (length (now (forms .entry)) ∷ length (now (shapes .entry)) ∷ length (now (results .entry))
-        ∷ length (now (bindings .entry)) ∷ length (now (pool .entry)) ∷ []) standard
+        ∷ length (now (bindings .entry)) ∷ length (now (pool .entry)) ∷ []) limits
         (now (reader .entry)) (now (shape .entry)) (now (output .entry)) .output ⌝ }
 {
-    let limits = slices::STANDARD;
-    if slices::reader_shape_short(
+    let stop = slices::judge_reader_shape( // a reader and a shape
         limits,
         forms.len(),
         shapes.len(),
         results.len(),
         bindings.len(), // one for each level of the reader
         pool.len(),
-    ) { // a reader and a shape
-        return answers::refusal(1, 0, 0);
+    );
+    if stop != 0 {
+        return answers::refusal(stop, 0, 0);
     }
+    let read = slices::shape_words(limits, limits.bytes); // no shape that is read has more
     let rows = 2 * limits.values; // as for infer
     perform::check(
         reader,
         shape,
         output,
         forms,
-        &mut shapes[..rows],
+        &mut shapes[..read],
         &mut results[..rows],
         bindings,
         pool,
@@ -186,6 +198,7 @@ pub fn check(
 
 // Runs a reader on a document, and writes what it gives as plain JSON.
 pub fn run(
+    limits: Limits,
     reader: &[u8],
     document: &[u8],
     output: &mut [u8],
@@ -196,35 +209,36 @@ pub fn run(
     pool: &mut [u64],
 ) -> Answer
     ensures answered { λ r. ⌜ r ≡
-        run-operation read-json (run-slices standard)
+        run-operation read-json (run-slices limits)
         (length (now (forms .entry)) ∷ length (now (nodes .entry)) ∷ length (now (results .entry))
-        ∷ length (now (bindings .entry)) ∷ length (now (pool .entry)) ∷ []) standard
+        ∷ length (now (bindings .entry)) ∷ length (now (pool .entry)) ∷ []) limits
         (now (reader .entry)) (now (document .entry)) (now (output .entry)) .answer ⌝ }
     ensures written { λ _. ⌜ now (output .exit) ≡
-        run-operation read-json (run-slices standard)
+        run-operation read-json (run-slices limits)
         (length (now (forms .entry)) ∷ length (now (nodes .entry)) ∷ length (now (results .entry))
-        ∷ length (now (bindings .entry)) ∷ length (now (pool .entry)) ∷ []) standard
+        ∷ length (now (bindings .entry)) ∷ length (now (pool .entry)) ∷ []) limits
         (now (reader .entry)) (now (document .entry)) (now (output .entry)) .output ⌝ }
 {
-    let limits = slices::STANDARD;
-    if slices::reader_document_short(
+    let stop = slices::judge_reader_document( // a reader and a document
         limits,
         forms.len(),
         nodes.len(),
         results.len(),
         bindings.len(), // as for check
         pool.len(),
-    ) { // a reader and a document
-        return answers::refusal(1, 0, 0);
+    );
+    if stop != 0 {
+        return answers::refusal(stop, 0, 0);
     }
-    let rows = 3 * limits.values; // no document and no result has more
+    let read = slices::value_words(limits, limits.bytes); // no document has more
+    let rows = 3 * limits.values; // and no result
     perform::run(
         Format::Json,
         reader,
         document,
         output,
         forms,
-        &mut nodes[..rows],
+        &mut nodes[..read],
         &mut results[..rows],
         bindings,
         pool,

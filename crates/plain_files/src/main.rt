@@ -59,7 +59,8 @@ fn judge(name: &[u8], document: &[u8]) {
     let mut output = [0u8; OUTPUT];
     let mut nodes = [0u64; NODES];
     let mut pool = [0u64; POOL];
-    let answer = operations::plain(document, &mut output, &mut nodes, &mut pool);
+    let limits = slices::STANDARD; // the largest set
+    let answer = operations::plain(limits, document, &mut output, &mut nodes, &mut pool);
     print_answer(name, answer);
     if answer.number == 0 {
         let n = written(answer, &output);

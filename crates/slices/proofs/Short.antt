@@ -22,3 +22,12 @@ short-last a x = go (ltb x a)
     go : (b : Bool) → b ≡ (b || false)
     go true = refl
     go false = refl
+
+-- one slice alone
+pub one-short : (a x : ℕ) → x < a → slices-short (a ∷ []) (x ∷ []) ≡ true
+unfolding slices-short
+one-short a x h = rw (lt-ltb x a h) refl
+
+pub one-long : (a x : ℕ) → a ≤ x → slices-short (a ∷ []) (x ∷ []) ≡ false
+unfolding slices-short
+one-long a x h = rw (le-ltb x a h) refl

@@ -1,3 +1,4 @@
 pub mod Small
 pub mod Fewer
 pub mod Long
+pub mod Prelude

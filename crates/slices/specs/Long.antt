@@ -62,7 +62,7 @@ module _ (a b c d e v w x y z : ℕ) where
 -- ---- what is published is enough for every text
 
 -- the longest text asks for most
-shapes-most : (l : Limits) (n : ℕ) → shape-words l n ≤ shape-words l (l .bytes)
+pub shapes-most : (l : Limits) (n : ℕ) → shape-words l n ≤ shape-words l (l .bytes)
 shapes-most l n = omega arith
 
 pub shapes-within : (l : Limits) (n : ℕ) → shape-words l n ≤ form-words l
@@ -81,7 +81,7 @@ readers-most l n =
     at : (b b′ v v′ : ℕ) → b ≤ b′ → v ≤ v′ → (b + 5 * v + 6) / 8 ≤ (b′ + 5 * v′ + 6) / 8
     at b b′ v v′ g h = omega arith
 
-values-most : (l : Limits) (n : ℕ) → value-words l n ≤ value-words l (l .bytes)
+pub values-most : (l : Limits) (n : ℕ) → value-words l n ≤ value-words l (l .bytes)
 values-most l n = omega arith
 
 texts-most : (l : Limits) (n : ℕ) → text-words l n ≤ text-words l (l .bytes)

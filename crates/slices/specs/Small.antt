@@ -1,9 +1,10 @@
--- Limits that are no larger than the paper's, so that lengths made of them fit a word. Assumes nothing.
+-- Limits that are no larger than the largest set, so that lengths made of them fit a word. Assumes nothing.
 use Prim.Native.Nat.{_≤_}
-use mathlib.Core.Path.{_≡_, sym, subst}
-use lib.Dec.{lit≤}
+use mathlib.Core.Path.{_≡_}
+use mathlib.Core.Bool.{true}
 use Rattle.definitions.specs.declared.Limits.{Limits}
-use Rattle.definitions.specs.Limits.{standard}
+use Rattle.definitions.specs.Limits.{in-range}
+use Rattle.laws.specs.LimitRanges.{bounds-of}
 
 pub record Small (l : Limits) : Type 0 where
   pub bytes : l .bytes ≤ 16384
@@ -11,6 +12,6 @@ pub record Small (l : Limits) : Type 0 where
   pub nesting : l .nesting ≤ 32
   pub steps : l .steps ≤ 65536
 
-pub standard-small : {l : Limits} → l ≡ standard → Small l
-unfolding standard
-standard-small e = subst Small (sym e) (record { bytes = lit≤ tt; values = lit≤ tt; nesting = lit≤ tt; steps = lit≤ tt })
+pub range-small : {l : Limits} → in-range l ≡ true → Small l
+range-small r =
+    let b = bounds-of r in record { bytes = b .bytes .1; values = b .values .1; nesting = b .nesting .1; steps = b .steps .1 }

@@ -1,19 +1,35 @@
-// The operations with work slices of their own, as the C calls want them: short ones for short texts, since clearing long ones
-// would show in the time of a call.
+// The operations with work slices of their own, as the C calls want them: as long as the limits and the texts ask, in a few lengths,
+// since clearing long ones would show in the time of a call. The shortest is enough for every text at the smallest set of limits.
 ghost use mathlib.Core.Path.{_≡_};
-ghost use Prim.Native.Nat.{_<_};
+ghost use mathlib.Core.Bool.{false};
+ghost use mathlib.Core.List.{[], _∷_};
 ghost use lib.ListN.{length};
-ghost use Rattle.definitions.specs.Operations.{source, finish, say, plain-judged, infer-judged, join-judged, below-judged, admits-judged};
-ghost use Rattle.definitions.specs.Operations.{check-judged, run-judged};
+ghost use Rattle.definitions.specs.Operations.{slices-short, source, finish, say, plain-judged, infer-judged, join-judged, below-judged};
+ghost use Rattle.definitions.specs.Operations.{admits-judged, check-judged, run-judged};
+ghost use Rattle.definitions.specs.WorkSlices.{for-document, for-shape-document, for-grown-document, for-two-shapes, for-grown-shapes};
+ghost use Rattle.definitions.specs.WorkSlices.{for-reader-shape, for-reader-document};
 ghost use Rattle.slices.specs.Small.{Small};
 use definitions::Answer;
 use definitions::Format;
 use definitions::Limits;
 
-// `plain` on a document of at most 255 bytes.
+// `plain` in work slices as short as at the smallest set of limits.
+fn smallest_plain(format: Format, limits: Limits, document: &[u8], output: &mut [u8]) -> Answer
+    requires { ⌜ Small limits ⌝ }
+    requires long { ⌜ slices-short (for-document limits (length (now document))) (48 ∷ 143 ∷ []) ≡ false ⌝ }
+    ensures answered { λ r. ⌜ r ≡ finish (now (output .entry)) (plain-judged (source format) limits (now (document .entry))) .answer ⌝ }
+    ensures written { λ _. ⌜ now (output .exit) ≡
+        finish (now (output .entry)) (plain-judged (source format) limits (now (document .entry))) .output ⌝ }
+{
+    let mut nodes = [0u64; 48];
+    let mut pool = [0u64; 143];
+    perform::plain(format, document, output, &mut nodes, &mut pool, limits)
+}
+
+// `plain` in short work slices.
 fn shortest_plain(format: Format, limits: Limits, document: &[u8], output: &mut [u8]) -> Answer
     requires { ⌜ Small limits ⌝ }
-    requires document { ⌜ length (now document) < 256 ⌝ }
+    requires long { ⌜ slices-short (for-document limits (length (now document))) (429 ∷ 174 ∷ []) ≡ false ⌝ }
     ensures answered { λ r. ⌜ r ≡ finish (now (output .entry)) (plain-judged (source format) limits (now (document .entry))) .answer ⌝ }
     ensures written { λ _. ⌜ now (output .exit) ≡
         finish (now (output .entry)) (plain-judged (source format) limits (now (document .entry))) .output ⌝ }
@@ -23,10 +39,10 @@ fn shortest_plain(format: Format, limits: Limits, document: &[u8], output: &mut 
     perform::plain(format, document, output, &mut nodes, &mut pool, limits)
 }
 
-// `plain` on a document of at most 511 bytes.
+// `plain` in work slices for short texts.
 fn short_plain(format: Format, limits: Limits, document: &[u8], output: &mut [u8]) -> Answer
     requires { ⌜ Small limits ⌝ }
-    requires document { ⌜ length (now document) < 512 ⌝ }
+    requires long { ⌜ slices-short (for-document limits (length (now document))) (813 ∷ 334 ∷ []) ≡ false ⌝ }
     ensures answered { λ r. ⌜ r ≡ finish (now (output .entry)) (plain-judged (source format) limits (now (document .entry))) .answer ⌝ }
     ensures written { λ _. ⌜ now (output .exit) ≡
         finish (now (output .entry)) (plain-judged (source format) limits (now (document .entry))) .output ⌝ }
@@ -36,10 +52,10 @@ fn short_plain(format: Format, limits: Limits, document: &[u8], output: &mut [u8
     perform::plain(format, document, output, &mut nodes, &mut pool, limits)
 }
 
-// `plain` on a document of at most 4,095 bytes.
+// `plain` in work slices for longer texts.
 fn middle_plain(format: Format, limits: Limits, document: &[u8], output: &mut [u8]) -> Answer
     requires { ⌜ Small limits ⌝ }
-    requires document { ⌜ length (now document) < 4096 ⌝ }
+    requires long { ⌜ slices-short (for-document limits (length (now document))) (1536 ∷ 1023 ∷ []) ≡ false ⌝ }
     ensures answered { λ r. ⌜ r ≡ finish (now (output .entry)) (plain-judged (source format) limits (now (document .entry))) .answer ⌝ }
     ensures written { λ _. ⌜ now (output .exit) ≡
         finish (now (output .entry)) (plain-judged (source format) limits (now (document .entry))) .output ⌝ }
@@ -49,7 +65,7 @@ fn middle_plain(format: Format, limits: Limits, document: &[u8], output: &mut [u
     perform::plain(format, document, output, &mut nodes, &mut pool, limits)
 }
 
-// `plain` on texts of any length.
+// `plain` in work slices for texts of any length.
 fn long_plain(format: Format, limits: Limits, document: &[u8], output: &mut [u8]) -> Answer
     requires { ⌜ Small limits ⌝ }
     ensures answered { λ r. ⌜ r ≡ finish (now (output .entry)) (plain-judged (source format) limits (now (document .entry))) .answer ⌝ }
@@ -68,19 +84,53 @@ pub fn plain(format: Format, limits: Limits, document: &[u8], output: &mut [u8])
     ensures written { λ _. ⌜ now (output .exit) ≡
         finish (now (output .entry)) (plain-judged (source format) limits (now (document .entry))) .output ⌝ }
 {
-    if document.len() < 256 {
+    let n = document.len();
+    if !slices::document_short(limits, n, 48, 143) {
+        return smallest_plain(format, limits, document, output);
+    }
+    if !slices::document_short(limits, n, 429, 174) {
         return shortest_plain(format, limits, document, output);
     }
-    if document.len() < 512 {
+    if !slices::document_short(limits, n, 813, 334) {
         return short_plain(format, limits, document, output);
     }
-    if document.len() < 4096 {
+    if !slices::document_short(limits, n, 1536, 1023) {
         return middle_plain(format, limits, document, output);
     }
     long_plain(format, limits, document, output)
 }
 
-// `infer` on texts of at most 511 and 255 bytes.
+// `infer` in work slices as short as at the smallest set of limits.
+fn smallest_infer(
+    format: Format,
+    limits: Limits,
+    shape: &[u8],
+    document: &[u8],
+    output: &mut [u8],
+) -> Answer
+    requires { ⌜ Small limits ⌝ }
+    requires long { ⌜ slices-short (for-grown-document limits (length (now shape)) (length (now document))) (32 ∷ 48 ∷ 271 ∷ []) ≡ false ⌝ }
+    ensures answered { λ r. ⌜ r ≡
+        finish (now (output .entry)) (infer-judged (source format) limits (now (shape .entry)) (now (document .entry))) .answer ⌝ }
+    ensures written { λ _. ⌜ now (output .exit) ≡
+        finish (now (output .entry)) (infer-judged (source format) limits (now (shape .entry)) (now (document .entry))) .output ⌝ }
+{
+    let mut shapes = [0u64; 32];
+    let mut nodes = [0u64; 48];
+    let mut pool = [0u64; 271];
+    perform::infer(
+        format,
+        shape,
+        document,
+        output,
+        &mut shapes,
+        &mut nodes,
+        &mut pool,
+        limits,
+    )
+}
+
+// `infer` in short work slices.
 fn shortest_infer(
     format: Format,
     limits: Limits,
@@ -89,8 +139,7 @@ fn shortest_infer(
     output: &mut [u8],
 ) -> Answer
     requires { ⌜ Small limits ⌝ }
-    requires shape { ⌜ length (now shape) < 512 ⌝ }
-    requires document { ⌜ length (now document) < 256 ⌝ }
+    requires long { ⌜ slices-short (for-grown-document limits (length (now shape)) (length (now document))) (1024 ∷ 429 ∷ 238 ∷ []) ≡ false ⌝ }
     ensures answered { λ r. ⌜ r ≡
         finish (now (output .entry)) (infer-judged (source format) limits (now (shape .entry)) (now (document .entry))) .answer ⌝ }
     ensures written { λ _. ⌜ now (output .exit) ≡
@@ -111,7 +160,7 @@ fn shortest_infer(
     )
 }
 
-// `infer` on texts of at most 1,023 and 4,095 bytes.
+// `infer` in work slices for short texts.
 fn short_infer(
     format: Format,
     limits: Limits,
@@ -120,8 +169,7 @@ fn short_infer(
     output: &mut [u8],
 ) -> Answer
     requires { ⌜ Small limits ⌝ }
-    requires shape { ⌜ length (now shape) < 1024 ⌝ }
-    requires document { ⌜ length (now document) < 4096 ⌝ }
+    requires long { ⌜ slices-short (for-grown-document limits (length (now shape)) (length (now document))) (1024 ∷ 1536 ∷ 1151 ∷ []) ≡ false ⌝ }
     ensures answered { λ r. ⌜ r ≡
         finish (now (output .entry)) (infer-judged (source format) limits (now (shape .entry)) (now (document .entry))) .answer ⌝ }
     ensures written { λ _. ⌜ now (output .exit) ≡
@@ -142,7 +190,7 @@ fn short_infer(
     )
 }
 
-// `infer` on a shape of at most 2,047 bytes and a document of any length.
+// `infer` in work slices for a short shape.
 fn short_shape_infer(
     format: Format,
     limits: Limits,
@@ -151,7 +199,7 @@ fn short_shape_infer(
     output: &mut [u8],
 ) -> Answer
     requires { ⌜ Small limits ⌝ }
-    requires shape { ⌜ length (now shape) < 2048 ⌝ }
+    requires long { ⌜ slices-short (for-grown-document limits (length (now shape)) (length (now document))) (1024 ∷ 1536 ∷ 2815 ∷ []) ≡ false ⌝ }
     ensures answered { λ r. ⌜ r ≡
         finish (now (output .entry)) (infer-judged (source format) limits (now (shape .entry)) (now (document .entry))) .answer ⌝ }
     ensures written { λ _. ⌜ now (output .exit) ≡
@@ -172,7 +220,7 @@ fn short_shape_infer(
     )
 }
 
-// `infer` on texts of any length.
+// `infer` in work slices for texts of any length.
 fn long_infer(
     format: Format,
     limits: Limits,
@@ -215,27 +263,49 @@ pub fn infer(
     ensures written { λ _. ⌜ now (output .exit) ≡
         finish (now (output .entry)) (infer-judged (source format) limits (now (shape .entry)) (now (document .entry))) .output ⌝ }
 {
-    if shape.len() < 512 {
-        if document.len() < 256 {
-            return shortest_infer(format, limits, shape, document, output);
-        }
+    let n = shape.len();
+    let m = document.len();
+    if !slices::grown_document_short(limits, n, m, 32, 48, 271) {
+        return smallest_infer(format, limits, shape, document, output);
     }
-    if shape.len() < 1024 {
-        if document.len() < 4096 {
-            return short_infer(format, limits, shape, document, output);
-        }
+    if !slices::grown_document_short(limits, n, m, 1024, 429, 238) {
+        return shortest_infer(format, limits, shape, document, output);
     }
-    if shape.len() < 2048 {
+    if !slices::grown_document_short(limits, n, m, 1024, 1536, 1151) {
+        return short_infer(format, limits, shape, document, output);
+    }
+    if !slices::grown_document_short(limits, n, m, 1024, 1536, 2815) {
         return short_shape_infer(format, limits, shape, document, output);
     }
     long_infer(format, limits, shape, document, output)
 }
 
-// `join` on texts of at most 1,023 and 1,023 bytes.
+// `join` in work slices as short as at the smallest set of limits.
+fn smallest_join(limits: Limits, first: &[u8], second: &[u8], output: &mut [u8]) -> Answer
+    requires { ⌜ Small limits ⌝ }
+    requires long { ⌜ slices-short (for-grown-shapes limits (length (now first)) (length (now second))) (32 ∷ 32 ∷ 256 ∷ []) ≡ false ⌝ }
+    ensures answered { λ r. ⌜ r ≡ finish (now (output .entry)) (join-judged limits (now (first .entry)) (now (second .entry))) .answer ⌝ }
+    ensures written { λ _. ⌜ now (output .exit) ≡
+        finish (now (output .entry)) (join-judged limits (now (first .entry)) (now (second .entry))) .output ⌝ }
+{
+    let mut shapes = [0u64; 32];
+    let mut others = [0u64; 32];
+    let mut pool = [0u64; 256];
+    perform::join(
+        first,
+        second,
+        output,
+        &mut shapes,
+        &mut others,
+        &mut pool,
+        limits,
+    )
+}
+
+// `join` in work slices for short texts.
 fn short_join(limits: Limits, first: &[u8], second: &[u8], output: &mut [u8]) -> Answer
     requires { ⌜ Small limits ⌝ }
-    requires first { ⌜ length (now first) < 1024 ⌝ }
-    requires second { ⌜ length (now second) < 1024 ⌝ }
+    requires long { ⌜ slices-short (for-grown-shapes limits (length (now first)) (length (now second))) (1024 ∷ 294 ∷ 256 ∷ []) ≡ false ⌝ }
     ensures answered { λ r. ⌜ r ≡ finish (now (output .entry)) (join-judged limits (now (first .entry)) (now (second .entry))) .answer ⌝ }
     ensures written { λ _. ⌜ now (output .exit) ≡
         finish (now (output .entry)) (join-judged limits (now (first .entry)) (now (second .entry))) .output ⌝ }
@@ -254,7 +324,7 @@ fn short_join(limits: Limits, first: &[u8], second: &[u8], output: &mut [u8]) ->
     )
 }
 
-// `join` on texts of any length.
+// `join` in work slices for texts of any length.
 fn long_join(limits: Limits, first: &[u8], second: &[u8], output: &mut [u8]) -> Answer
     requires { ⌜ Small limits ⌝ }
     ensures answered { λ r. ⌜ r ≡ finish (now (output .entry)) (join-judged limits (now (first .entry)) (now (second .entry))) .answer ⌝ }
@@ -282,19 +352,21 @@ pub fn join(limits: Limits, first: &[u8], second: &[u8], output: &mut [u8]) -> A
     ensures written { λ _. ⌜ now (output .exit) ≡
         finish (now (output .entry)) (join-judged limits (now (first .entry)) (now (second .entry))) .output ⌝ }
 {
-    if first.len() < 1024 {
-        if second.len() < 1024 {
-            return short_join(limits, first, second, output);
-        }
+    let n = first.len();
+    let m = second.len();
+    if !slices::grown_shapes_short(limits, n, m, 32, 32, 256) {
+        return smallest_join(limits, first, second, output);
+    }
+    if !slices::grown_shapes_short(limits, n, m, 1024, 294, 256) {
+        return short_join(limits, first, second, output);
     }
     long_join(limits, first, second, output)
 }
 
-// `below` on texts of at most 1,023 and 1,023 bytes.
+// `below` in work slices for short texts.
 fn short_below(limits: Limits, first: &[u8], second: &[u8]) -> Answer
     requires { ⌜ Small limits ⌝ }
-    requires first { ⌜ length (now first) < 1024 ⌝ }
-    requires second { ⌜ length (now second) < 1024 ⌝ }
+    requires long { ⌜ slices-short (for-two-shapes limits (length (now first)) (length (now second))) (294 ∷ 294 ∷ 256 ∷ []) ≡ false ⌝ }
     ensures answered { λ r. ⌜ r ≡ say (below-judged limits (now (first .entry)) (now (second .entry))) ⌝ }
 {
     let mut shapes = [0u64; 294];
@@ -303,7 +375,7 @@ fn short_below(limits: Limits, first: &[u8], second: &[u8]) -> Answer
     perform::below(first, second, &mut shapes, &mut others, &mut pool, limits)
 }
 
-// `below` on texts of any length.
+// `below` in work slices for texts of any length.
 fn long_below(limits: Limits, first: &[u8], second: &[u8]) -> Answer
     requires { ⌜ Small limits ⌝ }
     ensures answered { λ r. ⌜ r ≡ say (below-judged limits (now (first .entry)) (now (second .entry))) ⌝ }
@@ -319,19 +391,38 @@ pub fn below(limits: Limits, first: &[u8], second: &[u8]) -> Answer
     requires { ⌜ Small limits ⌝ }
     ensures answered { λ r. ⌜ r ≡ say (below-judged limits (now (first .entry)) (now (second .entry))) ⌝ }
 {
-    if first.len() < 1024 {
-        if second.len() < 1024 {
-            return short_below(limits, first, second);
-        }
+    let n = first.len();
+    let m = second.len();
+    if !slices::two_shapes_short(limits, n, m, 294, 294, 256) {
+        return short_below(limits, first, second);
     }
     long_below(limits, first, second)
 }
 
-// `admits` on texts of at most 511 and 255 bytes.
+// `admits` in work slices as short as at the smallest set of limits.
+fn smallest_admits(format: Format, limits: Limits, shape: &[u8], document: &[u8]) -> Answer
+    requires { ⌜ Small limits ⌝ }
+    requires long { ⌜ slices-short (for-shape-document limits (length (now shape)) (length (now document))) (32 ∷ 48 ∷ 271 ∷ []) ≡ false ⌝ }
+    ensures answered { λ r. ⌜ r ≡ say (admits-judged (source format) limits (now (shape .entry)) (now (document .entry))) ⌝ }
+{
+    let mut shapes = [0u64; 32];
+    let mut nodes = [0u64; 48];
+    let mut pool = [0u64; 271];
+    perform::admits(
+        format,
+        shape,
+        document,
+        &mut shapes,
+        &mut nodes,
+        &mut pool,
+        limits,
+    )
+}
+
+// `admits` in short work slices.
 fn shortest_admits(format: Format, limits: Limits, shape: &[u8], document: &[u8]) -> Answer
     requires { ⌜ Small limits ⌝ }
-    requires shape { ⌜ length (now shape) < 512 ⌝ }
-    requires document { ⌜ length (now document) < 256 ⌝ }
+    requires long { ⌜ slices-short (for-shape-document limits (length (now shape)) (length (now document))) (146 ∷ 429 ∷ 238 ∷ []) ≡ false ⌝ }
     ensures answered { λ r. ⌜ r ≡ say (admits-judged (source format) limits (now (shape .entry)) (now (document .entry))) ⌝ }
 {
     let mut shapes = [0u64; 146];
@@ -348,11 +439,10 @@ fn shortest_admits(format: Format, limits: Limits, shape: &[u8], document: &[u8]
     )
 }
 
-// `admits` on texts of at most 1,023 and 4,095 bytes.
+// `admits` in work slices for short texts.
 fn short_admits(format: Format, limits: Limits, shape: &[u8], document: &[u8]) -> Answer
     requires { ⌜ Small limits ⌝ }
-    requires shape { ⌜ length (now shape) < 1024 ⌝ }
-    requires document { ⌜ length (now document) < 4096 ⌝ }
+    requires long { ⌜ slices-short (for-shape-document limits (length (now shape)) (length (now document))) (294 ∷ 1536 ∷ 1151 ∷ []) ≡ false ⌝ }
     ensures answered { λ r. ⌜ r ≡ say (admits-judged (source format) limits (now (shape .entry)) (now (document .entry))) ⌝ }
 {
     let mut shapes = [0u64; 294];
@@ -369,10 +459,10 @@ fn short_admits(format: Format, limits: Limits, shape: &[u8], document: &[u8]) -
     )
 }
 
-// `admits` on a shape of at most 2,047 bytes and a document of any length.
+// `admits` in work slices for a short shape.
 fn short_shape_admits(format: Format, limits: Limits, shape: &[u8], document: &[u8]) -> Answer
     requires { ⌜ Small limits ⌝ }
-    requires shape { ⌜ length (now shape) < 2048 ⌝ }
+    requires long { ⌜ slices-short (for-shape-document limits (length (now shape)) (length (now document))) (586 ∷ 1536 ∷ 2815 ∷ []) ≡ false ⌝ }
     ensures answered { λ r. ⌜ r ≡ say (admits-judged (source format) limits (now (shape .entry)) (now (document .entry))) ⌝ }
 {
     let mut shapes = [0u64; 586];
@@ -389,7 +479,7 @@ fn short_shape_admits(format: Format, limits: Limits, shape: &[u8], document: &[
     )
 }
 
-// `admits` on texts of any length.
+// `admits` in work slices for texts of any length.
 fn long_admits(format: Format, limits: Limits, shape: &[u8], document: &[u8]) -> Answer
     requires { ⌜ Small limits ⌝ }
     ensures answered { λ r. ⌜ r ≡ say (admits-judged (source format) limits (now (shape .entry)) (now (document .entry))) ⌝ }
@@ -413,27 +503,53 @@ pub fn admits(format: Format, limits: Limits, shape: &[u8], document: &[u8]) -> 
     requires { ⌜ Small limits ⌝ }
     ensures answered { λ r. ⌜ r ≡ say (admits-judged (source format) limits (now (shape .entry)) (now (document .entry))) ⌝ }
 {
-    if shape.len() < 512 {
-        if document.len() < 256 {
-            return shortest_admits(format, limits, shape, document);
-        }
+    let n = shape.len();
+    let m = document.len();
+    if !slices::shape_document_short(limits, n, m, 32, 48, 271) {
+        return smallest_admits(format, limits, shape, document);
     }
-    if shape.len() < 1024 {
-        if document.len() < 4096 {
-            return short_admits(format, limits, shape, document);
-        }
+    if !slices::shape_document_short(limits, n, m, 146, 429, 238) {
+        return shortest_admits(format, limits, shape, document);
     }
-    if shape.len() < 2048 {
+    if !slices::shape_document_short(limits, n, m, 294, 1536, 1151) {
+        return short_admits(format, limits, shape, document);
+    }
+    if !slices::shape_document_short(limits, n, m, 586, 1536, 2815) {
         return short_shape_admits(format, limits, shape, document);
     }
     long_admits(format, limits, shape, document)
 }
 
-// `check` on texts of at most 255 and 511 bytes.
+// `check` in work slices as short as at the smallest set of limits.
+fn smallest_check(limits: Limits, reader: &[u8], shape: &[u8], output: &mut [u8]) -> Answer
+    requires { ⌜ Small limits ⌝ }
+    requires long { ⌜ slices-short (for-reader-shape limits (length (now reader)) (length (now shape))) (48 ∷ 32 ∷ 32 ∷ 4 ∷ 266 ∷ []) ≡ false ⌝ }
+    ensures answered { λ r. ⌜ r ≡ finish (now (output .entry)) (check-judged limits (now (reader .entry)) (now (shape .entry))) .answer ⌝ }
+    ensures written { λ _. ⌜ now (output .exit) ≡
+        finish (now (output .entry)) (check-judged limits (now (reader .entry)) (now (shape .entry))) .output ⌝ }
+{
+    let mut forms = [0u64; 48];
+    let mut shapes = [0u64; 32];
+    let mut results = [0u64; 32];
+    let mut bindings = [0u64; 4];
+    let mut pool = [0u64; 266];
+    perform::check(
+        reader,
+        shape,
+        output,
+        &mut forms,
+        &mut shapes,
+        &mut results,
+        &mut bindings,
+        &mut pool,
+        limits,
+    )
+}
+
+// `check` in short work slices.
 fn shortest_check(limits: Limits, reader: &[u8], shape: &[u8], output: &mut [u8]) -> Answer
     requires { ⌜ Small limits ⌝ }
-    requires reader { ⌜ length (now reader) < 256 ⌝ }
-    requires shape { ⌜ length (now shape) < 512 ⌝ }
+    requires long { ⌜ slices-short (for-reader-shape limits (length (now reader)) (length (now shape))) (255 ∷ 146 ∷ 1024 ∷ 32 ∷ 149 ∷ []) ≡ false ⌝ }
     ensures answered { λ r. ⌜ r ≡ finish (now (output .entry)) (check-judged limits (now (reader .entry)) (now (shape .entry))) .answer ⌝ }
     ensures written { λ _. ⌜ now (output .exit) ≡
         finish (now (output .entry)) (check-judged limits (now (reader .entry)) (now (shape .entry))) .output ⌝ }
@@ -456,11 +572,10 @@ fn shortest_check(limits: Limits, reader: &[u8], shape: &[u8], output: &mut [u8]
     )
 }
 
-// `check` on texts of at most 1,023 and 1,023 bytes.
+// `check` in work slices for short texts.
 fn short_check(limits: Limits, reader: &[u8], shape: &[u8], output: &mut [u8]) -> Answer
     requires { ⌜ Small limits ⌝ }
-    requires reader { ⌜ length (now reader) < 1024 ⌝ }
-    requires shape { ⌜ length (now shape) < 1024 ⌝ }
+    requires long { ⌜ slices-short (for-reader-shape limits (length (now reader)) (length (now shape))) (1023 ∷ 294 ∷ 1024 ∷ 32 ∷ 469 ∷ []) ≡ false ⌝ }
     ensures answered { λ r. ⌜ r ≡ finish (now (output .entry)) (check-judged limits (now (reader .entry)) (now (shape .entry))) .answer ⌝ }
     ensures written { λ _. ⌜ now (output .exit) ≡
         finish (now (output .entry)) (check-judged limits (now (reader .entry)) (now (shape .entry))) .output ⌝ }
@@ -483,7 +598,7 @@ fn short_check(limits: Limits, reader: &[u8], shape: &[u8], output: &mut [u8]) -
     )
 }
 
-// `check` on texts of any length.
+// `check` in work slices for texts of any length.
 fn long_check(limits: Limits, reader: &[u8], shape: &[u8], output: &mut [u8]) -> Answer
     requires { ⌜ Small limits ⌝ }
     ensures answered { λ r. ⌜ r ≡ finish (now (output .entry)) (check-judged limits (now (reader .entry)) (now (shape .entry))) .answer ⌝ }
@@ -515,20 +630,55 @@ pub fn check(limits: Limits, reader: &[u8], shape: &[u8], output: &mut [u8]) -> 
     ensures written { λ _. ⌜ now (output .exit) ≡
         finish (now (output .entry)) (check-judged limits (now (reader .entry)) (now (shape .entry))) .output ⌝ }
 {
-    if reader.len() < 256 {
-        if shape.len() < 512 {
-            return shortest_check(limits, reader, shape, output);
-        }
+    let n = reader.len();
+    let m = shape.len();
+    if !slices::reader_shape_short(limits, n, m, 48, 32, 32, 4, 266) {
+        return smallest_check(limits, reader, shape, output);
     }
-    if reader.len() < 1024 {
-        if shape.len() < 1024 {
-            return short_check(limits, reader, shape, output);
-        }
+    if !slices::reader_shape_short(limits, n, m, 255, 146, 1024, 32, 149) {
+        return shortest_check(limits, reader, shape, output);
+    }
+    if !slices::reader_shape_short(limits, n, m, 1023, 294, 1024, 32, 469) {
+        return short_check(limits, reader, shape, output);
     }
     long_check(limits, reader, shape, output)
 }
 
-// `run` on texts of at most 255 and 255 bytes.
+// `run` in work slices as short as at the smallest set of limits.
+fn smallest_run(
+    format: Format,
+    limits: Limits,
+    reader: &[u8],
+    document: &[u8],
+    output: &mut [u8],
+) -> Answer
+    requires { ⌜ Small limits ⌝ }
+    requires long { ⌜ slices-short (for-reader-document limits (length (now reader)) (length (now document))) (48 ∷ 48 ∷ 48 ∷ 4 ∷ 281 ∷ []) ≡ false ⌝ }
+    ensures answered { λ r. ⌜ r ≡
+        finish (now (output .entry)) (run-judged (source format) limits (now (reader .entry)) (now (document .entry))) .answer ⌝ }
+    ensures written { λ _. ⌜ now (output .exit) ≡
+        finish (now (output .entry)) (run-judged (source format) limits (now (reader .entry)) (now (document .entry))) .output ⌝ }
+{
+    let mut forms = [0u64; 48];
+    let mut nodes = [0u64; 48];
+    let mut results = [0u64; 48];
+    let mut bindings = [0u64; 4];
+    let mut pool = [0u64; 281];
+    perform::run(
+        format,
+        reader,
+        document,
+        output,
+        &mut forms,
+        &mut nodes,
+        &mut results,
+        &mut bindings,
+        &mut pool,
+        limits,
+    )
+}
+
+// `run` in short work slices.
 fn shortest_run(
     format: Format,
     limits: Limits,
@@ -537,8 +687,7 @@ fn shortest_run(
     output: &mut [u8],
 ) -> Answer
     requires { ⌜ Small limits ⌝ }
-    requires reader { ⌜ length (now reader) < 256 ⌝ }
-    requires document { ⌜ length (now document) < 256 ⌝ }
+    requires long { ⌜ slices-short (for-reader-document limits (length (now reader)) (length (now document))) (255 ∷ 429 ∷ 1536 ∷ 32 ∷ 259 ∷ []) ≡ false ⌝ }
     ensures answered { λ r. ⌜ r ≡
         finish (now (output .entry)) (run-judged (source format) limits (now (reader .entry)) (now (document .entry))) .answer ⌝ }
     ensures written { λ _. ⌜ now (output .exit) ≡
@@ -563,7 +712,7 @@ fn shortest_run(
     )
 }
 
-// `run` on texts of at most 1,023 and 4,095 bytes.
+// `run` in work slices for short texts.
 fn short_run(
     format: Format,
     limits: Limits,
@@ -572,8 +721,7 @@ fn short_run(
     output: &mut [u8],
 ) -> Answer
     requires { ⌜ Small limits ⌝ }
-    requires reader { ⌜ length (now reader) < 1024 ⌝ }
-    requires document { ⌜ length (now document) < 4096 ⌝ }
+    requires long { ⌜ slices-short (for-reader-document limits (length (now reader)) (length (now document))) (1023 ∷ 1536 ∷ 1536 ∷ 32 ∷ 1364 ∷ []) ≡ false ⌝ }
     ensures answered { λ r. ⌜ r ≡
         finish (now (output .entry)) (run-judged (source format) limits (now (reader .entry)) (now (document .entry))) .answer ⌝ }
     ensures written { λ _. ⌜ now (output .exit) ≡
@@ -598,7 +746,7 @@ fn short_run(
     )
 }
 
-// `run` on a reader of at most 255 bytes and a document of any length.
+// `run` in work slices for a short reader.
 fn short_reader_run(
     format: Format,
     limits: Limits,
@@ -607,7 +755,7 @@ fn short_reader_run(
     output: &mut [u8],
 ) -> Answer
     requires { ⌜ Small limits ⌝ }
-    requires reader { ⌜ length (now reader) < 256 ⌝ }
+    requires long { ⌜ slices-short (for-reader-document limits (length (now reader)) (length (now document))) (255 ∷ 1536 ∷ 1536 ∷ 32 ∷ 2644 ∷ []) ≡ false ⌝ }
     ensures answered { λ r. ⌜ r ≡
         finish (now (output .entry)) (run-judged (source format) limits (now (reader .entry)) (now (document .entry))) .answer ⌝ }
     ensures written { λ _. ⌜ now (output .exit) ≡
@@ -632,7 +780,7 @@ fn short_reader_run(
     )
 }
 
-// `run` on texts of any length.
+// `run` in work slices for texts of any length.
 fn long_run(
     format: Format,
     limits: Limits,
@@ -679,17 +827,18 @@ pub fn run(
     ensures written { λ _. ⌜ now (output .exit) ≡
         finish (now (output .entry)) (run-judged (source format) limits (now (reader .entry)) (now (document .entry))) .output ⌝ }
 {
-    if reader.len() < 256 {
-        if document.len() < 256 {
-            return shortest_run(format, limits, reader, document, output);
-        }
+    let n = reader.len();
+    let m = document.len();
+    if !slices::reader_document_short(limits, n, m, 48, 48, 48, 4, 281) {
+        return smallest_run(format, limits, reader, document, output);
     }
-    if reader.len() < 1024 {
-        if document.len() < 4096 {
-            return short_run(format, limits, reader, document, output);
-        }
+    if !slices::reader_document_short(limits, n, m, 255, 429, 1536, 32, 259) {
+        return shortest_run(format, limits, reader, document, output);
     }
-    if reader.len() < 256 {
+    if !slices::reader_document_short(limits, n, m, 1023, 1536, 1536, 32, 1364) {
+        return short_run(format, limits, reader, document, output);
+    }
+    if !slices::reader_document_short(limits, n, m, 255, 1536, 1536, 32, 2644) {
         return short_reader_run(format, limits, reader, document, output);
     }
     long_run(format, limits, reader, document, output)

@@ -12,6 +12,7 @@ pub const ANSWER: usize = 40;
 #[derive(Clone)]
 pub struct Case {
     pub operation: Operation,
+    pub limits: Limits,
     pub buffers: Buffers,
     null: bool,
 }
@@ -33,7 +34,7 @@ pub struct Left {
 }
 
 impl Case {
-    pub fn new(call: &Call, random: &mut Random) -> Case {
+    pub fn new(call: &Call, limits: Limits, random: &mut Random) -> Case {
         let answer = match random.below(32) {
             0 => ANSWER - 1,
             1 => ANSWER - 2,
@@ -42,6 +43,7 @@ impl Case {
         };
         Case {
             operation: call.operation,
+            limits,
             null: random.once_in(2),
             buffers: Buffers {
                 first: Buffer::holding(&call.first, random),
@@ -56,12 +58,14 @@ impl Case {
     pub fn stated(&self) -> Left {
         let mut buffers = self.buffers.clone();
         if buffers.answer.inside().len() < ANSWER {
-            return Left { number: 1, buffers };
+            // 18 goes before 1, and either is returned alone.
+            let number = if self.limits.are_in_range() { 1 } else { 18 };
+            return Left { number, buffers };
         }
         let texts = Texts {
             first: self.buffers.first.inside(),
             second: self.buffers.second.inside(),
-            limits: &Limits::PAPER,
+            limits: &self.limits,
         };
         let output = buffers.output.inside_mut();
         let (answer, written) = outcome(self.operation, texts, output.len());
@@ -77,6 +81,7 @@ impl Case {
     pub fn left_by(&self, callee: Callee) -> Left {
         let mut buffers = self.buffers.clone();
         let lent = Lent {
+            limits: self.limits,
             first: buffers.first.inside(),
             second: buffers.second.inside(),
             output: buffers.output.inside_mut(),

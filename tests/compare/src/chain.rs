@@ -1,5 +1,5 @@
 //! Samples joined one behind the other by `infer`, each call given what the
-//! last accepted one wrote: in every order the same bytes are reached, and they
+//! last accepted one wrote, all with one set: in every order the same bytes are reached, and they
 //! are those of the second implementation.
 
 use crate::case::ANSWER;
@@ -22,26 +22,32 @@ pub struct Tally {
 }
 
 /// Whether a callee's chains of some samples reach what they have to.
-pub fn is_fine(callee: Callee, samples: &[Vec<u8>], mut random: Random, tally: &mut Tally) -> bool {
-    let (reached, accepted) = chained(callee, samples);
+pub fn is_fine(
+    callee: Callee,
+    limits: &Limits,
+    samples: &[Vec<u8>],
+    mut random: Random,
+    tally: &mut Tally,
+) -> bool {
+    let (reached, accepted) = chained(callee, limits, samples);
     tally.accepted += accepted.len();
     tally.refused += samples.len() - accepted.len();
     let mut order = accepted.clone();
     let same = (0..ORDERS).all(|_| {
         shuffle(&mut order, &mut random);
         tally.orders += 1;
-        let (again, all) = chained(callee, &order);
+        let (again, all) = chained(callee, limits, &order);
         again == reached && all.len() == order.len()
     });
-    same && stated(&accepted) == Some(reached)
+    same && stated(limits, &accepted) == Some(reached)
 }
 
 /// The text that samples reach from `(shape)`, and the samples accepted.
-fn chained(callee: Callee, samples: &[Vec<u8>]) -> (Vec<u8>, Vec<Vec<u8>>) {
+fn chained(callee: Callee, limits: &Limits, samples: &[Vec<u8>]) -> (Vec<u8>, Vec<Vec<u8>>) {
     let mut reached = b"(shape)\n".to_vec();
     let mut accepted = Vec::new();
     for sample in samples {
-        if let Some(written) = inferred(callee, &reached, sample) {
+        if let Some(written) = inferred(callee, limits, &reached, sample) {
             reached = written;
             accepted.push(sample.clone());
         }
@@ -50,10 +56,11 @@ fn chained(callee: Callee, samples: &[Vec<u8>]) -> (Vec<u8>, Vec<Vec<u8>>) {
 }
 
 /// What a callee's `infer` writes.
-fn inferred(callee: Callee, shape: &[u8], document: &[u8]) -> Option<Vec<u8>> {
-    let mut output = vec![0; Limits::PAPER.text_bytes];
+fn inferred(callee: Callee, limits: &Limits, shape: &[u8], document: &[u8]) -> Option<Vec<u8>> {
+    let mut output = vec![0; limits.text_bytes];
     let mut answer = [0; ANSWER];
     let lent = Lent {
+        limits: *limits,
         first: shape,
         second: document,
         output: &mut output,
@@ -67,13 +74,13 @@ fn inferred(callee: Callee, shape: &[u8], document: &[u8]) -> Option<Vec<u8>> {
 }
 
 /// What the second implementation says that accepted samples reach.
-fn stated(samples: &[Vec<u8>]) -> Option<Vec<u8>> {
+fn stated(limits: &Limits, samples: &[Vec<u8>]) -> Option<Vec<u8>> {
     let mut shape = Shape::default();
     for sample in samples {
-        let value = json::read(sample, &Limits::PAPER).ok()?;
+        let value = json::read(sample, limits).ok()?;
         shape = join(shape, shape_of(&value));
     }
-    write_shape(&shape, &Limits::PAPER)
+    write_shape(&shape, limits)
 }
 
 fn shuffle(samples: &mut [Vec<u8>], random: &mut Random) {

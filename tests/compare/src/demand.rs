@@ -4,6 +4,7 @@
 
 use crate::case::ANSWER;
 use crate::library::{Callee, Lent};
+use crate::sets;
 use oracle::generate::{self, Random};
 use oracle::json;
 use oracle::limits::Limits;
@@ -29,9 +30,10 @@ impl Tally {
     }
 }
 
-/// The calls of one host.
+/// The calls of one host, all with one set.
 struct Host {
     callee: Callee,
+    limits: Limits,
     random: Random,
 }
 
@@ -56,10 +58,18 @@ enum Room {
 /// Tries the demand with the samples at an index. Gives what is wrong.
 pub fn trial(callee: Callee, seed: u64, index: u64, tally: &mut Tally) -> Result<(), String> {
     let random = Random::at(!seed, index);
-    let mut host = Host { callee, random };
+    let limits = match index % 40 {
+        0 => Limits::LARGEST,
+        _ => sets::at(seed, index),
+    };
+    let mut host = Host {
+        callee,
+        limits,
+        random,
+    };
     let samples = match index % 40 {
         0 => vec![long_list(&mut host.random), b"[]".to_vec()],
-        _ => generate::samples(seed, index, &Limits::PAPER),
+        _ => generate::samples(seed, index, &limits),
     };
     let (reached, mut accepted) = host.chain(&samples, Room::Any);
     tally.accepted += accepted.len();
@@ -77,8 +87,8 @@ pub fn trial(callee: Callee, seed: u64, index: u64, tally: &mut Tally) -> Result
     if again != reached || all.len() != accepted.len() {
         return Err("another order comes to another shape".into());
     }
-    let shape = read_shape(&again, &Limits::PAPER).map_err(|_| "the shape reached is none")?;
-    let mut trial = generate::trial(seed, index, &shape, &Limits::PAPER);
+    let shape = read_shape(&again, &limits).map_err(|_| "the shape reached is none")?;
+    let mut trial = generate::trial(seed, index, &shape, &limits);
     trial.readers.extend(demanding(index));
     trial.documents.extend(accepted);
     for reader in &trial.readers {
@@ -89,11 +99,11 @@ pub fn trial(callee: Callee, seed: u64, index: u64, tally: &mut Tally) -> Result
 
 /// Whether a result is admitted that is too long to be a document of a call:
 /// the second implementation says so.
-fn is_long_and_admitted(shape: &[u8], result: &[u8]) -> bool {
-    let shape = read_shape(shape, &Limits::PAPER);
-    let value = json::read(result, &Limits::PAPER);
+fn is_long_and_admitted(limits: &Limits, shape: &[u8], result: &[u8]) -> bool {
+    let shape = read_shape(shape, limits);
+    let value = json::read(result, limits);
     let admitted = matches!((shape, value), (Ok(shape), Ok(value)) if admits(&shape, &value));
-    admitted && result.len() > Limits::PAPER.text_bytes
+    admitted && result.len() > limits.text_bytes
 }
 
 /// A list that takes a reader to the limits of steps and of values.
@@ -169,7 +179,7 @@ impl Host {
         }
         match ran.number {
             0 if self.admits(result_shape, &ran.written) => Ok(()),
-            0 if is_long_and_admitted(result_shape, &ran.written) => Ok(()),
+            0 if is_long_and_admitted(&self.limits, result_shape, &ran.written) => Ok(()),
             0 => Err("the result shape does not admit a result".into()),
             1 | 13 | 14 => Ok(()),
             number => Err(format!("a reader that passed comes to {number}")),
@@ -189,6 +199,7 @@ impl Host {
         let mut output = vec![0xA5; output];
         let mut answer = vec![0xA5; answer];
         let lent = Lent {
+            limits: self.limits,
             first,
             second,
             output: &mut output,
@@ -214,7 +225,7 @@ impl Host {
         match self.random.below(8) {
             0 => self.random.below(64),
             1 => self.random.below(1024),
-            _ => Limits::PAPER.text_bytes,
+            _ => self.limits.text_bytes,
         }
     }
 

@@ -7,12 +7,12 @@ mod chain;
 mod demand;
 mod library;
 mod report;
+mod sets;
 mod wrong;
 
 use case::Case;
 use library::{Callee, Known};
 use oracle::generate::{self, Call, Random};
-use oracle::limits::Limits;
 use oracle::operations::Operation;
 use std::env;
 use std::process::ExitCode;
@@ -57,7 +57,7 @@ impl Verdict {
 /// What came up for one operation.
 #[derive(Default)]
 struct Tally {
-    numbers: [u64; 16],
+    numbers: [u64; 19],
     yes: u64,
     calls: u64,
     bytes: usize,
@@ -101,12 +101,14 @@ fn clock() -> u64 {
     since.map_or(0, |since| since.as_nanos() as u64)
 }
 
-/// The cases of one index. What is lent besides the texts has random numbers of
-/// its own, so that the texts are those of the second implementation's commands.
+/// The cases of one index, all with its set. What is lent besides the texts has
+/// random numbers of its own, so that the texts are those of the second
+/// implementation's commands.
 fn cases(plan: &Plan, index: u64, operation: Operation) -> Vec<Case> {
-    let calls = generate::calls(plan.seed, index, operation, &Limits::PAPER);
+    let calls = generate::calls(plan.seed, index, operation, &sets::at(plan.seed, index));
+    let handed = sets::handed(plan.seed, index);
     let mut random = Random::at(!plan.seed, index);
-    let case = |call: &Call| Case::new(call, &mut random);
+    let case = |call: &Call| Case::new(call, handed, &mut random);
     calls.iter().map(case).collect()
 }
 
@@ -195,10 +197,11 @@ fn show_numbers(known: &Known, tally: &Tally, verdict: &mut Verdict) {
 fn chains(plan: &Plan, verdict: &mut Verdict) {
     let start = Instant::now();
     let count = plan.count.unwrap_or(CHAINS).min(CHAINS);
-    let samples = |index| generate::samples(plan.seed, index, &Limits::PAPER);
+    let set = |index| sets::at(plan.seed, index);
+    let samples = |index| generate::samples(plan.seed, index, &set(index));
     let is_fine = |callee: Callee, index: u64, tally: &mut chain::Tally| {
         let random = Random::at(!plan.seed, index);
-        chain::is_fine(callee, &samples(index), random, tally)
+        chain::is_fine(callee, &set(index), &samples(index), random, tally)
     };
     let mut ignored = chain::Tally::default();
     verdict.count((0..100).any(|index| !is_fine(wrong::FORGETFUL, index, &mut ignored)));
@@ -208,7 +211,7 @@ fn chains(plan: &Plan, verdict: &mut Verdict) {
         verdict.count(fine);
         if !fine && verdict.failed <= PRINTED {
             let again = format!("tests/compare/run {} 1 {index}", plan.seed);
-            report::print_chain(&samples(index), &again);
+            report::print_chain(&set(index), &samples(index), &again);
         }
     }
     println!(

@@ -1,11 +1,13 @@
 //! A case that differs, in full.
 
 use crate::case::{Case, Left};
+use oracle::limits::Limits;
 use oracle::vectors::to_hex;
 
 pub fn print(case: &Case, stated: &Left, left: &Left, again: &str) {
     let lent = &case.buffers;
     println!("differs: {}; again: {again}", case.operation.name());
+    println!("  {:?}", case.limits);
     show_text("text 1", lent.first.inside());
     show_text("text 2", lent.second.inside());
     show("output lent", lent.output.inside());
@@ -24,8 +26,9 @@ pub fn print(case: &Case, stated: &Left, left: &Left, again: &str) {
 }
 
 /// Samples that do not reach what they have to.
-pub fn print_chain(samples: &[Vec<u8>], again: &str) {
+pub fn print_chain(limits: &Limits, samples: &[Vec<u8>], again: &str) {
     println!("differs: a chain of samples; again: {again}");
+    println!("  {limits:?}");
     for sample in samples {
         show_text("sample", sample);
     }

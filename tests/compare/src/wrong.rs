@@ -36,7 +36,88 @@ pub const RUNS_TO_NULL: Callee = |o, mut lent| match right(o, &mut lent) {
 };
 
 /// What is wrong with a callee, of which operation, and the callee.
-pub const WRONG: [(&str, Operation, Callee); 48] = [
+pub const WRONG: [(&str, Operation, Callee); 56] = [
+    (
+        "18 is judged behind 1",
+        Operation::Plain,
+        |o, mut lent| match right(o, &mut lent) {
+            18 if lent.answer.len() < ANSWER => 1,
+            number => number,
+        },
+    ),
+    (
+        "18 is written to an answer buffer of 39 bytes",
+        Operation::Below,
+        |o, mut lent| {
+            let number = right(o, &mut lent);
+            if number == 18 {
+                lent.answer.fill(0);
+            }
+            number
+        },
+    ),
+    (
+        "18 leaves the answer as it was",
+        Operation::Admits,
+        |o, mut lent| {
+            let before = lent.answer.to_vec();
+            let number = right(o, &mut lent);
+            if number == 18 {
+                lent.answer.copy_from_slice(&before);
+            }
+            number
+        },
+    ),
+    ("513 values are let through", Operation::Join, |o, lent| {
+        with_set(o, lent, |set| match set.values {
+            513 => Limits { values: 512, ..set },
+            _ => set,
+        })
+    }),
+    (
+        "steps are judged where there is a run alone",
+        Operation::Infer,
+        |o, lent| {
+            with_set(o, lent, |set| Limits {
+                steps: Limits::LARGEST.steps,
+                ..set
+            })
+        },
+    ),
+    (
+        "the low 32 bits are the number",
+        Operation::Check,
+        |o, lent| {
+            with_set(o, lent, |set| Limits {
+                nesting: set.nesting & 0xffff_ffff,
+                values: set.values & 0xffff_ffff,
+                ..set
+            })
+        },
+    ),
+    (
+        "the largest set is used inside",
+        Operation::Infer,
+        |o, lent| {
+            with_set(o, lent, |set| match set.are_in_range() {
+                true => Limits::LARGEST,
+                false => set,
+            })
+        },
+    ),
+    (
+        "a run has the steps of the largest set",
+        Operation::Run,
+        |o, lent| {
+            with_set(o, lent, |set| match set.are_in_range() {
+                true => Limits {
+                    steps: Limits::LARGEST.steps,
+                    ..set
+                },
+                false => set,
+            })
+        },
+    ),
     (
         "a byte of the output is changed on a refusal",
         Operation::Plain,
@@ -96,7 +177,7 @@ pub const WRONG: [(&str, Operation, Callee); 48] = [
         Operation::Plain,
         |o, mut lent| {
             let number = right(o, &mut lent);
-            if number > 1 {
+            if number > 1 && lent.answer.len() >= ANSWER {
                 lent.answer[8..24].rotate_left(8);
             }
             number
@@ -181,13 +262,14 @@ pub const WRONG: [(&str, Operation, Callee); 48] = [
             let number = right(o, &mut lent);
             let mut judged = [0; ANSWER];
             let mut second = Lent {
+                limits: lent.limits,
                 first: lent.second,
                 second: b"",
                 output: &mut [],
                 answer: &mut judged,
                 null: false,
             };
-            if number == 1 || right(Operation::Plain, &mut second) != 3 {
+            if number == 1 || number == 18 || right(Operation::Plain, &mut second) != 3 {
                 return number;
             }
             judged[0] = 2;
@@ -351,8 +433,9 @@ pub const WRONG: [(&str, Operation, Callee); 48] = [
         let mut judged = [0; ANSWER];
         let records = everywhere(shape_in(lent.second), records_alone);
         let mut otherwise = Lent {
+            limits: lent.limits,
             first: lent.first,
-            second: &write_shape(&records, &Limits::PAPER).unwrap_or_default(),
+            second: &write_shape(&records, &lent.limits).unwrap_or_default(),
             output: &mut [],
             answer: &mut judged,
             null: false,
@@ -399,16 +482,18 @@ pub const WRONG: [(&str, Operation, Callee); 48] = [
         },
     ),
     ("13 comes one step early", Operation::Run, |o, lent| {
-        instead(o, lent, |lent| match word(lent, 24) == 65_536 {
-            true => 13,
-            false => 0,
+        instead(o, lent, |lent| {
+            match word(lent, 24) == lent.limits.steps as usize {
+                true => 13,
+                false => 0,
+            }
         })
     }),
     ("14 comes one value early", Operation::Run, |_, lent| {
-        run_otherwise(lent, |body| body, 511)
+        run_otherwise(lent, |body| body, |values| values - 1)
     }),
     ("14 comes one value late", Operation::Run, |_, lent| {
-        run_otherwise(lent, |body| body, 513)
+        run_otherwise(lent, |body| body, |values| values + 1)
     }),
     ("14 is 15", Operation::Run, |o, mut lent| {
         match right(o, &mut lent) {
@@ -423,7 +508,7 @@ pub const WRONG: [(&str, Operation, Callee); 48] = [
                 Body::When(Case::Int, at, a, b) => Body::When(Case::Num, at, a, b),
                 other => other,
             },
-            Limits::PAPER.values,
+            |values| values,
         )
     }),
     ("if takes its second on false", Operation::Run, |_, lent| {
@@ -433,7 +518,7 @@ pub const WRONG: [(&str, Operation, Callee); 48] = [
                 Body::If(condition, a, b) => Body::If(condition, b, a),
                 other => other,
             },
-            Limits::PAPER.values,
+            |values| values,
         )
     }),
     (
@@ -449,6 +534,12 @@ pub const WRONG: [(&str, Operation, Callee); 48] = [
     ),
 ];
 
+/// The right call with another set.
+fn with_set(operation: Operation, mut lent: Lent, change: fn(Limits) -> Limits) -> u64 {
+    lent.limits = change(lent.limits);
+    right(operation, &mut lent)
+}
+
 /// The right call, and where that is done, another in its place.
 fn instead(operation: Operation, mut lent: Lent, wrong: fn(&mut Lent) -> u64) -> u64 {
     match right(operation, &mut lent) {
@@ -460,7 +551,7 @@ fn instead(operation: Operation, mut lent: Lent, wrong: fn(&mut Lent) -> u64) ->
 /// Refuses a shape of as many forms as may be.
 fn one_form_early(lent: &mut Lent) -> u64 {
     let shape = shape_in(&lent.output[..length(lent)]);
-    match forms(&shape) == Limits::PAPER.values {
+    match forms(&shape) == lent.limits.values {
         true => 11,
         false => 0,
     }
@@ -468,13 +559,13 @@ fn one_form_early(lent: &mut Lent) -> u64 {
 
 /// A check in which every form of the reader is changed.
 fn check_otherwise(mut lent: Lent, change: fn(Body) -> Body) -> u64 {
-    let shape = read_shape(lent.second, &Limits::PAPER);
+    let shape = read_shape(lent.second, &lent.limits);
     let (Some(reader), Ok(shape)) = (changed_reader(&lent, change), shape) else {
         return right(Operation::Check, &mut lent);
     };
     let checked = check(&reader, shape).map_err(|refusal| refused(refusal.number, refusal.place));
     let written = checked.and_then(|shape| {
-        write_shape(&shape, &Limits::PAPER).ok_or(Answer {
+        write_shape(&shape, &lent.limits).ok_or(Answer {
             number: 11,
             ..Answer::default()
         })
@@ -487,14 +578,14 @@ fn check_otherwise(mut lent: Lent, change: fn(Body) -> Body) -> u64 {
 
 /// A run in which every form of the reader is changed, and results have
 /// another number of values.
-fn run_otherwise(mut lent: Lent, change: fn(Body) -> Body, values: usize) -> u64 {
-    let document = json::read(lent.second, &Limits::PAPER);
+fn run_otherwise(mut lent: Lent, change: fn(Body) -> Body, values: fn(usize) -> usize) -> u64 {
+    let document = json::read(lent.second, &lent.limits);
     let (Some(reader), Ok(document)) = (changed_reader(&lent, change), document) else {
         return right(Operation::Run, &mut lent);
     };
     let limits = Limits {
-        values,
-        ..Limits::PAPER
+        values: values(lent.limits.values),
+        ..lent.limits
     };
     match run(&reader, document, &limits) {
         Ok((value, _)) if !fits(&value, &limits) => answer(
@@ -528,10 +619,11 @@ fn give(lent: &mut Lent, text: &[u8], steps: u64) -> u64 {
 /// that it is looked at.
 fn changed_reader(lent: &Lent, change: fn(Body) -> Body) -> Option<Form> {
     let longest = lent.first.len().max(lent.second.len());
-    if lent.answer.len() < ANSWER || longest > Limits::PAPER.text_bytes {
+    let is_looked_at = lent.limits.are_in_range() && lent.answer.len() >= ANSWER;
+    if !is_looked_at || longest > lent.limits.text_bytes {
         return None;
     }
-    let reader = read_reader(lent.first, &Limits::PAPER).ok()?;
+    let reader = read_reader(lent.first, &lent.limits).ok()?;
     Some(in_every_form(reader, change))
 }
 
@@ -598,7 +690,7 @@ fn records_alone(shape: Shape) -> Shape {
 /// Writes another shape in the place of the one written.
 fn write(lent: &mut Lent, change: impl FnOnce(Shape) -> Shape) -> u64 {
     let shape = change(shape_in(&lent.output[..length(lent)]));
-    match write_shape(&shape, &Limits::PAPER) {
+    match write_shape(&shape, &lent.limits) {
         Some(text) => again(lent, Operation::Join, &text, b"(shape)"),
         None => 11,
     }
@@ -606,7 +698,7 @@ fn write(lent: &mut Lent, change: impl FnOnce(Shape) -> Shape) -> u64 {
 
 /// The shape of a text that is right.
 fn shape_in(text: &[u8]) -> Shape {
-    read_shape(text, &Limits::PAPER).unwrap_or_default()
+    read_shape(text, &Limits::LARGEST).unwrap_or_default()
 }
 
 /// Answers whether the shapes of two right texts stand so.
@@ -618,7 +710,7 @@ fn say_of_shapes(lent: &mut Lent, holds: fn(Shape, Shape) -> bool) -> u64 {
 
 /// Answers whether a right shape and document stand so.
 fn say_of_document(lent: &mut Lent, holds: fn(Shape, &Value) -> bool) -> u64 {
-    let document = json::read(lent.second, &Limits::PAPER).unwrap_or(Value::Null);
+    let document = json::read(lent.second, &Limits::LARGEST).unwrap_or(Value::Null);
     lent.answer[32] = u8::from(holds(shape_in(lent.first), &document));
     0
 }
@@ -712,6 +804,7 @@ fn forms(shape: &Shape) -> usize {
 /// A further call that writes to the same buffers.
 fn again(lent: &mut Lent, operation: Operation, first: &[u8], second: &[u8]) -> u64 {
     let mut lent = Lent {
+        limits: lent.limits,
         first,
         second,
         output: lent.output,
@@ -742,12 +835,12 @@ fn word(lent: &Lent, at: usize) -> usize {
 /// What the second implementation does.
 fn right(operation: Operation, lent: &mut Lent) -> u64 {
     let Some(answer) = lent.answer.get_mut(..ANSWER) else {
-        return 1;
+        return if lent.limits.are_in_range() { 1 } else { 18 };
     };
     let texts = Texts {
         first: lent.first,
         second: lent.second,
-        limits: &Limits::PAPER,
+        limits: &lent.limits,
     };
     let (said, written): (Answer, Vec<u8>) = outcome(operation, texts, lent.output.len());
     lent.output[..written.len()].copy_from_slice(&written);

@@ -1,7 +1,6 @@
 //! The limits that an operation judges by, and what a text is refused with.
 
-/// The paper's limits are one set of them; smaller sets bring every refusal
-/// within reach of short texts.
+/// The set of four numbers that every call is handed.
 #[derive(Clone, Copy, Debug, PartialEq, Eq)]
 pub struct Limits {
     /// the most bytes a text holds, given or a shape's written one (2, 11)
@@ -15,20 +14,35 @@ pub struct Limits {
 }
 
 impl Limits {
-    pub const PAPER: Limits = Limits {
+    pub const SMALLEST: Limits = Limits {
+        text_bytes: 1_024,
+        values: 16,
+        nesting: 4,
+        steps: 256,
+    };
+    pub const LARGEST: Limits = Limits {
         text_bytes: 16_384,
         values: 512,
         nesting: 32,
         steps: 65_536,
     };
 
-    /// Limits from the last columns of a row: all four, or none for the
-    /// paper's. Nesting is as deep as the stack, which recursion goes by.
+    /// Whether each number is in its range; a call with another is refused
+    /// (18).
+    pub fn are_in_range(&self) -> bool {
+        let (least, most) = (Limits::SMALLEST, Limits::LARGEST);
+        (least.text_bytes..=most.text_bytes).contains(&self.text_bytes)
+            && (least.values..=most.values).contains(&self.values)
+            && (least.nesting..=most.nesting).contains(&self.nesting)
+            && (least.steps..=most.steps).contains(&self.steps)
+    }
+
+    /// Limits from columns of a row: all four, or none for the largest set.
     pub fn parse(columns: &[&str]) -> Option<Limits> {
         let numbers: Option<Vec<u64>> = columns.iter().map(|word| word.parse().ok()).collect();
         match numbers?[..] {
-            [] => Some(Limits::PAPER),
-            [text_bytes, values, nesting @ 1..=1000, steps] if values > 0 => Some(Limits {
+            [] => Some(Limits::LARGEST),
+            [text_bytes, values, nesting, steps] => Some(Limits {
                 text_bytes: usize::try_from(text_bytes).ok()?,
                 values: usize::try_from(values).ok()?,
                 nesting: usize::try_from(nesting).ok()?,

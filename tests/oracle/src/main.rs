@@ -5,7 +5,7 @@ use oracle::limits::Limits;
 use oracle::operations::{Answer, Operation};
 use oracle::suite;
 use oracle::tally::tally;
-use oracle::vectors::{self, Row};
+use oracle::vectors::{self, Lent, Row};
 use std::env;
 use std::fs;
 use std::io::{self, BufWriter, Write};
@@ -20,7 +20,7 @@ oracle answers FOLDER                            prints what becomes of them
 oracle cases SEED COUNT OPERATION [LIMITS]       prints generated rows
 oracle tally SEED COUNT OPERATION [LIMITS]       counts the numbers of generated rows
 SEED is a number or `clock`, OPERATION one of the seven or `all`,
-LIMITS four numbers: text bytes, values and forms, nesting, steps";
+LIMITS a set: text bytes, values and forms, nesting, steps";
 
 fn main() -> ExitCode {
     let words: Vec<String> = env::args().skip(1).collect();
@@ -81,7 +81,7 @@ fn parse_plan(words: &[&str]) -> Option<Plan> {
             "all" => Operation::ALL.to_vec(),
             name => vec![Operation::named(name)?],
         },
-        limits: Limits::parse(limits)?,
+        limits: Limits::parse(limits).filter(Limits::are_in_range)?,
     })
 }
 
@@ -106,6 +106,7 @@ fn cases(plan: &Plan) -> io::Result<()> {
             answer: Answer::default(),
             written: Vec::new(),
             limits: plan.limits,
+            lent: Lent::AsPublished,
         };
         writeln!(out, "{}", row.answered())?;
     }

@@ -78,6 +78,9 @@ pub fn operate(operation: Operation, texts: Texts, output: &mut [u8]) -> Answer 
 
 /// The answer of a call with an output of that length, and what it writes.
 pub fn outcome(operation: Operation, texts: Texts, output: usize) -> (Answer, Vec<u8>) {
+    if !texts.limits.are_in_range() {
+        return (numbered(18), Vec::new());
+    }
     let result = match operation {
         Operation::Plain => plain(texts),
         Operation::Infer => infer(texts),
@@ -199,7 +202,8 @@ fn said(yes: bool) -> Answer {
     }
 }
 
-fn numbered(number: u8) -> Answer {
+/// The answer of a refusal that stands in no text.
+pub fn numbered(number: u8) -> Answer {
     Answer {
         number,
         ..Answer::default()

@@ -74,7 +74,7 @@ fn rewrite(bytes: &[u8]) -> (Answer, Vec<u8>) {
     let texts = Texts {
         first: bytes,
         second: &[],
-        limits: &Limits::PAPER,
+        limits: &Limits::LARGEST,
     };
     outcome(Operation::Plain, texts, bytes.len())
 }

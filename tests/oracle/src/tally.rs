@@ -8,7 +8,7 @@ use crate::operations::{outcome, Operation, Texts};
 /// `below` and `admits` accept, the ones answered yes stand apart.
 #[derive(Clone, Debug, Default)]
 pub struct Tally {
-    pub numbers: [u64; 16],
+    pub numbers: [u64; 19],
     pub yes: u64,
     pub text_bytes: u64,
 }

@@ -1,11 +1,11 @@
 //! Vector files: one call and its expected outcome a row, tab-separated.
 
 use crate::limits::Limits;
-use crate::operations::{outcome, Answer, Operation, Texts};
+use crate::operations::{numbered, outcome, Answer, Operation, Texts};
 use std::fmt::{self, Display, Formatter};
 
 /// The comment that heads a file of rows, which have columns for their limits
-/// where these aren't the paper's.
+/// where these aren't the largest.
 pub fn header(limits: &Limits, seed: u64) -> String {
     let columns = [
         "# operation",
@@ -24,11 +24,43 @@ pub fn header(limits: &Limits, seed: u64) -> String {
         "nesting",
         "steps",
     ];
-    let count = if *limits == Limits::PAPER { 11 } else { 15 };
+    let count = if *limits == Limits::LARGEST { 11 } else { 15 };
     format!(
         "{}; - is empty or absent; seed {seed}",
         columns[..count].join("\t")
     )
+}
+
+/// What a row's call is lent besides its texts and its output.
+#[derive(Clone, Copy, Debug, PartialEq, Eq)]
+pub enum Lent {
+    AsPublished,
+    /// a work slice one word short
+    Short,
+    /// an answer buffer of 39 bytes
+    Answer39,
+}
+
+impl Lent {
+    const ALL: [Lent; 3] = [Lent::AsPublished, Lent::Short, Lent::Answer39];
+
+    fn word(self) -> &'static str {
+        match self {
+            Lent::AsPublished => "-",
+            Lent::Short => "short",
+            Lent::Answer39 => "answer39",
+        }
+    }
+
+    /// From the columns behind the set: `m`, which none of the operations
+    /// has, and what is lent; or none of them.
+    fn parse(columns: &[&str]) -> Option<Lent> {
+        match columns {
+            [] => Some(Lent::AsPublished),
+            ["-", word] => Lent::ALL.into_iter().find(|lent| lent.word() == *word),
+            _ => None,
+        }
+    }
 }
 
 /// A call with its outcome.
@@ -41,13 +73,17 @@ pub struct Row {
     pub answer: Answer,
     pub written: Vec<u8>,
     pub limits: Limits,
+    pub lent: Lent,
 }
 
 impl Row {
     pub fn parse(line: &str) -> Option<Row> {
         let columns: Vec<&str> = line.split('\t').collect();
         let number = |index: usize| columns.get(index)?.parse::<u64>().ok();
-        let limits = Limits::parse(columns.get(11..)?)?;
+        let behind = columns.get(11..)?;
+        let (set, lent) = behind.split_at(behind.len().min(4));
+        let limits = Limits::parse(set)?;
+        let lent = Lent::parse(lent)?;
         Some(Row {
             operation: Operation::named(columns[0])?,
             first: from_hex(columns[1])?,
@@ -67,6 +103,7 @@ impl Row {
             },
             written: from_hex(columns[10])?,
             limits,
+            lent,
         })
     }
 
@@ -77,7 +114,10 @@ impl Row {
             second: &self.second,
             limits: &self.limits,
         };
-        let (answer, written) = outcome(self.operation, texts, self.output);
+        let (answer, written) = match self.limits.are_in_range() && self.lent != Lent::AsPublished {
+            true => (numbered(1), Vec::new()),
+            false => outcome(self.operation, texts, self.output),
+        };
         Row {
             answer,
             written,
@@ -97,9 +137,12 @@ impl Display for Row {
         write!(to, "{}\t{}\t", answer.steps, u8::from(answer.yes))?;
         write!(to, "{}", to_hex(&self.written))?;
         let limits = &self.limits;
-        if *limits != Limits::PAPER {
+        if *limits != Limits::LARGEST || self.lent != Lent::AsPublished {
             write!(to, "\t{}\t{}", limits.text_bytes, limits.values)?;
             write!(to, "\t{}\t{}", limits.nesting, limits.steps)?;
+        }
+        if self.lent != Lent::AsPublished {
+            write!(to, "\t-\t{}", self.lent.word())?;
         }
         Ok(())
     }

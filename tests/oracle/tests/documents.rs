@@ -278,7 +278,7 @@ fn a_short_output_gives_the_length_needed_and_keeps_its_bytes() {
     let texts = Texts {
         first: b"[ 1, 2 ]",
         second: b"",
-        limits: &Limits::PAPER,
+        limits: &Limits::LARGEST,
     };
     let mut output = [0xa5; 8];
     let answer = operate(Operation::Plain, texts, &mut output[..4]);

@@ -276,7 +276,7 @@ fn every_byte_behind_a_head_byte_breaks_where_the_grammar_says() {
 fn generated_documents_break_where_the_grammar_says() {
     let grammar = grammar();
     for index in 0..6_000 {
-        let call = generate::call(11, index, Operation::Plain, &Limits::PAPER);
+        let call = generate::call(11, index, Operation::Plain, &Limits::LARGEST);
         if call.first.len() <= 100 {
             agrees(&grammar, &call.first);
         }

@@ -6,20 +6,13 @@ use common::ask;
 use oracle::generate::{self, Call};
 use oracle::json;
 use oracle::limits::Limits;
-use oracle::operations::{operate, Operation, Texts};
+use oracle::operations::{operate, outcome, Operation, Texts};
 use oracle::shape::{admits, below, join, shape_of, Shape};
 use oracle::text_forms::{read_shape, write_shape};
 use oracle::value::Value;
 
-const SMALL: Limits = Limits {
-    text_bytes: 1024,
-    values: 16,
-    nesting: 4,
-    steps: 256,
-};
-
 fn calls(seed: u64, count: u64, operation: Operation) -> impl Iterator<Item = Call> {
-    (0..count).map(move |index| generate::call(seed, index, operation, &Limits::PAPER))
+    (0..count).map(move |index| generate::call(seed, index, operation, &Limits::LARGEST))
 }
 
 /// Generated shapes of moderate size.
@@ -27,7 +20,7 @@ fn shapes(seed: u64, count: u64) -> Vec<Shape> {
     let texts = calls(seed, count, Operation::Below).flat_map(|call| [call.first, call.second]);
     let short = texts.filter(|text| text.len() < 500);
     short
-        .filter_map(|text| read_shape(&text, &Limits::PAPER).ok())
+        .filter_map(|text| read_shape(&text, &Limits::LARGEST).ok())
         .collect()
 }
 
@@ -36,7 +29,7 @@ fn values(seed: u64, count: u64) -> Vec<Value> {
     let texts = calls(seed, count, Operation::Plain).map(|call| call.first);
     let short = texts.filter(|text| text.len() < 500);
     short
-        .filter_map(|text| json::read(&text, &Limits::PAPER).ok())
+        .filter_map(|text| json::read(&text, &Limits::LARGEST).ok())
         .collect()
 }
 
@@ -55,11 +48,11 @@ fn a_plain_document_is_no_longer_than_it_was_and_stays_as_it_is() {
 fn a_call_writes_its_length_on_success_alone_and_nothing_else() {
     for operation in Operation::ALL {
         for index in 0..1_000 {
-            let call = generate::call(2, index, operation, &SMALL);
+            let call = generate::call(2, index, operation, &Limits::SMALLEST);
             let texts = Texts {
                 first: &call.first,
                 second: &call.second,
-                limits: &SMALL,
+                limits: &Limits::SMALLEST,
             };
             let mut output = vec![0xa5; call.output];
             let answer = operate(operation, texts, &mut output);
@@ -82,8 +75,8 @@ fn a_call_writes_its_length_on_success_alone_and_nothing_else() {
 #[test]
 fn a_written_shape_is_read_as_itself() {
     for shape in shapes(3, 2_000) {
-        let text = write_shape(&shape, &Limits::PAPER).unwrap();
-        assert_eq!(read_shape(&text, &Limits::PAPER), Ok(shape));
+        let text = write_shape(&shape, &Limits::LARGEST).unwrap();
+        assert_eq!(read_shape(&text, &Limits::LARGEST), Ok(shape));
     }
 }
 
@@ -162,15 +155,46 @@ fn a_reader_that_passes_is_never_stuck_and_gives_what_its_result_shape_admits() 
             // A result may be longer than a text that `admits` reads.
             let unbounded = Limits {
                 text_bytes: usize::MAX,
-                ..Limits::PAPER
+                ..Limits::LARGEST
             };
             let value = json::read(&written, &unbounded).unwrap();
-            let result = read_shape(&result, &Limits::PAPER).unwrap();
+            let result = read_shape(&result, &Limits::LARGEST).unwrap();
             assert!(admits(&result, &value), "{call:?}");
             passed += 1;
         }
     }
     assert!(passed > 1_000);
+}
+
+#[test]
+fn an_accepted_call_has_the_same_outcome_at_every_larger_set() {
+    let between = Limits {
+        text_bytes: 2_000,
+        values: 40,
+        nesting: 8,
+        steps: 300,
+    };
+    for operation in Operation::ALL {
+        let mut accepted = 0;
+        for index in 0..1_000 {
+            let call = generate::call(12, index, operation, &Limits::SMALLEST);
+            let at = |limits: &Limits| {
+                let texts = Texts {
+                    first: &call.first,
+                    second: &call.second,
+                    limits,
+                };
+                outcome(operation, texts, call.output)
+            };
+            let smallest = at(&Limits::SMALLEST);
+            if smallest.0.number == 0 {
+                assert_eq!(at(&between), smallest, "{call:?}");
+                assert_eq!(at(&Limits::LARGEST), smallest, "{call:?}");
+                accepted += 1;
+            }
+        }
+        assert!(accepted > 100, "{operation:?}");
+    }
 }
 
 #[test]
@@ -185,7 +209,7 @@ fn every_number_comes_up_for_every_operation_that_has_it() {
         (Operation::Run, &[0, 2, 3, 4, 5, 6, 7, 8, 12, 13, 14, 15]),
     ];
     for (operation, wanted) in numbers {
-        let tally = oracle::tally::tally(9, 2_000, operation, &Limits::PAPER);
+        let tally = oracle::tally::tally(9, 2_000, operation, &Limits::LARGEST);
         let come = (0..16).filter(|number| tally.numbers[usize::from(*number)] > 0);
         assert_eq!(come.collect::<Vec<u8>>(), wanted, "{operation:?}");
     }

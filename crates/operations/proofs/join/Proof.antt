@@ -1,75 +1,62 @@
 -- `operations::join` meets its contract. Assumes nothing.
 use borrow.Author.Needs.{needs}
-use mathlib.Core.Path.{refl, sym, _∙_}
-use mathlib.Core.List.{[], _∷_}
-use lib.ListN.{length}
-use Rattle.definitions.specs.Limits.{standard}
-use Rattle.definitions.specs.Operations.{join-judged, join-operation}
-use Rattle.definitions.specs.WorkSlices.{join-slices}
-use Rattle.laws.specs.Ends.{finishes-short, finishes-long}
 use native.Mathlib.Omega.{arith}
+use mathlib.Core.Path.{sym}
 use lib.Seq.{length-take-le}
-use Rattle.slices.specs.Small.{standard-small}
-use Rattle.operations.proofs.Lent.{enough-pair, for-cut-pair}
+use Rattle.definitions.specs.Operations.{join-judged, join-operation}
+use Rattle.slices.specs.Prelude.{finishes-before, finishes-behind}
+use Rattle.operations.proofs.Lent.{small-at, enough-pair, for-cut-pair}
 use Rattle.operations.proofs.join.Statement.{statement}
 use Rattle.operations.proofs.join.Tie as tie
 
 returns : tie.Need-returns
-unfolding join-operation standard
+unfolding join-operation
 returns c =
-    let at-short = c .before .before in
-    let at-start = at-short .before .before .before .before .before .before .before in
-    let a = at-start .args in
-    finishes-short (join-slices standard) (length (a .shapes .now) ∷ length (a .others .now) ∷ length (a .pool .now) ∷ []) (a .output .now)
-    (join-judged standard (a .first .now) (a .second .now)) (sym (at-short .two-shapes-short .ensures) ∙ c .before .if1 .taken) (c .refusal .ensures)
+    let at-start = c .before .before .before .before .before .before .before .before .before in
+    finishes-before (c .before .before .judge-two-shapes .ensures) (at-start .args .output .now)
+    (join-judged (at-start .args .limits) (at-start .args .first .now) (at-start .args .second .now)) (c .before .if1 .taken) (c .refusal .ensures)
 
-slice-relend-prefix-join : tie.Need-slice-relend-prefix-join
-unfolding standard
-slice-relend-prefix-join c =
-    let at-if = c .before .before in
-    let at-short = at-if .before in
-    let at-start = at-short .before .before .before .before .before .before .before in
-    let a = at-start .args in
-    enough-pair standard (standard-small refl) (a .first .now) (a .second .now) (a .shapes .now) (a .others .now) (a .pool .now)
-    (sym (at-short .two-shapes-short .ensures) ∙ at-if .if1 .left)
+rows : tie.Need-mul-rows
+rows c = let s = small-at (c .before .if1 .left) (c .before .before .judge-two-shapes .ensures) in search (needs, s .values)
 
-slice-aggregate-join : tie.Need-slice-aggregate-join
-unfolding standard
-slice-aggregate-join c =
-    let at-if = c .before .before .before in
-    let at-short = at-if .before in
-    let at-start = at-short .before .before .before .before .before .before .before in
-    let a = at-start .args in
-    let e = sym (at-short .two-shapes-short .ensures) ∙ at-if .if1 .left in
-    sym (length-take-le 1024 (a .shapes .now)
-    (enough-pair standard (standard-small refl) (a .first .now) (a .second .now) (a .shapes .now) (a .others .now) (a .pool .now) e))
+prefix : tie.Need-slice-relend-prefix-join
+prefix c =
+    let after-judge-two-shapes = c .before .before .before in
+    let at-start = after-judge-two-shapes .before .before .before .before .before .before .before in
+    enough-pair (c .before .before .if1 .left) (at-start .args .shapes .now) (at-start .args .others .now) (at-start .args .pool .now)
+    (after-judge-two-shapes .judge-two-shapes .ensures)
+
+part : tie.Need-slice-aggregate-join
+part c =
+    let after-judge-two-shapes = c .before .before .before .before in
+    let at-start = after-judge-two-shapes .before .before .before .before .before .before .before in
+    sym (length-take-le _ (at-start .args .shapes .now)
+    (enough-pair (c .before .before .before .if1 .left) (at-start .args .shapes .now) (at-start .args .others .now) (at-start .args .pool .now)
+    (after-judge-two-shapes .judge-two-shapes .ensures)))
 
 join-requires : tie.Need-join-requires
-unfolding standard
 join-requires c κs =
-    let at-if = c .before .before .before .before .before in
-    let at-short = at-if .before in
-    let at-start = at-short .before .before .before .before .before .before .before in
-    let a = at-start .args in
-    let e = sym (at-short .two-shapes-short .ensures) ∙ at-if .if1 .left in
-    let h = enough-pair standard (standard-small refl) (a .first .now) (a .second .now) (a .shapes .now) (a .others .now) (a .pool .now) e in (
-      for-cut-pair standard (standard-small refl) (a .first .now) (a .second .now) (a .shapes .now) (a .others .now) (a .pool .now) e,
-      omega (arith, length-take-le 1024 (a .shapes .now) h),
+    let else1 = c .before .before .before .before .before in
+    let after-judge-two-shapes = else1 .before in
+    let at-start = after-judge-two-shapes .before .before .before .before .before .before .before in
+    let h = enough-pair (else1 .if1 .left) (at-start .args .shapes .now) (at-start .args .others .now) (at-start .args .pool .now)
+    (after-judge-two-shapes .judge-two-shapes .ensures) in
+    let s = small-at (else1 .if1 .left) (after-judge-two-shapes .judge-two-shapes .ensures) in (
+      for-cut-pair (else1 .if1 .left) (at-start .args .shapes .now) (at-start .args .others .now) (at-start .args .pool .now)
+          (after-judge-two-shapes .judge-two-shapes .ensures) (at-start .args .first .now) (at-start .args .second .now),
+      omega (arith, length-take-le _ (at-start .args .shapes .now) h, s .values),
     )
 
 returns-2 : tie.Need-returns-2
-unfolding join-operation standard
+unfolding join-operation
 returns-2 c =
-    let at-call = c .before .before .before .before .before .before .before .before in
-    let at-if = at-call .before .before .before .before .before .before in
-    let at-short = at-if .before in
-    let at-start = at-short .before .before .before .before .before .before .before in
-    let a = at-start .args in
-    finishes-long (join-slices standard) (length (a .shapes .now) ∷ length (a .others .now) ∷ length (a .pool .now) ∷ []) (a .output .now)
-    (join-judged standard (a .first .now) (a .second .now)) (sym (at-short .two-shapes-short .ensures) ∙ at-if .if1 .left) (at-call .join .ensures)
+    let after-join = c .before .before .before .before .before .before .before .before in
+    let else1 = after-join .before .before .before .before .before .before in
+    let at-start = else1 .before .before .before .before .before .before .before .before in
+    finishes-behind (else1 .before .judge-two-shapes .ensures) (at-start .args .output .now)
+    (join-judged (at-start .args .limits) (at-start .args .first .now) (at-start .args .second .now)) (else1 .if1 .left) (after-join .join .ensures)
 
 pub join-spec : {M : Type 1} → statement M
 join-spec =
-    tie.close (tie.spec (λ c κs. search needs) (λ c κs. search needs) returns (λ c. search needs)
-    slice-relend-prefix-join slice-aggregate-join join-requires (λ c. search needs) (λ c. search needs)
+    tie.close (tie.spec (λ c κs. search needs) (λ c κs. search needs) returns rows prefix part join-requires (λ c. search needs) (λ c. search needs)
     (λ c. search needs) (λ c. search needs) returns-2)

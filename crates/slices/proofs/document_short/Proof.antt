@@ -14,4 +14,4 @@ returns c =
 pub document-short-spec : {M : Type 1} → statement M
 document-short-spec =
     tie.close
-    (tie.spec (λ c κs. search needs) (λ c. search needs) (λ c κs. search needs) (λ c κs. search needs) returns)
+    (tie.spec (λ c κs. search needs) (λ c κs. search needs) (λ c κs. search needs) returns)

@@ -8,12 +8,10 @@ use Rattle.slices.proofs.two_shapes_short.Tie as tie
 
 returns : tie.Need-returns
 returns c =
-    let a = c .before .before .before .before .args in
-    c .three-short .ensures ∙ ap (λ ms. slices-short ms (a .shapes ∷ a .others ∷ a .pool ∷ [])) (cc)
+    let at-start = c .before .before .before .before .before in
+    c .three-short .ensures ∙ ap (λ ms. slices-short ms (at-start .args .shapes ∷ at-start .args .others ∷ at-start .args .pool ∷ [])) (cc)
 
 pub two-shapes-short-spec : {M : Type 1} → statement M
 two-shapes-short-spec =
     tie.close
-    (tie.spec
-    (λ c κs. search needs) (λ c. search needs) (λ c κs. search needs) (λ c. search needs) (λ c κs. search needs)
-    returns)
+    (tie.spec (λ c κs. search needs) (λ c κs. search needs) (λ c. search needs) (λ c κs. search needs) (λ c κs. search needs) (λ c κs. search needs) returns)

@@ -3,7 +3,7 @@ use borrow.Author.Needs.{needs}
 use Prim.Native.Nat.{ℕ}
 use native.Mathlib.Omega.{arith}
 use lib.ListN.{replicate, length-replicate}
-use Rattle.workspace.proofs.Tiers.{long-grown}
+use Rattle.workspace.proofs.Tiers.{longest-grown}
 use Rattle.workspace.proofs.long_infer.Statement.{statement}
 use Rattle.workspace.proofs.long_infer.Tie as tie
 
@@ -11,8 +11,8 @@ infer-requires : tie.Need-infer-requires
 infer-requires c κs =
     let at-start = c .before .before .before .before .before .before .before in
     let a = at-start .args in (
-      long-grown (a .limits) (at-start .pre) (a .shape .now) (a .document .now) (replicate 1024 0) (replicate 1536 0) (replicate 4607 0)
-          (length-replicate {A = ℕ} 1024 0) (length-replicate {A = ℕ} 1536 0) (length-replicate {A = ℕ} 4607 0),
+      longest-grown (a .limits) (at-start .pre) (a .shape .now) (a .document .now) (replicate 1024 0) (replicate 1536 0)
+          (replicate 4607 0) (length-replicate {A = ℕ} 1024 0) (length-replicate {A = ℕ} 1536 0) (length-replicate {A = ℕ} 4607 0),
       omega (arith, length-replicate {A = ℕ} 1024 0),
     )
 

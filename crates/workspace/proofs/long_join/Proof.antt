@@ -3,7 +3,7 @@ use borrow.Author.Needs.{needs}
 use Prim.Native.Nat.{ℕ}
 use native.Mathlib.Omega.{arith}
 use lib.ListN.{replicate, length-replicate}
-use Rattle.workspace.proofs.Tiers.{long-grown-pair}
+use Rattle.workspace.proofs.Tiers.{longest-grown-pair}
 use Rattle.workspace.proofs.long_join.Statement.{statement}
 use Rattle.workspace.proofs.long_join.Tie as tie
 
@@ -11,8 +11,8 @@ join-requires : tie.Need-join-requires
 join-requires c κs =
     let at-start = c .before .before .before .before .before .before .before in
     let a = at-start .args in (
-      long-grown-pair (a .limits) (at-start .pre) (a .first .now) (a .second .now) (replicate 1024 0) (replicate 1024 0) (replicate 4096 0)
-          (length-replicate {A = ℕ} 1024 0) (length-replicate {A = ℕ} 1024 0) (length-replicate {A = ℕ} 4096 0),
+      longest-grown-pair (a .limits) (at-start .pre) (a .first .now) (a .second .now) (replicate 1024 0) (replicate 1024 0)
+          (replicate 4096 0) (length-replicate {A = ℕ} 1024 0) (length-replicate {A = ℕ} 1024 0) (length-replicate {A = ℕ} 4096 0),
       omega (arith, length-replicate {A = ℕ} 1024 0),
     )
 

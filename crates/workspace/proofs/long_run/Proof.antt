@@ -3,7 +3,7 @@ use borrow.Author.Needs.{needs}
 use Prim.Native.Nat.{ℕ}
 use native.Mathlib.Omega.{arith}
 use lib.ListN.{replicate, length-replicate}
-use Rattle.workspace.proofs.Tiers.{long-run}
+use Rattle.workspace.proofs.Tiers.{longest-run}
 use Rattle.workspace.proofs.long_run.Statement.{statement}
 use Rattle.workspace.proofs.long_run.Tie as tie
 
@@ -11,9 +11,9 @@ run-requires : tie.Need-run-requires
 run-requires c κs =
     let at-start = c .before .before .before .before .before .before .before .before .before in
     let a = at-start .args in (
-      long-run (a .limits) (at-start .pre) (a .reader .now) (a .document .now) (replicate 1536 0) (replicate 1536 0) (replicate 1536 0)
-          (replicate 32 0) (replicate 4927 0) (length-replicate {A = ℕ} 1536 0) (length-replicate {A = ℕ} 1536 0) (length-replicate {A = ℕ} 1536 0)
-          (length-replicate {A = ℕ} 32 0) (length-replicate {A = ℕ} 4927 0),
+      longest-run (a .limits) (at-start .pre) (a .reader .now) (a .document .now) (replicate 1536 0) (replicate 1536 0) (replicate 1536 0)
+          (replicate 32 0) (replicate 4927 0) (length-replicate {A = ℕ} 1536 0) (length-replicate {A = ℕ} 1536 0)
+          (length-replicate {A = ℕ} 1536 0) (length-replicate {A = ℕ} 32 0) (length-replicate {A = ℕ} 4927 0),
       (omega (arith, length-replicate {A = ℕ} 1536 0), omega (arith, length-replicate {A = ℕ} 1536 0)),
     )
 

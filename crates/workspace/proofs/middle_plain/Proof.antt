@@ -2,7 +2,7 @@
 use borrow.Author.Needs.{needs}
 use Prim.Native.Nat.{ℕ}
 use lib.ListN.{replicate, length-replicate}
-use Rattle.workspace.proofs.Tiers.{middle-document}
+use Rattle.workspace.proofs.Tiers.{held-document}
 use Rattle.workspace.proofs.middle_plain.Statement.{statement}
 use Rattle.workspace.proofs.middle_plain.Tie as tie
 
@@ -10,8 +10,8 @@ plain-requires : tie.Need-plain-requires
 plain-requires c κs =
     let at-start = c .before .before .before .before .before in
     let a = at-start .args in
-    middle-document (a .limits) (at-start .pre .0) (a .document .now) (replicate 1536 0) (replicate 1023 0) (length-replicate {A = ℕ} 1536 0)
-    (length-replicate {A = ℕ} 1023 0) (at-start .pre .1)
+    held-document (a .limits) (at-start .pre .0) (a .document .now) (replicate 1536 0) (replicate 1023 0)
+    (length-replicate {A = ℕ} 1536 0) (length-replicate {A = ℕ} 1023 0) (at-start .pre .1)
 
 pub middle-plain-spec : {M : Type 1} → statement M
 middle-plain-spec =

@@ -3,7 +3,7 @@ use borrow.Author.Needs.{needs}
 use Prim.Native.Nat.{ℕ}
 use native.Mathlib.Omega.{arith}
 use lib.ListN.{replicate, length-replicate}
-use Rattle.workspace.proofs.Tiers.{short-grown-pair}
+use Rattle.workspace.proofs.Tiers.{held-grown-pair}
 use Rattle.workspace.proofs.short_join.Statement.{statement}
 use Rattle.workspace.proofs.short_join.Tie as tie
 
@@ -11,9 +11,9 @@ join-requires : tie.Need-join-requires
 join-requires c κs =
     let at-start = c .before .before .before .before .before .before .before in
     let a = at-start .args in (
-      short-grown-pair (a .limits) (at-start .pre .0) (a .first .now) (a .second .now) (replicate 1024 0) (replicate 294 0) (replicate 256 0)
-          (length-replicate {A = ℕ} 1024 0) (length-replicate {A = ℕ} 294 0) (length-replicate {A = ℕ} 256 0) (at-start .pre .1 .0)
-          (at-start .pre .1 .1),
+      held-grown-pair (a .limits) (at-start .pre .0) (a .first .now) (a .second .now) (replicate 1024 0) (replicate 294 0)
+          (replicate 256 0) (length-replicate {A = ℕ} 1024 0) (length-replicate {A = ℕ} 294 0) (length-replicate {A = ℕ} 256 0)
+          (at-start .pre .1),
       omega (arith, length-replicate {A = ℕ} 1024 0),
     )
 

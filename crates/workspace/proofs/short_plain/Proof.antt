@@ -2,7 +2,7 @@
 use borrow.Author.Needs.{needs}
 use Prim.Native.Nat.{ℕ}
 use lib.ListN.{replicate, length-replicate}
-use Rattle.workspace.proofs.Tiers.{short-document}
+use Rattle.workspace.proofs.Tiers.{held-document}
 use Rattle.workspace.proofs.short_plain.Statement.{statement}
 use Rattle.workspace.proofs.short_plain.Tie as tie
 
@@ -10,7 +10,7 @@ plain-requires : tie.Need-plain-requires
 plain-requires c κs =
     let at-start = c .before .before .before .before .before in
     let a = at-start .args in
-    short-document (a .limits) (at-start .pre .0) (a .document .now) (replicate 813 0) (replicate 334 0) (length-replicate {A = ℕ} 813 0)
+    held-document (a .limits) (at-start .pre .0) (a .document .now) (replicate 813 0) (replicate 334 0) (length-replicate {A = ℕ} 813 0)
     (length-replicate {A = ℕ} 334 0) (at-start .pre .1)
 
 pub short-plain-spec : {M : Type 1} → statement M

@@ -2,7 +2,7 @@
 use borrow.Author.Needs.{needs}
 use Prim.Native.Nat.{ℕ}
 use lib.ListN.{replicate, length-replicate}
-use Rattle.workspace.proofs.Tiers.{short-shape-both}
+use Rattle.workspace.proofs.Tiers.{held-both}
 use Rattle.workspace.proofs.short_shape_admits.Statement.{statement}
 use Rattle.workspace.proofs.short_shape_admits.Tie as tie
 
@@ -10,7 +10,7 @@ admits-requires : tie.Need-admits-requires
 admits-requires c κs =
     let at-start = c .before .before .before .before .before in
     let a = at-start .args in
-    short-shape-both (a .limits) (at-start .pre .0) (a .shape .now) (a .document .now) (replicate 586 0) (replicate 1536 0) (replicate 2815 0)
+    held-both (a .limits) (at-start .pre .0) (a .shape .now) (a .document .now) (replicate 586 0) (replicate 1536 0) (replicate 2815 0)
     (length-replicate {A = ℕ} 586 0) (length-replicate {A = ℕ} 1536 0) (length-replicate {A = ℕ} 2815 0) (at-start .pre .1)
 
 pub short-shape-admits-spec : {M : Type 1} → statement M

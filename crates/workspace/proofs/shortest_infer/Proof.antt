@@ -3,7 +3,7 @@ use borrow.Author.Needs.{needs}
 use Prim.Native.Nat.{ℕ}
 use native.Mathlib.Omega.{arith}
 use lib.ListN.{replicate, length-replicate}
-use Rattle.workspace.proofs.Tiers.{shortest-grown}
+use Rattle.workspace.proofs.Tiers.{held-grown}
 use Rattle.workspace.proofs.shortest_infer.Statement.{statement}
 use Rattle.workspace.proofs.shortest_infer.Tie as tie
 
@@ -11,9 +11,8 @@ infer-requires : tie.Need-infer-requires
 infer-requires c κs =
     let at-start = c .before .before .before .before .before .before .before in
     let a = at-start .args in (
-      shortest-grown (a .limits) (at-start .pre .0) (a .shape .now) (a .document .now) (replicate 1024 0) (replicate 429 0) (replicate 238 0)
-          (length-replicate {A = ℕ} 1024 0) (length-replicate {A = ℕ} 429 0) (length-replicate {A = ℕ} 238 0) (at-start .pre .1 .0)
-          (at-start .pre .1 .1),
+      held-grown (a .limits) (at-start .pre .0) (a .shape .now) (a .document .now) (replicate 1024 0) (replicate 429 0) (replicate 238 0)
+          (length-replicate {A = ℕ} 1024 0) (length-replicate {A = ℕ} 429 0) (length-replicate {A = ℕ} 238 0) (at-start .pre .1),
       omega (arith, length-replicate {A = ℕ} 1024 0),
     )
 

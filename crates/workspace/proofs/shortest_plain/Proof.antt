@@ -2,7 +2,7 @@
 use borrow.Author.Needs.{needs}
 use Prim.Native.Nat.{ℕ}
 use lib.ListN.{replicate, length-replicate}
-use Rattle.workspace.proofs.Tiers.{shortest-document}
+use Rattle.workspace.proofs.Tiers.{held-document}
 use Rattle.workspace.proofs.shortest_plain.Statement.{statement}
 use Rattle.workspace.proofs.shortest_plain.Tie as tie
 
@@ -10,7 +10,7 @@ plain-requires : tie.Need-plain-requires
 plain-requires c κs =
     let at-start = c .before .before .before .before .before in
     let a = at-start .args in
-    shortest-document (a .limits) (at-start .pre .0) (a .document .now) (replicate 429 0) (replicate 174 0) (length-replicate {A = ℕ} 429 0)
+    held-document (a .limits) (at-start .pre .0) (a .document .now) (replicate 429 0) (replicate 174 0) (length-replicate {A = ℕ} 429 0)
     (length-replicate {A = ℕ} 174 0) (at-start .pre .1)
 
 pub shortest-plain-spec : {M : Type 1} → statement M

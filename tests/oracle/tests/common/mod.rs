@@ -12,7 +12,7 @@ pub fn ask(operation: Operation, first: Bytes, second: Bytes) -> (Answer, Vec<u8
     let texts = Texts {
         first,
         second,
-        limits: &Limits::PAPER,
+        limits: &Limits::LARGEST,
     };
     outcome(operation, texts, usize::MAX)
 }
