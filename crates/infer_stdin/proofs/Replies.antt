@@ -22,7 +22,7 @@ use Rattle.definitions.specs.WorkSlices.{infer-slices}
 use Rattle.laws.specs.Judging.{Numbered, Positive, bind-positive, both-positive, shape-out-positive}
 use Rattle.laws.specs.Judging.{prelude-long, deliver-short, deliver-room, finish-zero, finish-written, front}
 use Rattle.laws.specs.Numbered.{numbered-shape}
-use Rattle.laws.specs.Theorems.{json-proper}
+use Rattle.laws.specs.Theorems.{json-proper, standard-in-range}
 use Rattle.slices.specs.Long.{three-long}
 use Rattle.text.specs.Writes.{Writes}
 use Rattle.text.specs.WritesLaws.{writes-then, writes-as}
@@ -114,8 +114,8 @@ module _ (text document : Bytes) where
   same out =
       ap (λ j. finish out j)
       (prelude-long standard (infer-slices standard)
-      (length (replicate {A = ℕ} 1024 0) ∷ length (replicate {A = ℕ} 1536 0) ∷ length (replicate {A = ℕ} 4607 0) ∷ []) judged refl
-      (three-long 1024 1536 4607 _ _ _ (omega (arith, length-replicate {A = ℕ} 1024 0)) (omega (arith, length-replicate {A = ℕ} 1536 0))
+      (length (replicate {A = ℕ} 1024 0) ∷ length (replicate {A = ℕ} 1536 0) ∷ length (replicate {A = ℕ} 4607 0) ∷ []) judged
+      standard-in-range (three-long 1024 1536 4607 _ _ _ (omega (arith, length-replicate {A = ℕ} 1024 0)) (omega (arith, length-replicate {A = ℕ} 1536 0))
       (omega (arith, length-replicate {A = ℕ} 4607 0))))
 
   fits : (out : Bytes) → alone out .answer .number ≡ 0 → alone out .answer .length ≤ length (alone out .output)

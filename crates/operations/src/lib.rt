@@ -54,7 +54,7 @@ pub fn infer(
         (now (shape .entry)) (now (document .entry)) (now (output .entry)) .output ⌝ }
 {
     let stop = slices::judge_shape_document(limits, shapes.len(), nodes.len(), pool.len()); // a shape and a document
-    if stop != 0 {
+    if stop != 0 { // no sample is looked at
         return answers::refusal(stop, 0, 0);
     }
     let rows = 2 * limits.values; // the table grows to the result, and not past 11

@@ -24,7 +24,7 @@ pub extern "C" fn runvestol_plain(
     ensures written { λ _. ⌜ now (output .exit) ≡
         plain-call read-json (set bytes values nesting steps) (now (document .entry)) (now (output .entry)) (now (answer .entry)) .output ⌝ }
 {
-    let limits = slices::set(bytes, values, nesting, steps);
+    let limits = slices::set(bytes, values, nesting, steps); // judged whole, though no step is taken here
     let stop = slices::judge_call(limits, answer.len());
     if stop != 0 {
         return answers::tell(answer, answers::refusal(stop, 0, 0));
@@ -191,7 +191,7 @@ pub extern "C" fn runvestol_run(
         run-call read-json (set bytes values nesting steps) (now (reader .entry)) (now (document .entry)) (now (output .entry))
         (now (answer .entry)) .output ⌝ }
 {
-    let limits = slices::set(bytes, values, nesting, steps);
+    let limits = slices::set(bytes, values, nesting, steps); // 13 goes by its steps
     let stop = slices::judge_call(limits, answer.len());
     if stop != 0 {
         return answers::tell(answer, answers::refusal(stop, 0, 0));
