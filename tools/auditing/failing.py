@@ -47,7 +47,8 @@ def is_fact(words):
     sides = re.search(r"the two sides are `([^`]*)`\s+\(left\) and `([^`]*)`\s+\(right\)", words)
     if stated and (another_instance(stated[1], stated[2], words) or another_value(stated[1], words)):
         return True
-    return any(pair and same_kind(pair[1], pair[2]) for pair in (stated, computed, late, sides))
+    pairs = [pair for pair in (stated, computed, late, sides) if pair]
+    return any(same_kind(pair[1], pair[2]) or is_denied(pair[1], pair[2]) for pair in pairs)
 
 
 def another_instance(one, two, words):
@@ -101,6 +102,12 @@ def same_kind(one, two):
         if "" in kinds or len(kinds) > 1 or not same_type(a, b):
             return False
     return True
+
+
+def is_denied(one, two):
+    """A relation and the denial of just that relation."""
+    bare, denied = sorted((one, two), key=len)
+    return kind_of(bare) == "relation" and "…[" not in bare and re.fullmatch(re.escape(bare) + r" → (?:Prim\.)?⊥", denied) is not None
 
 
 def same_type(one, two):

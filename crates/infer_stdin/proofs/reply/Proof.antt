@@ -1,6 +1,7 @@
 -- `infer_stdin::reply` meets its contract: what it puts at the front is the definition's. Assumes nothing.
 use mathlib.Core.Path.{_∙_}
 use borrow.Author.Needs.{needs}
+use Rattle.definitions.specs.Limits.{standard}
 use Rattle.definitions.specs.Bytes.{bytes}
 use Rattle.infer_stdin.specs.Reply.{reply-to}
 use Rattle.infer_stdin.proofs.Replies.{accepts, refuses}
@@ -8,14 +9,14 @@ use Rattle.infer_stdin.proofs.reply.Statement.{statement}
 use Rattle.infer_stdin.proofs.reply.Tie as tie
 
 returns : tie.Need-returns
-unfolding reply-to bytes
+unfolding reply-to bytes standard
 returns c =
     let after-infer = c .before .before .before .before .before .before .before in
     let at-start = after-infer .before .before .before .before .before .before .before .before in
     accepts (bytes "(shape)") (at-start .args .document .now) (at-start .args .output .now) (at-start .pre) (after-infer .infer .ensures) (c .if1 .taken)
 
 returns-2 : tie.Need-returns-2
-unfolding reply-to bytes
+unfolding reply-to bytes standard
 returns-2 c =
     let after-refuse = c .before .before in
     let after-infer = after-refuse .before .before .before .before .before .before .before .before .before in

@@ -32,7 +32,7 @@ returns-2 c =
     calls-behind (at-start .args .answer .now) (after-infer .infer .result) (c .before .before .tell2 .ensures) (after-set .set .ensures)
     (after-infer .before .before .before .judge-call .ensures) (at-start .args .output .now)
     (λ l. infer-judged read-json l (at-start .args .shape .now) (at-start .args .document .now)) (after-infer .before .before .if1 .left)
-    (after-infer .infer .ensures)
+    (after-infer .infer .ensures .0, after-infer .infer .ensures .1)
 
 pub runvestol-infer-spec : {M : Type 1} → statement M
 runvestol-infer-spec =

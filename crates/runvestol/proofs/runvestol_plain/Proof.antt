@@ -30,7 +30,7 @@ returns-2 c =
     let at-start = after-set .before .before .before .before in
     calls-behind (at-start .args .answer .now) (after-plain .plain .result) (c .before .before .tell2 .ensures) (after-set .set .ensures)
     (after-plain .before .before .before .judge-call .ensures) (at-start .args .output .now) (λ l. plain-judged read-json l (at-start .args .document .now))
-    (after-plain .before .before .if1 .left) (after-plain .plain .ensures)
+    (after-plain .before .before .if1 .left) (after-plain .plain .ensures .0, after-plain .plain .ensures .1)
 
 pub runvestol-plain-spec : {M : Type 1} → statement M
 runvestol-plain-spec =

@@ -32,7 +32,7 @@ returns-2 c =
     calls-behind (at-start .args .answer .now) (after-run .run .result) (c .before .before .tell2 .ensures) (after-set .set .ensures)
     (after-run .before .before .before .judge-call .ensures) (at-start .args .output .now)
     (λ l. run-judged read-json l (at-start .args .reader .now) (at-start .args .document .now)) (after-run .before .before .if1 .left)
-    (after-run .run .ensures)
+    (after-run .run .ensures .0, after-run .run .ensures .1)
 
 pub runvestol-run-spec : {M : Type 1} → statement M
 runvestol-run-spec =
