@@ -6,16 +6,16 @@ use lib.Dec.{leb, ltb}
 use Rattle.definitions.specs.declared.Limits.{Limits}
 
 -- "a set of four numbers", in the paper's order
-abbrev pub set : (bytes values nesting steps : ℕ) → Limits
-set b v n s = record { bytes = b; values = v; nesting = n; steps = s }
+abbrev pub set-of : (bytes values nesting steps : ℕ) → Limits
+set-of b v n s = record { bytes = b; values = v; nesting = n; steps = s }
 
 -- the paper's numbers, the largest set: 16,384 bytes, 512 values or forms, nesting 32, 65,536 steps
 unfoldable pub standard : Limits
-standard = set 16384 512 32 65536
+standard = set-of 16384 512 32 65536
 
 -- the smallest set in range
 unfoldable pub smallest : Limits
-smallest = set 1024 16 4 256
+smallest = set-of 1024 16 4 256
 
 -- a number in a range, both ends in
 abbrev pub within : (least most n : ℕ) → Bool

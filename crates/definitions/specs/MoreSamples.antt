@@ -7,7 +7,7 @@ use mathlib.Core.List.{List, [], _∷_, _++_}
 use lib.ListN.{replicate}
 use Rattle.definitions.specs.declared.Limits.{Limits}
 use Rattle.definitions.specs.declared.Answer.{Answer}
-use Rattle.definitions.specs.Limits.{set, standard, smallest}
+use Rattle.definitions.specs.Limits.{set-of, standard, smallest}
 use Rattle.definitions.specs.Bytes.{Bytes, bytes}
 use Rattle.definitions.specs.Outcome.{ok, refused}
 use Rattle.definitions.specs.Json.{read-json}
@@ -100,50 +100,50 @@ at-the-smallest : at-set smallest ≡ refusal 1 0 0
 unfolding evaluate
 at-the-smallest = refl
 
-few-bytes : at-set (set 1023 16 4 256) ≡ refusal 18 0 0
+few-bytes : at-set (set-of 1023 16 4 256) ≡ refusal 18 0 0
 unfolding evaluate
 few-bytes = refl
 
-many-bytes : at-set (set 16385 16 4 256) ≡ refusal 18 0 0
+many-bytes : at-set (set-of 16385 16 4 256) ≡ refusal 18 0 0
 unfolding evaluate
 many-bytes = refl
 
-few-values : at-set (set 1024 15 4 256) ≡ refusal 18 0 0
+few-values : at-set (set-of 1024 15 4 256) ≡ refusal 18 0 0
 unfolding evaluate
 few-values = refl
 
-many-values : at-set (set 1024 513 4 256) ≡ refusal 18 0 0
+many-values : at-set (set-of 1024 513 4 256) ≡ refusal 18 0 0
 unfolding evaluate
 many-values = refl
 
-flat : at-set (set 1024 16 3 256) ≡ refusal 18 0 0
+flat : at-set (set-of 1024 16 3 256) ≡ refusal 18 0 0
 unfolding evaluate
 flat = refl
 
-deep : at-set (set 1024 16 33 256) ≡ refusal 18 0 0
+deep : at-set (set-of 1024 16 33 256) ≡ refusal 18 0 0
 unfolding evaluate
 deep = refl
 
-few-steps-handed : at-set (set 1024 16 4 255) ≡ refusal 18 0 0
+few-steps-handed : at-set (set-of 1024 16 4 255) ≡ refusal 18 0 0
 unfolding evaluate
 few-steps-handed = refl
 
-many-steps-handed : at-set (set 1024 16 4 65537) ≡ refusal 18 0 0
+many-steps-handed : at-set (set-of 1024 16 4 65537) ≡ refusal 18 0 0
 unfolding evaluate
 many-steps-handed = refl
 
 -- "judged as whole 64-bit numbers"
-beyond-a-word-of-32 : at-set (set 4294968320 16 4 256) ≡ refusal 18 0 0
+beyond-a-word-of-32 : at-set (set-of 4294968320 16 4 256) ≡ refusal 18 0 0
 unfolding evaluate
 beyond-a-word-of-32 = refl
 
 -- in C an answer buffer under 40 bytes included: the number alone is told, and nothing is written
-out-of-range-call : plain-call read-json (set 1023 16 4 256) (bytes "1") (room 1) (room 39) ≡ record { number = 18; answer = room 39; output = room 1 }
+out-of-range-call : plain-call read-json (set-of 1023 16 4 256) (bytes "1") (room 1) (room 39) ≡ record { number = 18; answer = room 39; output = room 1 }
 unfolding evaluate
 out-of-range-call = refl
 
 out-of-range-told
-    : plain-call read-json (set 1023 16 4 256) (bytes "1") (room 1) (room 41)
+    : plain-call read-json (set-of 1023 16 4 256) (bytes "1") (room 1) (room 41)
     ≡ record { number = 18; answer = words 0 0 0 0 0 ++ room 1; output = room 1 }
 unfolding evaluate
 out-of-range-told = refl

@@ -27,7 +27,6 @@ use Rattle.laws.specs.AdmitsLaws.{admits-mono, shape-of-admits, admits-b
 use Rattle.laws.specs.SizeLaws.{forms-mono, levels-mono, write-mono}
 use Rattle.laws.specs.RoundLaws.{shape-reads-back, nothing-good, join-good}
 use Rattle.laws.specs.Judging.{shape-over, shape-fits, fits-shape}
-use Rattle.laws.specs.Numbered.{numbered-shape}
 use Rattle.laws.specs.Chain.{Each, each-none, each-one, Reordered, Call, start, takes, left-by}
 use Rattle.laws.specs.Chain.{reached, accepted, Reads, Long-enough, Proper-source, In-range}
 use Rattle.laws.specs.ChainLists.{each-first, each-rest, each-reordered, each-ordered-back, each-map}

@@ -27,13 +27,12 @@ use Rattle.laws.specs.SoundShapes.{check-ascending}
 use Rattle.laws.specs.ReaderFacts.{reader-scoped, reader-proper}
 use Rattle.laws.specs.RoundLaws.{reader-read-good, check-good, shape-reads-back}
 use Rattle.laws.specs.Tests.{ltb-lt, ltb-le}
-use Rattle.laws.specs.Judging.{Positive, bind-positive, prelude-positive, both-positive, in-text-positive, shape-out-positive}
+use Rattle.laws.specs.Judging.{Positive, prelude-positive}
 use Rattle.laws.specs.Judging.{bind-passed, bind-of}
 use Rattle.laws.specs.Judging.{prelude-short, prelude-long, prelude-passed, both-read, both-passed, in-text-passed, shape-over}
 use Rattle.laws.specs.Judging.{shape-out-passed}
 use Rattle.laws.specs.Judging.{shape-fits, result-over, result-out-over, result-out-fits, deliver-short, deliver-room, finish-zero}
 use Rattle.laws.specs.Judging.{finish-written, front}
-use Rattle.laws.specs.Numbered.{numbered-shape, numbered-reader, numbered-check-reader}
 use Rattle.laws.specs.Positives.{check-positive}
 use Rattle.laws.specs.Chain.{Reads, Ends, gives, short-work, out-of-steps, too-large, no-room, Passes, Proper-source}
 use Rattle.laws.specs.ChainReached.{Stands, stands-reads, ok-same}

@@ -1,13 +1,13 @@
 -- One infer call: exactly when it is accepted, and what it leaves. Assumes nothing.
 use Prim.Native.Nat.{ℕ, _≤_}
-use mathlib.Core.Path.{_≡_, refl, _∙_, subst}
+use mathlib.Core.Path.{_≡_, _∙_, subst}
 use mathlib.Core.Bool.{true, false}
 use mathlib.Core.List.{List, _++_}
 use lib.ListN.{length, take, drop}
 use Rattle.definitions.specs.declared.Limits.{Limits}
 use Rattle.definitions.specs.Limits.{in-range}
 use Rattle.definitions.specs.Bytes.{Bytes}
-use Rattle.definitions.specs.Outcome.{Outcome, ok, refused}
+use Rattle.definitions.specs.Outcome.{ok}
 use Rattle.definitions.specs.Value.{Value}
 use Rattle.definitions.specs.Shape.{Shape}
 use Rattle.definitions.specs.Join.{join, shape-of}
@@ -15,7 +15,7 @@ use Rattle.definitions.specs.ShapeText.{read-shape, write-shape}
 use Rattle.definitions.specs.Operations.{Source, Judged, passed, written, slices-short, prelude, Text-out, to-write, finish, infer-judged}
 use Rattle.definitions.specs.Operations.{infer-operation}
 use Rattle.laws.specs.Tests.{eqb-eq, eq-eqb}
-use Rattle.laws.specs.Judging.{Numbered, Positive, bind-of, bind-positive, prelude-positive, both-positive, shape-out-positive, prelude-long}
+use Rattle.laws.specs.Judging.{Positive, bind-of, prelude-positive, prelude-long}
 use Rattle.laws.specs.Judging.{prelude-passed, both-read, both-passed, shape-over, shape-out-passed, shape-out-fits, finish-zero}
 use Rattle.laws.specs.Judging.{finish-written, front}
 use Rattle.laws.specs.Positives.{source-numbered, infer-positive}

@@ -23,7 +23,6 @@ use Rattle.definitions.specs.Operations.{Done, Source, refusal, output-short, w
 use Rattle.definitions.specs.Calls.{Called, answered, call, buffer-published, buffer-lent, infer-call, check-call, run-call}
 use Rattle.laws.specs.LimitRanges.{bounds-of}
 use Rattle.laws.specs.Judging.{shape-fits}
-use Rattle.laws.specs.Numbered.{numbered-shape}
 use Rattle.laws.specs.Chain.{Each, each-none, each-one, Reordered, Call, start, infers, takes, left-by, reached, accepted, Long-enough}
 use Rattle.laws.specs.Chain.{Ends, gives, short-work, out-of-steps, too-large, no-room, Passes, Proper-source, In-range, Demand-3}
 use Rattle.laws.specs.ChainSteps.{Accepted, infers-written, left-taken, refused-left, taken-accepted}

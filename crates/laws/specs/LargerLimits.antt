@@ -1,16 +1,15 @@
 -- What is accepted at one set of limits is accepted at every larger one, with the same answer and the same output. Assumes nothing.
-use Prim.Native.Nat.{ℕ, _≤_, _<_}
+use Prim.Native.Nat.{ℕ}
 use native.Mathlib.Nat.{le-trans}
 use native.Mathlib.Omega.{arith}
 use mathlib.Core.Path.{_≡_, refl, sym, ap, _∙_}
 use mathlib.Core.Bool.{Bool, true, false}
 use mathlib.Core.List.{List}
-use lib.ListN.{length}
 use Rattle.definitions.specs.declared.Limits.{Limits}
 use Rattle.definitions.specs.declared.Answer.{Answer}
 use Rattle.definitions.specs.Limits.{in-range}
 use Rattle.definitions.specs.Bytes.{Bytes}
-use Rattle.definitions.specs.Outcome.{Outcome, ok, refused}
+use Rattle.definitions.specs.Outcome.{Outcome, ok}
 use Rattle.definitions.specs.Value.{Value}
 use Rattle.definitions.specs.Json.{read-json}
 use Rattle.definitions.specs.Shape.{Shape}
@@ -18,13 +17,13 @@ use Rattle.definitions.specs.ShapeText.{read-shape}
 use Rattle.definitions.specs.Reader.{Result, read-reader}
 use Rattle.definitions.specs.Checking.{check-reader}
 use Rattle.definitions.specs.Running.{Ran, run-reader}
-use Rattle.definitions.specs.Operations.{Done, Source, Judged, passed, stopped, _>>=_, Reading, in-text, judge-text, judge-both, slices-short}
+use Rattle.definitions.specs.Operations.{Source, Judged, passed, stopped, _>>=_, Reading, in-text, judge-text, judge-both, slices-short}
 use Rattle.definitions.specs.Operations.{prelude, Text-out, shape-out, result-out, finish, say, plain-judged, infer-judged, join-judged}
 use Rattle.definitions.specs.Operations.{below-judged, admits-judged, check-judged, run-judged, plain-operation, infer-operation}
 use Rattle.definitions.specs.Operations.{join-operation, below-operation, admits-operation, check-operation, run-operation}
 use Rattle.definitions.specs.Calls.{call, quiet, buffer-published, buffer-lent, plain-call, infer-call, join-call, below-call, admits-call}
 use Rattle.definitions.specs.Calls.{check-call, run-call}
-use Rattle.laws.specs.Judging.{Positive, in-text-passed, text-reads, text-passed, bind-passed, bind-of, both-read, both-passed, prelude-positive}
+use Rattle.laws.specs.Judging.{Positive, in-text-passed, text-reads, text-passed, bind-passed, bind-of, prelude-positive}
 use Rattle.laws.specs.Judging.{prelude-long, prelude-passed, shape-out-passed, shape-out-fits, shape-fits, fits-shape, result-out-fits}
 use Rattle.laws.specs.Judging.{finish-zero}
 use Rattle.laws.specs.Tree.{Fits}

@@ -2,7 +2,6 @@
 use Prim.Native.Nat.{ℕ, _≤_, _<_}
 use native.Mathlib.Omega.{arith}
 use mathlib.Core.Path.{_≡_, refl, sym, ap, subst}
-use mathlib.Core.Logic.{_⊎_, inl, inr}
 use mathlib.Core.Bool.{Bool, true, false, true≢false}
 use mathlib.Core.List.{[], _∷_}
 use lib.Dec.{ltb, lit<}
@@ -10,7 +9,6 @@ use lib.ListN.{length}
 use Rattle.definitions.specs.declared.Limits.{Limits}
 use Rattle.definitions.specs.declared.Answer.{Answer}
 use Rattle.definitions.specs.Bytes.{Bytes}
-use Rattle.definitions.specs.Outcome.{Outcome, ok, refused}
 use Rattle.definitions.specs.Value.{Value}
 use Rattle.definitions.specs.Json.{read-json}
 use Rattle.definitions.specs.Plain.{plain}
@@ -22,7 +20,7 @@ use Rattle.definitions.specs.Running.{Ran, run-reader}
 use Rattle.definitions.specs.Operations.{Done, Judged, passed, stopped, refusal, output-short, written, Text-out, to-write}
 use Rattle.definitions.specs.Operations.{shape-out, result-out, deliver, finish, say}
 use Rattle.laws.specs.Tests.{ltb-lt, ltb-le}
-use Rattle.laws.specs.Judging.{Numbered, shape-over, shape-out-over, shape-out-fits, result-over, result-out-over, result-out-fits}
+use Rattle.laws.specs.Judging.{shape-over, shape-out-over, shape-out-fits, result-over, result-out-over, result-out-fits}
 use Rattle.laws.specs.Judging.{deliver-short, deliver-room}
 use Rattle.laws.specs.Numbered.{numbered-shape, numbered-reader, numbered-check-reader}
 use Rattle.laws.specs.Causes.{Cause, same-place}
@@ -30,8 +28,7 @@ use Rattle.laws.specs.FormCauses.{Shape-cause, Reader-cause}
 use Rattle.laws.specs.JsonAdequate.{json-refused}
 use Rattle.laws.specs.ShapeCauses.{shape-refused}
 use Rattle.laws.specs.ReaderCauses.{reader-refused}
-use Rattle.laws.specs.CauseRefuses.{json-cause-refuses, shape-cause-refuses, reader-cause-refuses, cause-numbered}
-use Rattle.laws.specs.RunLaws.{run-refusals}
+use Rattle.laws.specs.CauseRefuses.{json-cause-refuses, shape-cause-refuses, reader-cause-refuses}
 use Rattle.laws.specs.CheckRules.{Refuses}
 use Rattle.laws.specs.CheckRulesHold.{refuses-exactly}
 use Rattle.laws.specs.RunRules.{Halts}

@@ -5,7 +5,7 @@ use native.Mathlib.Nat.{le-trans}
 use mathlib.Core.Path.{_≡_, refl, sym, ap, _∙_, subst}
 use mathlib.Core.Bool.{Bool, true, false}
 use mathlib.Core.List.{List}
-use lib.Dec.{ltb, lit<, lit≤}
+use lib.Dec.{ltb, lit≤}
 use lib.ListN.{take}
 use Rattle.definitions.specs.declared.Limits.{Limits}
 use Rattle.definitions.specs.Bytes.{Bytes}
@@ -27,10 +27,9 @@ use Rattle.laws.specs.ReaderFacts.{reader-proper}
 use Rattle.laws.specs.RoundLaws.{plain-reads-back, plain-idempotent, json-read-good, reader-read-good, run-good}
 use Rattle.laws.specs.RunLaws.{run-distinct}
 use Rattle.laws.specs.Chain.{In-range}
-use Rattle.laws.specs.Judging.{Positive, bind-positive, prelude-positive, text-positive, both-positive, in-text-positive, refusal-positive}
+use Rattle.laws.specs.Judging.{Positive, prelude-positive}
 use Rattle.laws.specs.Judging.{stopped-not-passed, passed-same, bind-passed, prelude-passed, text-passed, both-passed, in-text-passed}
 use Rattle.laws.specs.Judging.{result-over, result-out-over, result-out-fits, finish-zero, finish-written, front}
-use Rattle.laws.specs.Numbered.{numbered-reader}
 use Rattle.laws.specs.Positives.{numbered-json, plain-positive, run-positive}
 use Rattle.laws.specs.WrittenShapes.{refusal-keeps}
 

@@ -22,9 +22,8 @@ use Rattle.laws.specs.JoinLaws.{join-ascending, shape-of-ascending}
 use Rattle.laws.specs.SoundShapes.{check-ascending}
 use Rattle.laws.specs.ShapeForms.{shape-ascending}
 use Rattle.laws.specs.RoundLaws.{shape-reads-back, shape-read-good, join-good, check-good, reader-read-good}
-use Rattle.laws.specs.Judging.{Positive, bind-positive, prelude-positive, both-positive, shape-out-positive, prelude-passed, both-passed}
+use Rattle.laws.specs.Judging.{Positive, prelude-positive, prelude-passed, both-passed}
 use Rattle.laws.specs.Judging.{shape-over, shape-out-passed, shape-fits, deliver-short, deliver-room, finish-zero, finish-written, front}
-use Rattle.laws.specs.Numbered.{numbered-shape}
 use Rattle.laws.specs.Tests.{eq-eqb}
 use Rattle.laws.specs.Positives.{join-positive}
 use Rattle.laws.specs.Chain.{Call, infers, takes, Proper-source}

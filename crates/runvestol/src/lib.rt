@@ -1,7 +1,7 @@
 // The C calls: each runs an operation at a set of limits, with work slices of its own, and writes its answer as five little-endian
 // words. None asks for anything, and no function beside them stands here.
 ghost use mathlib.Core.Path.{_≡_};
-ghost use Rattle.definitions.specs.Limits.{set};
+ghost use Rattle.definitions.specs.Limits.{set-of};
 ghost use Rattle.definitions.specs.Json.{read-json};
 ghost use Rattle.definitions.specs.Calls.{plain-call, infer-call, join-call, below-call, admits-call, check-call, run-call};
 use definitions::Format;
@@ -18,11 +18,11 @@ pub extern "C" fn runvestol_plain(
     answer: &mut [u8],
 ) -> u64
     ensures number { λ r. ⌜ r ≡
-        plain-call read-json (set bytes values nesting steps) (now (document .entry)) (now (output .entry)) (now (answer .entry)) .number ⌝ }
+        plain-call read-json (set-of bytes values nesting steps) (now (document .entry)) (now (output .entry)) (now (answer .entry)) .number ⌝ }
     ensures answered { λ _. ⌜ now (answer .exit) ≡
-        plain-call read-json (set bytes values nesting steps) (now (document .entry)) (now (output .entry)) (now (answer .entry)) .answer ⌝ }
+        plain-call read-json (set-of bytes values nesting steps) (now (document .entry)) (now (output .entry)) (now (answer .entry)) .answer ⌝ }
     ensures written { λ _. ⌜ now (output .exit) ≡
-        plain-call read-json (set bytes values nesting steps) (now (document .entry)) (now (output .entry)) (now (answer .entry)) .output ⌝ }
+        plain-call read-json (set-of bytes values nesting steps) (now (document .entry)) (now (output .entry)) (now (answer .entry)) .output ⌝ }
 {
     let limits = slices::set(bytes, values, nesting, steps); // judged whole, though no step is taken here
     let stop = slices::judge_call(limits, answer.len());
@@ -46,13 +46,13 @@ pub extern "C" fn runvestol_infer(
     answer: &mut [u8],
 ) -> u64
     ensures number { λ r. ⌜ r ≡
-        infer-call read-json (set bytes values nesting steps) (now (shape .entry)) (now (document .entry)) (now (output .entry))
+        infer-call read-json (set-of bytes values nesting steps) (now (shape .entry)) (now (document .entry)) (now (output .entry))
         (now (answer .entry)) .number ⌝ }
     ensures answered { λ _. ⌜ now (answer .exit) ≡
-        infer-call read-json (set bytes values nesting steps) (now (shape .entry)) (now (document .entry)) (now (output .entry))
+        infer-call read-json (set-of bytes values nesting steps) (now (shape .entry)) (now (document .entry)) (now (output .entry))
         (now (answer .entry)) .answer ⌝ }
     ensures written { λ _. ⌜ now (output .exit) ≡
-        infer-call read-json (set bytes values nesting steps) (now (shape .entry)) (now (document .entry)) (now (output .entry))
+        infer-call read-json (set-of bytes values nesting steps) (now (shape .entry)) (now (document .entry)) (now (output .entry))
         (now (answer .entry)) .output ⌝ }
 {
     let limits = slices::set(bytes, values, nesting, steps);
@@ -77,11 +77,11 @@ pub extern "C" fn runvestol_join(
     answer: &mut [u8],
 ) -> u64
     ensures number { λ r. ⌜ r ≡
-        join-call (set bytes values nesting steps) (now (first .entry)) (now (second .entry)) (now (output .entry)) (now (answer .entry)) .number ⌝ }
+        join-call (set-of bytes values nesting steps) (now (first .entry)) (now (second .entry)) (now (output .entry)) (now (answer .entry)) .number ⌝ }
     ensures answered { λ _. ⌜ now (answer .exit) ≡
-        join-call (set bytes values nesting steps) (now (first .entry)) (now (second .entry)) (now (output .entry)) (now (answer .entry)) .answer ⌝ }
+        join-call (set-of bytes values nesting steps) (now (first .entry)) (now (second .entry)) (now (output .entry)) (now (answer .entry)) .answer ⌝ }
     ensures written { λ _. ⌜ now (output .exit) ≡
-        join-call (set bytes values nesting steps) (now (first .entry)) (now (second .entry)) (now (output .entry)) (now (answer .entry)) .output ⌝ }
+        join-call (set-of bytes values nesting steps) (now (first .entry)) (now (second .entry)) (now (output .entry)) (now (answer .entry)) .output ⌝ }
 {
     let limits = slices::set(bytes, values, nesting, steps);
     let stop = slices::judge_call(limits, answer.len());
@@ -103,9 +103,10 @@ pub extern "C" fn runvestol_below(
     second: &[u8],
     answer: &mut [u8],
 ) -> u64
-    ensures number { λ r. ⌜ r ≡ below-call (set bytes values nesting steps) (now (first .entry)) (now (second .entry)) (now (answer .entry)) .number ⌝ }
+    ensures number { λ r. ⌜ r ≡
+        below-call (set-of bytes values nesting steps) (now (first .entry)) (now (second .entry)) (now (answer .entry)) .number ⌝ }
     ensures answered { λ _. ⌜ now (answer .exit) ≡
-        below-call (set bytes values nesting steps) (now (first .entry)) (now (second .entry)) (now (answer .entry)) .answer ⌝ }
+        below-call (set-of bytes values nesting steps) (now (first .entry)) (now (second .entry)) (now (answer .entry)) .answer ⌝ }
 {
     let limits = slices::set(bytes, values, nesting, steps);
     let stop = slices::judge_call(limits, answer.len());
@@ -128,9 +129,9 @@ pub extern "C" fn runvestol_admits(
     answer: &mut [u8],
 ) -> u64
     ensures number { λ r. ⌜ r ≡
-        admits-call read-json (set bytes values nesting steps) (now (shape .entry)) (now (document .entry)) (now (answer .entry)) .number ⌝ }
+        admits-call read-json (set-of bytes values nesting steps) (now (shape .entry)) (now (document .entry)) (now (answer .entry)) .number ⌝ }
     ensures answered { λ _. ⌜ now (answer .exit) ≡
-        admits-call read-json (set bytes values nesting steps) (now (shape .entry)) (now (document .entry)) (now (answer .entry)) .answer ⌝ }
+        admits-call read-json (set-of bytes values nesting steps) (now (shape .entry)) (now (document .entry)) (now (answer .entry)) .answer ⌝ }
 {
     let limits = slices::set(bytes, values, nesting, steps);
     let stop = slices::judge_call(limits, answer.len());
@@ -154,11 +155,11 @@ pub extern "C" fn runvestol_check(
     answer: &mut [u8],
 ) -> u64
     ensures number { λ r. ⌜ r ≡
-        check-call (set bytes values nesting steps) (now (reader .entry)) (now (shape .entry)) (now (output .entry)) (now (answer .entry)) .number ⌝ }
+        check-call (set-of bytes values nesting steps) (now (reader .entry)) (now (shape .entry)) (now (output .entry)) (now (answer .entry)) .number ⌝ }
     ensures answered { λ _. ⌜ now (answer .exit) ≡
-        check-call (set bytes values nesting steps) (now (reader .entry)) (now (shape .entry)) (now (output .entry)) (now (answer .entry)) .answer ⌝ }
+        check-call (set-of bytes values nesting steps) (now (reader .entry)) (now (shape .entry)) (now (output .entry)) (now (answer .entry)) .answer ⌝ }
     ensures written { λ _. ⌜ now (output .exit) ≡
-        check-call (set bytes values nesting steps) (now (reader .entry)) (now (shape .entry)) (now (output .entry)) (now (answer .entry)) .output ⌝ }
+        check-call (set-of bytes values nesting steps) (now (reader .entry)) (now (shape .entry)) (now (output .entry)) (now (answer .entry)) .output ⌝ }
 {
     let limits = slices::set(bytes, values, nesting, steps);
     let stop = slices::judge_call(limits, answer.len());
@@ -182,13 +183,13 @@ pub extern "C" fn runvestol_run(
     answer: &mut [u8],
 ) -> u64
     ensures number { λ r. ⌜ r ≡
-        run-call read-json (set bytes values nesting steps) (now (reader .entry)) (now (document .entry)) (now (output .entry))
+        run-call read-json (set-of bytes values nesting steps) (now (reader .entry)) (now (document .entry)) (now (output .entry))
         (now (answer .entry)) .number ⌝ }
     ensures answered { λ _. ⌜ now (answer .exit) ≡
-        run-call read-json (set bytes values nesting steps) (now (reader .entry)) (now (document .entry)) (now (output .entry))
+        run-call read-json (set-of bytes values nesting steps) (now (reader .entry)) (now (document .entry)) (now (output .entry))
         (now (answer .entry)) .answer ⌝ }
     ensures written { λ _. ⌜ now (output .exit) ≡
-        run-call read-json (set bytes values nesting steps) (now (reader .entry)) (now (document .entry)) (now (output .entry))
+        run-call read-json (set-of bytes values nesting steps) (now (reader .entry)) (now (document .entry)) (now (output .entry))
         (now (answer .entry)) .output ⌝ }
 {
     let limits = slices::set(bytes, values, nesting, steps); // 13 goes by its steps

@@ -2,7 +2,7 @@
 ghost use mathlib.Core.Path.{_≡_};
 ghost use mathlib.Core.List.{[], _∷_};
 ghost use Prim.Native.Nat.{min};
-ghost use Rattle.definitions.specs.Limits.{set, within, in-range};
+ghost use Rattle.definitions.specs.Limits.{set-of, within, in-range};
 ghost use Rattle.definitions.specs.Operations.{slices-short};
 ghost use Rattle.definitions.specs.Calls.{buffer-published};
 ghost use Rattle.definitions.specs.WorkSlices.{shape-words, name-words, most-values, value-words, text-words, most-reader-forms, reader-texts};
@@ -24,7 +24,7 @@ pub const STANDARD: Limits = Limits {
 
 // Four numbers as a set, whatever they are.
 pub fn set(bytes: u64, values: u64, nesting: u64, steps: u64) -> Limits
-    ensures made { λ r. ⌜ r ≡ set bytes values nesting steps ⌝ }
+    ensures made { λ r. ⌜ r ≡ set-of bytes values nesting steps ⌝ }
 {
     Limits {
         bytes: bytes as usize,

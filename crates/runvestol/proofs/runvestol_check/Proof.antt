@@ -30,7 +30,8 @@ returns-2 c =
     let at-start = after-set .before .before .before .before .before in
     calls-behind (at-start .args .answer .now) (after-check .check .result) (c .before .before .tell2 .ensures) (after-set .set .ensures)
     (after-check .before .before .before .judge-call .ensures) (at-start .args .output .now)
-    (λ l. check-judged l (at-start .args .reader .now) (at-start .args .shape .now)) (after-check .before .before .if1 .left) (after-check .check .ensures .0, after-check .check .ensures .1)
+    (λ l. check-judged l (at-start .args .reader .now) (at-start .args .shape .now)) (after-check .before .before .if1 .left)
+    (after-check .check .ensures .0, after-check .check .ensures .1)
 
 pub runvestol-check-spec : {M : Type 1} → statement M
 runvestol-check-spec =

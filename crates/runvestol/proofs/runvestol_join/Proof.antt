@@ -30,7 +30,8 @@ returns-2 c =
     let at-start = after-set .before .before .before .before .before in
     calls-behind (at-start .args .answer .now) (after-join .join .result) (c .before .before .tell2 .ensures) (after-set .set .ensures)
     (after-join .before .before .before .judge-call .ensures) (at-start .args .output .now)
-    (λ l. join-judged l (at-start .args .first .now) (at-start .args .second .now)) (after-join .before .before .if1 .left) (after-join .join .ensures .0, after-join .join .ensures .1)
+    (λ l. join-judged l (at-start .args .first .now) (at-start .args .second .now)) (after-join .before .before .if1 .left)
+    (after-join .join .ensures .0, after-join .join .ensures .1)
 
 pub runvestol-join-spec : {M : Type 1} → statement M
 runvestol-join-spec =
