@@ -96,13 +96,13 @@ extern "C" {
 /*
  * The bytes of stack that each call needs below its caller's frame, most of them its work slices
  * (docs/WORK-SLICES.md), and the most of these. tests/c measures each anew, on texts of as many levels as may be:
- *   plain     47,080 at the deepest, and at the smallest set 35,544
- *   infer     72,056                                         60,536
- *   join      64,592                                         51,736
- *   below     60,648                                         51,352
- *   admits    71,688                                         60,152
- *   check     80,808                                         67,280
- *   run      101,064                                         79,688
+ *   plain     46,432 at the deepest, and at the smallest set 35,232
+ *   infer     71,312                                         60,112
+ *   join      64,608                                         51,616
+ *   below     58,608                                         50,992
+ *   admits    71,056                                         59,856
+ *   check     80,696                                         67,040
+ *   run      101,096                                         79,592
  */
 #define RUNVESTOL_PLAIN_STACK_BYTES 49152
 #define RUNVESTOL_INFER_STACK_BYTES 73728
