@@ -34,7 +34,13 @@ static void show_up_to(const struct text *text, size_t end)
     }
 }
 
-/* A shape, which has a line feed at the end of each line. The command is the one that writes it whole. */
+/* Says that there is more, and which command writes all of it. */
+static void show_more(size_t count, const char *what, const char *command)
+{
+    printf("... and %zu %s%s more, which %s writes\n", count, what, count == 1 ? "" : "s", command);
+}
+
+/* A shape, which has a line feed at the end of each line. */
 static void show_shape(const struct text *shape, size_t most, const char *command)
 {
     size_t lines = 0, end = 0;
@@ -45,7 +51,7 @@ static void show_shape(const struct text *shape, size_t most, const char *comman
     }
     show_up_to(shape, lines > most ? end : shape->length);
     if (lines > most)
-        printf("... and %zu lines more, which %s writes\n", lines - most, command);
+        show_more(lines - most, "line", command);
 }
 
 static void show_result(const char *name, const struct text *result)
@@ -121,7 +127,7 @@ static enum status try_runs(struct trial *trial)
             return status;
     }
     if (trial->count > RESULTS)
-        printf("... and %d results more, which run writes\n", trial->count - RESULTS);
+        show_more((size_t)(trial->count - RESULTS), "result", "run");
     return DONE;
 }
 
