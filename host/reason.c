@@ -163,6 +163,15 @@ static bool add_met(struct text *words, const struct text *probe, const struct t
     return refused->number == RUNVESTOL_UNWANTED_KIND ? add_kinds(words, &result, at) : add_names(words, &result, at);
 }
 
+/* The shape that check writes is none of its files'. */
+static bool say_too_large(struct text *words, const struct limits *limits)
+{
+    char forms[NUMBER_WORDS], levels[NUMBER_WORDS], bytes[NUMBER_WORDS];
+    return text_say(words, "the reader's result shape has over ") && text_say(words, number_in_words(forms, limits->values))
+        && text_say(words, " forms, ") && text_say(words, number_in_words(levels, limits->nesting)) && text_say(words, " levels or ")
+        && text_say(words, number_in_words(bytes, limits->bytes)) && text_say(words, " bytes");
+}
+
 bool reason_of_check(struct text *words, const struct text *texts, const struct outcome *o)
 {
     const struct text *reader = &texts[0], *shape = &texts[1];
@@ -172,6 +181,8 @@ bool reason_of_check(struct text *words, const struct text *texts, const struct 
     int count = 0;
     if (o->number == RUNVESTOL_FORM_SYNTAX)
         return reason_of_syntax(words, texts, o);
+    if (o->number == RUNVESTOL_SHAPE_LIMIT)
+        return say_too_large(words, &o->limits);
     if (o->number == RUNVESTOL_UNWANTED_KIND || o->number == RUNVESTOL_UNLISTED_NAME)
         count = forms_around(reader, o->place, forms);
     bool told = count > 0 && add_wanted(words, reader, &forms[count - 1], o->number)
