@@ -37,7 +37,8 @@ static void show_up_to(const struct text *text, size_t end)
 /* Says that there is more, and which command writes all of it. */
 static void show_more(size_t count, const char *what, const char *command)
 {
-    printf("... and %zu %s%s more, which %s writes\n", count, what, count == 1 ? "" : "s", command);
+    char room[NUMBER_WORDS];
+    printf("... and %s %s%s more, which %s writes\n", number_in_words(room, count), what, count == 1 ? "" : "s", command);
 }
 
 /* A shape, which has a line feed at the end of each line. */
