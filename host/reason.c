@@ -168,8 +168,8 @@ static bool say_too_large(struct text *words, const struct limits *limits)
 {
     char forms[NUMBER_WORDS], levels[NUMBER_WORDS], bytes[NUMBER_WORDS];
     return text_say(words, "the reader's result shape has over ") && text_say(words, number_in_words(forms, limits->values))
-        && text_say(words, " forms, ") && text_say(words, number_in_words(levels, limits->nesting)) && text_say(words, " levels or ")
-        && text_say(words, number_in_words(bytes, limits->bytes)) && text_say(words, " bytes");
+        && text_say(words, " forms, ") && text_say(words, number_in_words(levels, limits->nesting))
+        && text_say(words, " levels or ") && text_say(words, number_in_words(bytes, limits->bytes)) && text_say(words, " bytes");
 }
 
 bool reason_of_check(struct text *words, const struct text *texts, const struct outcome *o)

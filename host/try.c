@@ -11,7 +11,7 @@
 #include "samples.h"
 #include "text.h"
 
-/* the most lines of the two shapes, results, and characters of a result that are shown */
+/* the most lines of the two shapes, results, and characters of a line or a result that are shown */
 enum { SHAPE_LINES = 30, RESULT_SHAPE_LINES = 12, RESULTS = 10, CHARACTERS = 120 };
 
 struct trial {
@@ -24,14 +24,19 @@ struct trial {
 
 /* ---- showing what is there, cut where it is long */
 
-static void show_up_to(const struct text *text, size_t end)
+/* Shows the line that begins at a byte, up to so many characters. Where the next one begins. */
+static size_t show_line(const struct text *text, size_t at)
 {
-    for (size_t at = 0; at < end; at += character(text, at)) {
-        if (text->bytes[at] == '\n')
-            putchar('\n');
-        else
-            show_character(stdout, text->bytes + at, character(text, at));
+    for (int count = 0; at < text->length && text->bytes[at] != '\n'; count++) {
+        size_t length = character(text, at);
+        if (count < CHARACTERS)
+            show_character(stdout, text->bytes + at, length);
+        else if (count == CHARACTERS)
+            fputs("...", stdout);
+        at += length;
     }
+    putchar('\n');
+    return at + 1;
 }
 
 /* Says that there is more, and which command writes all of it. */
@@ -42,27 +47,15 @@ static void show_more(size_t count, const char *what, const char *command)
 }
 
 /* A shape, which has a line feed at the end of each line. */
-static void show_shape(const struct text *shape, size_t most, const char *command)
+static void show_shape(const struct text *shape, int most, const char *command)
 {
-    size_t lines = 0, end = 0;
-    for (size_t at = 0; at < shape->length; at++) {
-        lines += shape->bytes[at] == '\n';
-        if (lines == most && end == 0)
-            end = at + 1;
-    }
-    show_up_to(shape, lines > most ? end : shape->length);
-    if (lines > most)
-        show_more(lines - most, "line", command);
-}
-
-static void show_result(const char *name, const struct text *result)
-{
-    size_t end = 0;
-    for (int count = 0; end < result->length && count < CHARACTERS; count++)
-        end += character(result, end);
-    printf("%s: ", name);
-    show_up_to(result, end);
-    puts(end < result->length ? "..." : "");
+    size_t at = 0, more = 0;
+    for (int line = 0; line < most && at < shape->length; line++)
+        at = show_line(shape, at);
+    for (; at < shape->length; at++)
+        more += shape->bytes[at] == '\n';
+    if (more > 0)
+        show_more(more, "line", command);
 }
 
 /* A refusal ends the trial. It stands behind what was shown, also where both go to one file. */
@@ -114,8 +107,10 @@ static enum status try_run(struct trial *trial, const struct text *sample, bool 
         return fail("the output");
     if (o.number != RUNVESTOL_OK)
         return refuse(texts, 2, &o, reason_of_run);
-    if (is_shown)
-        show_result(sample->name, &(struct text){NULL, trial->output.bytes, o.length});
+    if (is_shown) {
+        printf("%s: ", sample->name);
+        show_line(&(struct text){NULL, trial->output.bytes, o.length}, 0);
+    }
     return DONE;
 }
 
