@@ -61,23 +61,36 @@ static void pass_word(struct walk *w)
     w->at = word.to;
 }
 
+/* Goes on to the end, or until the walk is over; false where forms are nested too deep. */
+static bool go_on(struct walk *w)
+{
+    while (w->at < w->reader->length) {
+        uint8_t byte = w->reader->bytes[w->at];
+        if (byte == '(' && w->depth == MOST_LEVELS)
+            return false;
+        if (byte == '(')
+            open_form(w);
+        else if (w->depth == 0 || memchr(" \t\r\n", byte, 4) != NULL)
+            w->at++;
+        else if (byte == '"')
+            w->at = end_of_string(w->reader, w->at);
+        else if (byte != ')')
+            pass_word(w);
+        else if (close_form(w))
+            break;
+    }
+    return true;
+}
+
 int forms_around(const struct text *reader, size_t place, struct form *forms)
 {
     struct walk w = {.reader = reader, .place = place, .forms = forms};
-    while (w.at < reader->length) {
-        uint8_t byte = reader->bytes[w.at];
-        if (byte == '(' && w.depth == MOST_LEVELS)
-            return 0;
-        if (byte == '(')
-            open_form(&w);
-        else if (w.depth == 0 || memchr(" \t\r\n", byte, 4) != NULL)
-            w.at++;
-        else if (byte == '"')
-            w.at = end_of_string(reader, w.at);
-        else if (byte != ')')
-            pass_word(&w);
-        else if (close_form(&w))
-            break;
-    }
-    return w.found;
+    return go_on(&w) ? w.found : 0;
+}
+
+int forms_open(const struct text *reader, size_t place, struct form *forms)
+{
+    const struct text before = {reader->name, reader->bytes, place};
+    struct walk w = {.reader = &before, .place = place, .forms = forms};
+    return go_on(&w) ? w.depth : 0;
 }

@@ -1,4 +1,4 @@
-/* The forms around a place of a reader that was read without refusal. */
+/* The forms around a place of a reader of which all is right that stands before the place. */
 #ifndef HOST_FORMS_H
 #define HOST_FORMS_H
 
@@ -25,6 +25,10 @@ struct form {
 /* The forms around the one whose bracket is at a place, the outermost first, and itself last. How many these are; 0 where
    no form has its bracket there. */
 int forms_around(const struct text *reader, size_t place, struct form *forms);
+
+/* The forms that are open at a place, the outermost first. How many these are; the last one has no word yet where the place is
+   right behind its bracket. */
+int forms_open(const struct text *reader, size_t place, struct form *forms);
 
 /* Whether the bytes of a span are this word. */
 bool span_is(const struct text *text, struct span span, const char *word);

@@ -4,6 +4,7 @@
 
 #include "forms.h"
 #include "runvestol.h"
+#include "syntax.h"
 
 /* the most names that are told of those that a shape lists */
 enum { MOST_NAMES = 8 };
@@ -15,11 +16,6 @@ static const struct want {
     {"field", "rec"}, {"int", "int"}, {"dec", "int or dec"}, {"bool", "bool"}, {"text", "text"},
     {"count", "list or null"}, {"each", "list or null"}, {"if", "bool"},
 };
-
-static bool add(struct text *to, const char *words)
-{
-    return text_add(to, words, strlen(words));
-}
 
 static bool add_span(struct text *to, const struct text *from, struct span span)
 {
@@ -57,15 +53,15 @@ static bool add_before(struct text *to, const struct text *reader, const struct 
     const struct around *around = around_in(reader, form);
     if (around == &not_bound)
         return true;
-    return add(to, around->before) && (around == &bound_by_each || add_span(to, reader, form->words[1]))
-        && add_span(to, reader, form->first) && add(to, around->between);
+    return text_say(to, around->before) && (around == &bound_by_each || add_span(to, reader, form->words[1]))
+        && add_span(to, reader, form->first) && text_say(to, around->between);
 }
 
 static bool add_part(struct text *to, const struct text *reader, const struct form *form)
 {
     if (span_is(reader, form->words[0], "if"))
         return add_span(to, reader, form->first);
-    return add(to, "(keep ") && add_span(to, reader, form->first) && add(to, ")");
+    return text_say(to, "(keep ") && add_span(to, reader, form->first) && text_say(to, ")");
 }
 
 /* Makes the reader, and gives the line of its result shape at which the part's own shape begins. */
@@ -80,7 +76,7 @@ static bool make_probe(struct text *to, const struct text *reader, const struct 
     fine = fine && add_part(to, reader, &forms[count - 1]);
     for (int i = count - 2; fine && i >= 0; i--) {
         const struct around *around = around_in(reader, &forms[i]);
-        fine = around == &not_bound || add(to, around->behind);
+        fine = around == &not_bound || text_say(to, around->behind);
     }
     return fine;
 }
@@ -115,12 +111,12 @@ static size_t end_of_line(const struct text *shape, size_t at)
 static bool add_kinds(struct text *to, const struct text *shape, size_t line_at)
 {
     size_t at = line_at + spaces_at(shape, line_at) + strlen("(shape");
-    bool fine = add(to, ", and meets");
+    bool fine = text_say(to, ", and meets");
     for (const char *before = " "; fine && at < shape->length && shape->bytes[at] == ' '; before = " or ") {
         size_t from = ++at;
         while (at < shape->length && shape->bytes[at] >= 'a' && shape->bytes[at] <= 'z')
             at++;
-        fine = add(to, before) && add_span(to, shape, (struct span){from, at});
+        fine = text_say(to, before) && add_span(to, shape, (struct span){from, at});
     }
     return fine;
 }
@@ -130,17 +126,17 @@ static bool add_names(struct text *to, const struct text *shape, size_t line_at)
 {
     static const char member[] = "(member ";
     size_t indent = spaces_at(shape, line_at), at = end_of_line(shape, line_at) + 1;
-    bool fine = add(to, ", and the shape has");
+    bool fine = text_say(to, ", and the shape has");
     int count = 0;
     for (; fine && at < shape->length && spaces_at(shape, at) > indent; at = end_of_line(shape, at) + 1) {
         size_t name = at + indent + sizeof member;
         if (spaces_at(shape, at) != indent + 1 || memcmp(shape->bytes + name - strlen(member), member, strlen(member)) != 0)
             continue;
         if (count++ == MOST_NAMES)
-            return add(to, " and others there");
-        fine = add(to, count == 1 ? " " : ", ") && add_span(to, shape, (struct span){name, end_of_line(shape, at)});
+            return text_say(to, " and others there");
+        fine = text_say(to, count == 1 ? " " : ", ") && add_span(to, shape, (struct span){name, end_of_line(shape, at)});
     }
-    return fine && add(to, count == 0 ? " none there" : " there");
+    return fine && text_say(to, count == 0 ? " none there" : " there");
 }
 
 /* ---- both */
@@ -149,8 +145,8 @@ static bool add_wanted(struct text *words, const struct text *reader, const stru
 {
     for (size_t i = 0; i < sizeof wants / sizeof *wants; i++)
         if (span_is(reader, form->words[0], wants[i].form))
-            return add(words, wants[i].form) && add(words, " wants ")
-                && add(words, number == RUNVESTOL_UNLISTED_NAME ? "a name that is listed" : wants[i].kinds);
+            return text_say(words, wants[i].form) && text_say(words, " wants ")
+                && text_say(words, number == RUNVESTOL_UNLISTED_NAME ? "a name that is listed" : wants[i].kinds);
     return false;
 }
 
@@ -167,6 +163,15 @@ static bool add_met(struct text *words, const struct text *probe, const struct t
     return refused->number == RUNVESTOL_UNWANTED_KIND ? add_kinds(words, &result, at) : add_names(words, &result, at);
 }
 
+/* The shape that check writes is none of its files'. */
+static bool say_too_large(struct text *words, const struct limits *limits)
+{
+    char forms[NUMBER_WORDS], levels[NUMBER_WORDS], bytes[NUMBER_WORDS];
+    return text_say(words, "the reader's result shape has over ") && text_say(words, number_in_words(forms, limits->values))
+        && text_say(words, " forms, ") && text_say(words, number_in_words(levels, limits->nesting))
+        && text_say(words, " levels or ") && text_say(words, number_in_words(bytes, limits->bytes)) && text_say(words, " bytes");
+}
+
 bool reason_of_check(struct text *words, const struct text *texts, const struct outcome *o)
 {
     const struct text *reader = &texts[0], *shape = &texts[1];
@@ -174,6 +179,10 @@ bool reason_of_check(struct text *words, const struct text *texts, const struct 
     struct text probe = {NULL, NULL, 0};
     size_t line;
     int count = 0;
+    if (o->number == RUNVESTOL_FORM_SYNTAX)
+        return reason_of_syntax(words, texts, o);
+    if (o->number == RUNVESTOL_SHAPE_LIMIT)
+        return say_too_large(words, &o->limits);
     if (o->number == RUNVESTOL_UNWANTED_KIND || o->number == RUNVESTOL_UNLISTED_NAME)
         count = forms_around(reader, o->place, forms);
     bool told = count > 0 && add_wanted(words, reader, &forms[count - 1], o->number)
@@ -187,11 +196,13 @@ bool reason_of_run(struct text *words, const struct text *texts, const struct ou
     struct form forms[MOST_LEVELS];
     char step[NUMBER_WORDS];
     int count = 0;
+    if (o->number == RUNVESTOL_FORM_SYNTAX)
+        return reason_of_syntax(words, texts, o);
     if (o->number == RUNVESTOL_STEP_LIMIT)
-        return add(words, "the form would be step ") && add(words, number_in_words(step, o->limits.steps + 1)) && add(words, " on ")
-            && add(words, texts[1].name);
+        return text_say(words, "the form would be step ") && text_say(words, number_in_words(step, o->limits.steps + 1))
+            && text_say(words, " on ") && text_say(words, texts[1].name);
     if (o->number == RUNVESTOL_STUCK)
         count = forms_around(&texts[0], o->place, forms);
     return count > 0 && add_wanted(words, &texts[0], &forms[count - 1], o->number)
-        && add(words, ", and meets another kind in ") && add(words, texts[1].name);
+        && text_say(words, ", and meets another kind in ") && text_say(words, texts[1].name);
 }

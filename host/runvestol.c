@@ -12,6 +12,7 @@
 #include "samples.h"
 #include "status.h"
 #include "text.h"
+#include "try.h"
 
 /* The files of a command line, and the set for all calls. */
 struct files {
@@ -40,6 +41,7 @@ struct command {
 static enum status run_once(const struct command *command, const struct files *files);
 static enum status run_infer(const struct command *command, const struct files *files);
 static enum status run_run(const struct command *command, const struct files *files);
+static enum status run_try(const struct command *command, const struct files *files);
 static enum status show_written(const struct output *output, const struct outcome *o);
 static enum status show_verdict(const struct output *output, const struct outcome *o);
 
@@ -56,6 +58,8 @@ static const struct command commands[] = {
      2, 2, NO_OPTION, run_once, call_check, show_written, reason_of_check},
     {"run", "[--steps] READER DOCUMENT...", "write what the reader gives on each document",
      2, 0, STEPS, run_run, NULL, NULL, NULL},
+    {"try", "READER SAMPLE...", "show the shape that the samples reach, the reader's result shape, and what it gives on each",
+     2, 0, NO_OPTION, run_try, NULL, NULL, NULL},
 };
 
 enum { COMMANDS = sizeof commands / sizeof *commands };
@@ -93,7 +97,8 @@ static void help(FILE *to)
           "\n"
           "infer leaves out the documents that are refused, and writes the shape that the others reach. run leaves them\n"
           "out too, and writes each result on a line of its own where there are several documents; with --steps it tells\n"
-          "on standard error how many steps each took.\n"
+          "on standard error how many steps each took. try is for a person: it cuts what is long, and ends with the\n"
+          "first refusal.\n"
           "\n"
           "The four numbers of --limits are those that documents, shapes and readers are held to: bytes of a text, 1,024 to\n"
           "16,384; values, or forms, 16 to 512; nesting, 4 to 32; and steps of a run, 256 to 65,536. Without it each is the\n"
@@ -162,6 +167,12 @@ static enum status run_run(const struct command *command, const struct files *fi
 {
     (void)command;
     return run_documents(&files->limits, files->names, files->count, files->steps);
+}
+
+static enum status run_try(const struct command *command, const struct files *files)
+{
+    (void)command;
+    return try_reader(&files->limits, files->names, files->count);
 }
 
 /* ---- the words of the command line */

@@ -10,10 +10,7 @@
 
 static const char nothing[] = "(shape)\n";
 
-/* What becomes of a sample; behind the last two no further one is taken. */
-enum fate { JOINED, LEFT_OUT, SHAPE_REFUSED, UNREADABLE };
-
-static bool load_start(struct text *shape, const char *from)
+bool start_shape(struct text *shape, const char *from)
 {
     if (from != NULL)
         return text_load(shape, from);
@@ -21,8 +18,8 @@ static bool load_start(struct text *shape, const char *from)
     return text_put(shape, (const uint8_t *)nothing, strlen(nothing));
 }
 
-/* Joins a sample into the shape. A shape that is written is never longer than a text may be. */
-static enum fate join_sample(const struct limits *limits, struct text *shape, const struct text *sample)
+/* A shape that is written is never longer than a text may be. */
+enum fate join_sample(const struct limits *limits, struct text *shape, const struct text *sample)
 {
     uint8_t written[RUNVESTOL_MOST_BYTES];
     const struct text texts[] = {*shape, *sample};
@@ -53,7 +50,7 @@ enum status infer_samples(const struct limits *limits, const char *from, char **
 {
     static const enum status statuses[] = {DONE, REFUSED, REFUSED, FAILED};
     struct text shape;
-    if (!load_start(&shape, from))
+    if (!start_shape(&shape, from))
         return fail(from == NULL ? "the shape" : from);
     enum fate worst = JOINED;
     for (int i = 0; i < count && worst < SHAPE_REFUSED; i++) {

@@ -61,6 +61,11 @@ bool text_add(struct text *text, const void *bytes, size_t length)
     return true;
 }
 
+bool text_say(struct text *text, const char *words)
+{
+    return text_add(text, words, strlen(words));
+}
+
 void text_free(struct text *text)
 {
     free(text->bytes);

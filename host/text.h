@@ -18,8 +18,9 @@ bool text_load(struct text *text, const char *name);
 /* Has the text hold a copy of these bytes in place of its own. Where there is no memory: false, and errno says why. */
 bool text_put(struct text *text, const uint8_t *bytes, size_t length);
 
-/* Puts these bytes behind the text's own. Where there is no memory: false. */
+/* Puts these bytes, or these words, behind the text's own. Where there is no memory: false. */
 bool text_add(struct text *text, const void *bytes, size_t length);
+bool text_say(struct text *text, const char *words);
 
 void text_free(struct text *text);
 
