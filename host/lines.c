@@ -13,7 +13,8 @@ enum { KEPT = RUNVESTOL_MOST_BYTES + 2 };
 
 bool lines_open(struct lines *lines, const char *name)
 {
-    lines->file = strcmp(name, "-") == 0 ? STDIN_FILENO : open(name, O_RDONLY);
+    lines->is_standard = strcmp(name, "-") == 0;
+    lines->file = lines->is_standard ? STDIN_FILENO : open(name, O_RDONLY);
     lines->number = lines->from = lines->to = 0;
     lines->ended = false;
     return lines->file >= 0;
@@ -22,7 +23,7 @@ bool lines_open(struct lines *lines, const char *name)
 void lines_close(struct lines *lines)
 {
     int why = errno;
-    if (lines->file > STDIN_FILENO)
+    if (lines->file >= 0 && !lines->is_standard)
         close(lines->file);
     lines->file = -1;
     errno = why;

@@ -14,10 +14,10 @@ enum found { FOUND, NONE_LEFT, UNREADABLE };
 enum { LINES_ROOM = 65536 };
 
 struct lines {
-    int file;              /* -1 where none is open */
-    size_t number;         /* of the line found last, from 1 */
-    bool ended;
-    size_t from, to;       /* of the room, what is read and not handed on yet */
+    int file; /* -1 where none is open */
+    bool is_standard, ended;
+    size_t number;   /* of the line found last, from 1 */
+    size_t from, to; /* of the room, what is read and not handed on yet */
     uint8_t room[LINES_ROOM];
 };
 

@@ -7,6 +7,7 @@
 #include "documents.h"
 #include "limits.h"
 #include "list.h"
+#include "options.h"
 #include "reason.h"
 #include "refusal.h"
 #include "results.h"
@@ -15,22 +16,6 @@
 #include "status.h"
 #include "text.h"
 #include "verdicts.h"
-
-/* The options that stand right behind a command, in any order. */
-enum option { FROM, STEPS, FILES_FROM, LINES, OPTIONS };
-
-static const struct option_words {
-    const char *word;
-    const char *value; /* the file behind it, or NULL */
-} options[OPTIONS] = {
-    [FROM] = {"--from", "SHAPE"},
-    [STEPS] = {"--steps", NULL},
-    [FILES_FROM] = {"--files-from", "LIST"},
-    [LINES] = {"--lines", NULL},
-};
-
-/* Options of a command as bits. Those of documents go with every command whose last operand is DOCUMENT... */
-enum { NO_OPTION = 0, OF_DOCUMENTS = 1 << FILES_FROM | 1 << LINES };
 
 /* The files of a command line, and the set for all calls. */
 struct files {
@@ -80,26 +65,14 @@ enum { COMMANDS = sizeof commands / sizeof *commands };
 
 /* ---- words to the user */
 
-static bool has_option(const struct command *command, int option)
-{
-    return (command->options >> option & 1) != 0;
-}
-
-/* An option with the file behind it. */
-static void say_option(FILE *to, int option)
-{
-    fprintf(to, "%s%s%s", options[option].word, options[option].value == NULL ? "" : " ",
-            options[option].value == NULL ? "" : options[option].value);
-}
-
 static void usage(FILE *to)
 {
     for (int i = 0; i < COMMANDS; i++) {
         fprintf(to, "%s runvestol %s ", i == 0 ? "usage:" : "      ", commands[i].name);
         for (int option = 0; option < OPTIONS; option++) {
-            if (has_option(&commands[i], option)) {
+            if (has_option(commands[i].options, option)) {
                 putc('[', to);
-                say_option(to, option);
+                option_say(to, option);
                 fputs("] ", to);
             }
         }
@@ -200,28 +173,29 @@ static enum status run_once(const struct command *command, const struct files *f
 
 /* ---- a command of many calls */
 
-/* The documents of a command, which stand behind so many other files. */
-static struct source documents_of(const struct files *files, int others)
+/* The documents of a command, which stand behind its other files. A list or a file of records may have several. */
+static struct source documents_of(const struct command *command, const struct files *files)
 {
-    bool by_lines = files->given[LINES] != NULL, several = by_lines || files->given[FILES_FROM] != NULL || files->count - others > 1;
-    return (struct source){files->names + others, files->count - others, by_lines, several};
+    int others = command->least - 1, count = files->count - others;
+    bool by_lines = files->given[LINES] != NULL;
+    return (struct source){files->names + others, count, by_lines, by_lines || files->given[FILES_FROM] != NULL || count > 1};
 }
 
 static enum status run_infer(const struct command *command, const struct files *files)
 {
-    const struct source source = documents_of(files, command->least - 1);
+    const struct source source = documents_of(command, files);
     return infer_samples(&files->limits, files->given[FROM], &source);
 }
 
 static enum status run_admits(const struct command *command, const struct files *files)
 {
-    const struct source source = documents_of(files, command->least - 1);
+    const struct source source = documents_of(command, files);
     return judge_documents(&files->limits, files->names[0], &source);
 }
 
 static enum status run_run(const struct command *command, const struct files *files)
 {
-    const struct source source = documents_of(files, command->least - 1);
+    const struct source source = documents_of(command, files);
     return run_documents(&files->limits, files->names[0], &source, files->given[STEPS] != NULL);
 }
 
@@ -238,32 +212,17 @@ static const struct command *command_named(const char *name)
     return NULL;
 }
 
-/* Which option a word is, or OPTIONS. */
-static int option_named(const char *word)
-{
-    int option = 0;
-    while (option < OPTIONS && strcmp(word, options[option].word) != 0)
-        option++;
-    return option;
-}
-
-/* Whether a word begins as an option does; - alone is a file. */
-static bool is_option(const char *word)
-{
-    return word[0] == '-' && word[1] != '\0';
-}
-
 /* Says behind which commands an option stands. */
 static enum status misplaced(int option)
 {
     int left = 0;
     for (int i = 0; i < COMMANDS; i++)
-        left += has_option(&commands[i], option);
+        left += has_option(commands[i].options, option);
     fputs("runvestol: ", stderr);
-    say_option(stderr, option);
+    option_say(stderr, option);
     fputs(" stands right behind ", stderr);
     for (int i = 0; i < COMMANDS; i++) {
-        if (has_option(&commands[i], option)) {
+        if (has_option(commands[i].options, option)) {
             left--;
             fprintf(stderr, "%s%s", commands[i].name, left > 1 ? ", " : left == 1 ? " or " : "\n");
         }
@@ -272,11 +231,14 @@ static enum status misplaced(int option)
     return FAILED;
 }
 
-/* What becomes of a word that begins as an option does, and is none where it stands. */
-static enum status run_option(const char *word)
+/* What becomes of a word that begins as an option does, and is not one of the command's where it stands. */
+static enum status run_option(const struct files *files, const char *word)
 {
-    if (option_named(word) < OPTIONS)
-        return misplaced(option_named(word));
+    int option = option_named(word);
+    if (option < OPTIONS && files->given[option] != NULL)
+        return misused("an option is given twice", word);
+    if (option < OPTIONS)
+        return misplaced(option);
     if (strcmp(word, limits_option) == 0)
         return misused("--limits " LIMITS_WORDS " stands before the command", NULL);
     if (strcmp(word, "--help") == 0)
@@ -334,27 +296,7 @@ static enum status run_listed(const struct command *command, const struct files 
     return status;
 }
 
-/* Takes the options of a command, which stand right behind it. The word behind these; 0 where one is given twice, which
-   is said. */
-static int take_options(const struct command *command, struct files *files, int count, char **words)
-{
-    int at = 2;
-    while (at < count) {
-        int option = option_named(words[at]);
-        bool has_value = option < OPTIONS && options[option].value != NULL;
-        if (option == OPTIONS || !has_option(command, option) || (has_value && (at + 1 == count || is_option(words[at + 1]))))
-            break;
-        if (files->given[option] != NULL) {
-            misused("an option is given twice", words[at]);
-            return 0;
-        }
-        files->given[option] = words[at + has_value];
-        at += 1 + has_value;
-    }
-    return at;
-}
-
-/* The word among those from one on that asks for help or the version, else the first that begins as an option does, or NULL. */
+/* The word that asks for help or the version, else the first behind so many that begins as an option does, or NULL. */
 static const char *option_of(int count, char **words, int from)
 {
     const char *first = NULL;
@@ -372,12 +314,10 @@ static enum status run_words(const struct limits *limits, int count, char **word
 {
     const struct command *command = count < 2 ? NULL : command_named(words[1]);
     struct files files = {.limits = *limits};
-    int first = command == NULL ? 1 : take_options(command, &files, count, words);
-    if (first == 0)
-        return FAILED;
+    int first = command == NULL ? 1 : 2 + options_take(command->options, files.given, count - 2, words + 2);
     const char *option = option_of(count, words, first);
     if (option != NULL)
-        return run_option(option);
+        return run_option(&files, option);
     if (count < 2)
         return misused("a command is missing", NULL);
     if (command == NULL)

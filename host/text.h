@@ -7,7 +7,7 @@
 #include <stdint.h>
 
 struct text {
-    const char *name; /* as it was given on the command line */
+    const char *name; /* as it was given on the command line, or in a list */
     uint8_t *bytes;
     size_t length;
 };
