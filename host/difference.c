@@ -250,5 +250,6 @@ void difference_show(FILE *to, const struct text *before, const struct text *beh
     split(&w.behind, behind);
     compare(&w, 0, 0);
     if (w.places > MOST_PLACES)
-        fprintf(to, "  and %s more such place%s\n", number_in_words(more, w.places - MOST_PLACES), w.places == MOST_PLACES + 1 ? "" : "s");
+        fprintf(to, "  and %s more such place%s\n", number_in_words(more, w.places - MOST_PLACES),
+                w.places == MOST_PLACES + 1 ? "" : "s");
 }

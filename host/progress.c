@@ -41,7 +41,8 @@ void progress_count(struct progress *progress, bool is_refused)
         return;
     number_in_words(count, progress->count);
     number_in_words(refused, progress->refused);
-    progress->width = fprintf(stderr, "\r%s %s, %s refused", count, progress->count == 1 ? progress->one : progress->several, refused) - 1;
+    const char *what = progress->count == 1 ? progress->one : progress->several;
+    progress->width = fprintf(stderr, "\r%s %s, %s refused", count, what, refused) - 1;
 }
 
 void progress_clear(struct progress *progress)

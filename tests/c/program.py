@@ -69,15 +69,15 @@ def read_terminal(master):
         sent += part
 
 
-def run_at_terminal(*words, on="stdout", feed=None):
-    """Status, what the terminal got, and the other output; feed writes to the program's standard input."""
+def run_at_terminal(*words, on=("stdout",), feed=None):
+    """Status, what the terminal got on these outputs, and what came on the other one; feed writes to standard input."""
     master, slave = pty.openpty()
-    streams = {"stdin": subprocess.PIPE, "stdout": subprocess.PIPE, "stderr": subprocess.PIPE, on: slave}
+    streams = {"stdin": subprocess.PIPE, "stdout": subprocess.PIPE, "stderr": subprocess.PIPE, **dict.fromkeys(on, slave)}
     with subprocess.Popen([PROGRAM, *words], cwd=FOLDER, **streams) as program:
         os.close(slave)
         if feed is not None:
             feed(program.stdin)
         program.stdin.close()
         sent = read_terminal(master)
-        other = (program.stderr if on == "stdout" else program.stdout).read()
+        other = b"".join(stream.read() for stream in (program.stdout, program.stderr) if stream is not None)
     return program.returncode, sent, other
