@@ -1,10 +1,13 @@
 """The host program under test, named as the first word, with a scratch folder that it runs in."""
+import contextlib
 import os
 import pathlib
 import pty
+import select
 import subprocess
 import sys
 import tempfile
+import threading
 
 from cases import has, same
 
@@ -17,6 +20,8 @@ FOLDER = pathlib.Path(SCRATCH.name)
 SYNTAX = "no JSON text goes on like this"
 ENDS = "the text ends where JSON has to go on"
 FORM_SYNTAX = "no shape or reader goes on like this"
+# seconds after which a program that goes on is taken to hang
+PATIENCE = 60
 TOO_LARGE = "the shape to be written has over 512 forms, 32 levels or 16,384 bytes"
 
 
@@ -55,29 +60,56 @@ def status_and_words_on(target, *words):
     return done.returncode, done.stderr.decode()
 
 
-def read_terminal(master):
-    """All that a terminal was sent, once nobody has its other end any more."""
-    sent = b""
-    while True:
+class Terminal:
+    """The end of a terminal that a person looks at."""
+
+    def __init__(self, master):
+        self.master, self.sent = master, b""
+
+    def read(self):
+        """Whether more has come; not where nobody has the other end any more."""
+        if not select.select([self.master], [], [], PATIENCE)[0]:
+            raise AssertionError(f"a terminal waits for more than {self.sent!r}")
         try:
-            part = os.read(master, 65536)
+            part = os.read(self.master, 65536)
         except OSError:
             part = b""
-        if not part:
-            os.close(master)
-            return sent
-        sent += part
+        self.sent += part
+        return part != b""
+
+    def wait_for(self, part):
+        while part not in self.sent:
+            if not self.read():
+                raise AssertionError(f"\n  no {part!r}\n  in {self.sent!r}")
+
+    def wait_for_end(self):
+        while self.read():
+            pass
+
+
+@contextlib.contextmanager
+def started(*words, **streams):
+    """The program with pipes, where no other stream is given. It is ended where it takes too long, so that a test fails."""
+    pipes = {"stdin": subprocess.PIPE, "stdout": subprocess.PIPE, "stderr": subprocess.PIPE, **streams}
+    with subprocess.Popen([PROGRAM, *words], cwd=FOLDER, **pipes) as program:
+        clock = threading.Timer(PATIENCE, program.kill)
+        clock.start()
+        try:
+            yield program
+        finally:
+            clock.cancel()
 
 
 def run_at_terminal(*words, on=("stdout",), feed=None):
-    """Status, what the terminal got on these outputs, and what came on the other one; feed writes to standard input."""
+    """Status, what the terminal got on these outputs, and what came on the other one; feed is handed the terminal meanwhile."""
     master, slave = pty.openpty()
-    streams = {"stdin": subprocess.PIPE, "stdout": subprocess.PIPE, "stderr": subprocess.PIPE, **dict.fromkeys(on, slave)}
-    with subprocess.Popen([PROGRAM, *words], cwd=FOLDER, **streams) as program:
+    terminal = Terminal(master)
+    with started(*words, **dict.fromkeys(on, slave)) as program:
         os.close(slave)
-        if feed is not None:
-            feed(program.stdin)
         program.stdin.close()
-        sent = read_terminal(master)
+        if feed is not None:
+            feed(terminal)
+        terminal.wait_for_end()
         other = b"".join(stream.read() for stream in (program.stdout, program.stderr) if stream is not None)
-    return program.returncode, sent, other
+    os.close(master)
+    return program.returncode, terminal.sent, other
