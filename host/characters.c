@@ -45,3 +45,14 @@ void show_character(FILE *to, const uint8_t *bytes, size_t length)
     else
         putc('?', to);
 }
+
+size_t show_characters(FILE *to, const struct text *text, size_t from, size_t end, size_t most)
+{
+    size_t at = from;
+    for (; at < end && most > 0; most--) {
+        size_t length = character(text, at);
+        show_character(to, text->bytes + at, length);
+        at += length;
+    }
+    return at;
+}

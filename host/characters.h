@@ -14,4 +14,7 @@ size_t character(const struct text *text, size_t at);
 /* Writes a character of so many bytes, or a question mark where a terminal may not be handed it. */
 void show_character(FILE *to, const uint8_t *bytes, size_t length);
 
+/* Writes the characters of a text from a byte on, up to an end and at most so many. Where it stopped. */
+size_t show_characters(FILE *to, const struct text *text, size_t from, size_t end, size_t most);
+
 #endif

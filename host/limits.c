@@ -65,10 +65,12 @@ bool limits_parse(struct limits *limits, const char *words, FILE *wrong)
 
 const char *number_in_words(char *room, uint64_t number)
 {
-    if (number < 1000)
-        snprintf(room, NUMBER_WORDS, "%" PRIu64, number);
-    else
-        snprintf(room, NUMBER_WORDS, "%" PRIu64 ",%03" PRIu64, number / 1000, number % 1000);
+    uint64_t unit = 1;
+    while (number / unit >= 1000)
+        unit *= 1000;
+    int length = snprintf(room, NUMBER_WORDS, "%" PRIu64, number / unit);
+    for (; unit > 1; unit /= 1000)
+        length += snprintf(room + length, NUMBER_WORDS - (size_t)length, ",%03" PRIu64, number % unit / (unit / 1000));
     return room;
 }
 

@@ -92,25 +92,10 @@ static size_t start_of_line(const struct text *shape, size_t line)
     return at;
 }
 
-static size_t spaces_at(const struct text *shape, size_t at)
-{
-    size_t from = at;
-    while (at < shape->length && shape->bytes[at] == ' ')
-        at++;
-    return at - from;
-}
-
-static size_t end_of_line(const struct text *shape, size_t at)
-{
-    while (at < shape->length && shape->bytes[at] != '\n')
-        at++;
-    return at;
-}
-
 /* The kind words of the form on a line. */
 static bool add_kinds(struct text *to, const struct text *shape, size_t line_at)
 {
-    size_t at = line_at + spaces_at(shape, line_at) + strlen("(shape");
+    size_t at = line_at + line_spaces(shape, line_at) + strlen("(shape");
     bool fine = text_say(to, ", and meets");
     for (const char *before = " "; fine && at < shape->length && shape->bytes[at] == ' '; before = " or ") {
         size_t from = ++at;
@@ -125,16 +110,16 @@ static bool add_kinds(struct text *to, const struct text *shape, size_t line_at)
 static bool add_names(struct text *to, const struct text *shape, size_t line_at)
 {
     static const char member[] = "(member ";
-    size_t indent = spaces_at(shape, line_at), at = end_of_line(shape, line_at) + 1;
+    size_t indent = line_spaces(shape, line_at), at = line_end(shape, line_at) + 1;
     bool fine = text_say(to, ", and the shape has");
     int count = 0;
-    for (; fine && at < shape->length && spaces_at(shape, at) > indent; at = end_of_line(shape, at) + 1) {
+    for (; fine && at < shape->length && line_spaces(shape, at) > indent; at = line_end(shape, at) + 1) {
         size_t name = at + indent + sizeof member;
-        if (spaces_at(shape, at) != indent + 1 || memcmp(shape->bytes + name - strlen(member), member, strlen(member)) != 0)
+        if (line_spaces(shape, at) != indent + 1 || memcmp(shape->bytes + name - strlen(member), member, strlen(member)) != 0)
             continue;
         if (count++ == MOST_NAMES)
             return text_say(to, " and others there");
-        fine = text_say(to, count == 1 ? " " : ", ") && add_span(to, shape, (struct span){name, end_of_line(shape, at)});
+        fine = text_say(to, count == 1 ? " " : ", ") && add_span(to, shape, (struct span){name, line_end(shape, at)});
     }
     return fine && text_say(to, count == 0 ? " none there" : " there");
 }

@@ -93,9 +93,7 @@ static struct position position_of(const struct text *text, size_t place)
 
 static size_t end_of_line(const struct text *text, size_t from)
 {
-    size_t end = from;
-    while (end < text->length && text->bytes[end] != '\n')
-        end++;
+    size_t end = line_end(text, from);
     return end > from && text->bytes[end - 1] == '\r' ? end - 1 : end;
 }
 
@@ -103,13 +101,7 @@ static size_t end_of_line(const struct text *text, size_t from)
 static void show_line(FILE *to, const struct text *text, size_t from, size_t count)
 {
     size_t end = end_of_line(text, from);
-    size_t at = from;
-    for (; at < end && count > 0; count--) {
-        size_t length = character(text, at);
-        show_character(to, text->bytes + at, length);
-        at += length;
-    }
-    fprintf(to, "%s\n", at < end ? cut : "");
+    fprintf(to, "%s\n", show_characters(to, text, from, end, count) < end ? cut : "");
 }
 
 /* A column for each character up to the place. A tab stays one, so that it is as wide as in the line above. */
@@ -134,22 +126,24 @@ static void show_excerpt(FILE *to, const struct text *text, struct position p)
     show_caret(to, text, from, count);
 }
 
-/* Characters one behind the other, whatever line they are of. */
-static void show_words(FILE *to, const struct text *words)
+static void say_where(FILE *to, const struct text *text, struct position p, bool is_line)
 {
-    for (size_t at = 0; at < words->length; at += character(words, at))
-        show_character(to, words->bytes + at, character(words, at));
+    fprintf(to, "%s:", text->name);
+    if (!is_line)
+        fprintf(to, "%zu:", p.line);
+    fprintf(to, "%zu: ", p.characters + 1);
 }
 
-void refusal_show(FILE *to, const struct text *texts, int count, const struct outcome *o, reason_of *reason)
+static void show(FILE *to, const struct text *texts, int count, const struct outcome *o, reason_of *reason, bool is_line)
 {
     const struct text *text = &texts[o->text == 1 ? 0 : count - 1];
     struct meaning meaning = meaning_of(text, o->number, o->place);
     struct position p = position_of(text, o->place);
     struct text words = {NULL, NULL, 0};
-    fprintf(to, "%s:%zu:%zu: refused %" PRIu64 " at %" PRIu64 ": ", text->name, p.line, p.characters + 1, o->number, o->place);
+    say_where(to, text, p, is_line && text == &texts[count - 1]);
+    fprintf(to, "refused %" PRIu64 " at %" PRIu64 ": ", o->number, o->place);
     if (reason != NULL && reason(&words, texts, o))
-        show_words(to, &words);
+        show_characters(to, &words, 0, words.length, words.length);
     else if (meaning.words == by_limit)
         say_limit(to, o->number, &o->limits);
     else
@@ -158,4 +152,14 @@ void refusal_show(FILE *to, const struct text *texts, int count, const struct ou
     if (meaning.has_place)
         show_excerpt(to, text, p);
     text_free(&words);
+}
+
+void refusal_show(FILE *to, const struct text *texts, int count, const struct outcome *o, reason_of *reason)
+{
+    show(to, texts, count, o, reason, false);
+}
+
+void refusal_show_of_line(FILE *to, const struct text *texts, int count, const struct outcome *o, reason_of *reason)
+{
+    show(to, texts, count, o, reason, true);
 }

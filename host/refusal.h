@@ -20,4 +20,7 @@ typedef bool reason_of(struct text *words, const struct text *texts, const struc
  */
 void refusal_show(FILE *to, const struct text *texts, int count, const struct outcome *o, reason_of *reason);
 
+/* The same where the last text is a line of a file, and its name FILE:LINE: of that text it writes NAME:COLUMN. */
+void refusal_show_of_line(FILE *to, const struct text *texts, int count, const struct outcome *o, reason_of *reason);
+
 #endif

@@ -4,14 +4,15 @@
 
 #include <stdbool.h>
 
+#include "documents.h"
 #include "limits.h"
 #include "status.h"
 
 /*
- * Writes what the reader of the first named file gives on the document in each of the others, with a line feed behind each
- * where these are several. A document that is refused is shown and left out, and so is a file that cannot be read; where the
- * reader itself is refused no further document is taken. With steps, says how many each result took.
+ * Writes what the reader in the file of that name gives on each document, with a line feed behind each where there may be
+ * several. A document that is refused is shown and left out, and so is a file that cannot be read; where the reader itself
+ * is refused no further document is taken. With steps, says how many each result took.
  */
-enum status run_documents(const struct limits *limits, char **names, int count, bool steps);
+enum status run_documents(const struct limits *limits, const char *reader, const struct source *source, bool steps);
 
 #endif

@@ -4,7 +4,10 @@
 #include <string.h>
 
 #include "call.h"
+#include "documents.h"
 #include "limits.h"
+#include "list.h"
+#include "options.h"
 #include "reason.h"
 #include "refusal.h"
 #include "results.h"
@@ -13,24 +16,22 @@
 #include "status.h"
 #include "text.h"
 #include "try.h"
+#include "verdicts.h"
 
 /* The files of a command line, and the set for all calls. */
 struct files {
     struct limits limits;
-    const char *from; /* of --from, or NULL */
-    bool steps;       /* whether --steps is there */
+    const char *given[OPTIONS]; /* the file of each option, or its own word where it has none; NULL where it is not there */
     char **names;
     int count;
 };
-
-enum option { NO_OPTION, FROM, STEPS };
 
 struct command {
     const char *name;
     const char *operands;
     const char *effect;
-    int least, most; /* files, --from apart; most is 0 for any number */
-    enum option option;
+    int least, most; /* files, those of options apart; most is 0 for any number */
+    unsigned options;
     enum status (*run)(const struct command *command, const struct files *files);
     /* of a command that is one call: that call, how its success is shown, and what says more of a refusal, or NULL */
     library_call *call;
@@ -40,6 +41,7 @@ struct command {
 
 static enum status run_once(const struct command *command, const struct files *files);
 static enum status run_infer(const struct command *command, const struct files *files);
+static enum status run_admits(const struct command *command, const struct files *files);
 static enum status run_run(const struct command *command, const struct files *files);
 static enum status run_try(const struct command *command, const struct files *files);
 static enum status show_written(const struct output *output, const struct outcome *o);
@@ -49,17 +51,18 @@ static enum status show_verdict(const struct output *output, const struct outcom
 
 static const struct command commands[] = {
     {"plain", "FILE", "write the JSON document of FILE as plain JSON", ONE_CALL(1, call_plain, show_written)},
-    {"infer", "[--from SHAPE] DOCUMENT...", "write the shape that the documents reach, from (shape) or from SHAPE on",
-     1, 0, FROM, run_infer, NULL, NULL, NULL},
+    {"infer", "DOCUMENT...", "write the shape that the documents reach, from (shape) or from SHAPE on",
+     1, 0, 1 << FROM | OF_DOCUMENTS, run_infer, NULL, NULL, NULL},
     {"join", "A B", "write the join of the shapes of A and B", ONE_CALL(2, call_join, show_written)},
     {"below", "A B", "say whether the shape of A is below that of B", ONE_CALL(2, call_below, show_verdict)},
-    {"admits", "SHAPE DOCUMENT", "say whether the shape admits the document", ONE_CALL(2, call_admits, show_verdict)},
+    {"admits", "SHAPE DOCUMENT...", "say whether the shape admits each document, and why not",
+     2, 0, OF_DOCUMENTS, run_admits, NULL, NULL, NULL},
     {"check", "READER SHAPE", "check the reader against the shape, and write its result shape",
      2, 2, NO_OPTION, run_once, call_check, show_written, reason_of_check},
-    {"run", "[--steps] READER DOCUMENT...", "write what the reader gives on each document",
-     2, 0, STEPS, run_run, NULL, NULL, NULL},
+    {"run", "READER DOCUMENT...", "write what the reader gives on each document",
+     2, 0, 1 << STEPS | OF_DOCUMENTS, run_run, NULL, NULL, NULL},
     {"try", "READER SAMPLE...", "show the shape that the samples reach, the reader's result shape, and what it gives on each",
-     2, 0, NO_OPTION, run_try, NULL, NULL, NULL},
+     2, 0, OF_DOCUMENTS, run_try, NULL, NULL, NULL},
 };
 
 enum { COMMANDS = sizeof commands / sizeof *commands };
@@ -68,8 +71,17 @@ enum { COMMANDS = sizeof commands / sizeof *commands };
 
 static void usage(FILE *to)
 {
-    for (int i = 0; i < COMMANDS; i++)
-        fprintf(to, "%s runvestol %s %s\n", i == 0 ? "usage:" : "      ", commands[i].name, commands[i].operands);
+    for (int i = 0; i < COMMANDS; i++) {
+        fprintf(to, "%s runvestol %s ", i == 0 ? "usage:" : "      ", commands[i].name);
+        for (int option = 0; option < OPTIONS; option++) {
+            if (has_option(commands[i].options, option)) {
+                putc('[', to);
+                option_say(to, option);
+                fputs("] ", to);
+            }
+        }
+        fprintf(to, "%s\n", commands[i].operands);
+    }
     fputs("       runvestol --limits " LIMITS_WORDS " ..., with any of these behind it\n", to);
     fputs("       runvestol --help | --version\n", to);
 }
@@ -83,7 +95,13 @@ static void help(FILE *to)
     fputs("\n"
           "Each operand is a file; - is standard input, once, and a file whose name begins with - is ./-name. What an\n"
           "operation writes goes to standard output byte for byte, with a line feed behind it only where that is a\n"
-          "terminal and it ends without one. below and admits write yes or no and a line feed.\n"
+          "terminal and it ends without one. below and admits write yes or no and a line feed, admits behind the name of the\n"
+          "document and a colon where there may be several.\n"
+          "\n"
+          "With --files-from the documents are in the files that LIST names, and no DOCUMENT stands behind: LIST has a zero\n"
+          "byte behind each name, as find -print0 writes it, or where it has none a name a line. With --lines each DOCUMENT\n"
+          "is a file of records, one a line; blank lines are passed over, and a line may end in a carriage return and a\n"
+          "line feed. Such a record is called FILE:LINE. Options stand right behind the command, in any order.\n"
           "\n"
           "A refusal goes to standard error as\n"
           "\n"
@@ -93,12 +111,15 @@ static void help(FILE *to)
           "line feeds, and a column is a character, as a tab is one; a byte that is not UTF-8 is one too. In the line\n"
           "shown, such bytes and control characters are ?, and a long line is cut. Where a refusal has no place it is\n"
           "1:1 at 0, without a line: of a text that is too long, and of the last file where the shape to be written is\n"
-          "too large. check says what the form wants that is refused, and what it meets where that can be told.\n"
+          "too large. check says what the form wants that is refused, and what it meets where that can be told. With --lines\n"
+          "LINE is that of the file, and P counts from the record's first byte.\n"
           "\n"
-          "infer leaves out the documents that are refused, and writes the shape that the others reach. run leaves them\n"
-          "out too, and writes each result on a line of its own where there are several documents; with --steps it tells\n"
-          "on standard error how many steps each took. try is for a person: it cuts what is long, and ends with the\n"
-          "first refusal.\n"
+          "infer leaves out the documents that are refused, and writes the shape that the others reach; a terminal on\n"
+          "standard error shows how many it has taken. admits and run leave them out too. Where the shape does not admit a\n"
+          "document, admits tells on standard error which lines of the shape would change were it a sample, old ones behind\n"
+          "- and new ones behind +, under the names that lead there. run writes each result on a line of its own where\n"
+          "there may be several documents; with --steps it tells on standard error how many steps each took. try is for\n"
+          "a person: it cuts what is long, and ends with the first refusal.\n"
           "\n"
           "The four numbers of --limits are those that documents, shapes and readers are held to: bytes of a text, 1,024 to\n"
           "16,384; values, or forms, 16 to 512; nesting, 4 to 32; and steps of a run, 256 to 65,536. Without it each is the\n"
@@ -157,30 +178,42 @@ static enum status run_once(const struct command *command, const struct files *f
 
 /* ---- a command of many calls */
 
+/* The documents of a command, which stand behind its other files. A list or a file of records may have several. */
+static struct source documents_of(const struct command *command, const struct files *files)
+{
+    int others = command->least - 1, count = files->count - others;
+    bool by_lines = files->given[LINES] != NULL;
+    return (struct source){files->names + others, count, by_lines, by_lines || files->given[FILES_FROM] != NULL || count > 1};
+}
+
 static enum status run_infer(const struct command *command, const struct files *files)
 {
-    (void)command;
-    return infer_samples(&files->limits, files->from, files->names, files->count);
+    const struct source source = documents_of(command, files);
+    return infer_samples(&files->limits, files->given[FROM], &source);
+}
+
+static enum status run_admits(const struct command *command, const struct files *files)
+{
+    const struct source source = documents_of(command, files);
+    return judge_documents(&files->limits, files->names[0], &source);
 }
 
 static enum status run_run(const struct command *command, const struct files *files)
 {
-    (void)command;
-    return run_documents(&files->limits, files->names, files->count, files->steps);
+    const struct source source = documents_of(command, files);
+    return run_documents(&files->limits, files->names[0], &source, files->given[STEPS] != NULL);
 }
 
 static enum status run_try(const struct command *command, const struct files *files)
 {
-    (void)command;
-    return try_reader(&files->limits, files->names, files->count);
+    const struct source source = documents_of(command, files);
+    return try_reader(&files->limits, files->names[0], &source);
 }
 
 /* ---- the words of the command line */
 
 /* the one option before the command */
 static const char limits_option[] = "--limits";
-
-static const char *const options[] = {[FROM] = "--from", [STEPS] = "--steps"};
 
 static const struct command *command_named(const char *name)
 {
@@ -190,35 +223,49 @@ static const struct command *command_named(const char *name)
     return NULL;
 }
 
-/* The first word that begins as an option does, or NULL; - alone is a file. */
-static const char *option_of(int count, char **words)
+/* Says behind which commands an option stands. */
+static enum status misplaced(int option)
 {
-    for (int i = 0; i < count; i++)
-        if (words[i][0] == '-' && words[i][1] != '\0')
-            return words[i];
-    return NULL;
+    int left = 0;
+    for (int i = 0; i < COMMANDS; i++)
+        left += has_option(commands[i].options, option);
+    fputs("runvestol: ", stderr);
+    option_say(stderr, option);
+    fputs(" stands right behind ", stderr);
+    for (int i = 0; i < COMMANDS; i++) {
+        if (has_option(commands[i].options, option)) {
+            left--;
+            fprintf(stderr, "%s%s", commands[i].name, left > 1 ? ", " : left == 1 ? " or " : "\n");
+        }
+    }
+    usage(stderr);
+    return FAILED;
 }
 
-static enum status run_option(const char *option)
+/* What becomes of a word that begins as an option does, and is not one of the command's where it stands. */
+static enum status run_option(const struct files *files, const char *word)
 {
-    if (strcmp(option, options[FROM]) == 0)
-        return misused("--from SHAPE stands right behind infer", NULL);
-    if (strcmp(option, options[STEPS]) == 0)
-        return misused("--steps stands right behind run", NULL);
-    if (strcmp(option, limits_option) == 0)
+    int option = option_named(word);
+    if (option < OPTIONS && files->given[option] != NULL)
+        return misused("an option is given twice", word);
+    if (option < OPTIONS)
+        return misplaced(option);
+    if (strcmp(word, limits_option) == 0)
         return misused("--limits " LIMITS_WORDS " stands before the command", NULL);
-    if (strcmp(option, "--help") == 0)
+    if (strcmp(word, "--help") == 0)
         help(stdout);
-    else if (strcmp(option, "--version") == 0)
+    else if (strcmp(word, "--version") == 0)
         puts("runvestol " RUNVESTOL_VERSION);
     else
-        return misused("unknown option", option);
+        return misused("unknown option", word);
     return close_output(DONE);
 }
 
 static int standard_inputs(const struct files *files)
 {
-    int count = files->from != NULL && strcmp(files->from, "-") == 0;
+    int count = 0;
+    for (int i = 0; i < OPTIONS; i++)
+        count += files->given[i] != NULL && strcmp(files->given[i], "-") == 0;
     for (int i = 0; i < files->count; i++)
         count += strcmp(files->names[i], "-") == 0;
     return count;
@@ -235,30 +282,60 @@ static enum status run_command(const struct command *command, const struct files
     return command->run(command, files);
 }
 
-/* The option of the command, where it stands right behind it; that of --from has a file behind it. */
-static enum option option_given(const struct command *command, int count, char **words)
+/* With the files that a list names in place of the last operand. */
+static enum status run_listed(const struct command *command, const struct files *files)
 {
-    enum option option = command == NULL ? NO_OPTION : command->option;
-    int least = option == FROM ? 4 : 3;
-    return option != NO_OPTION && count >= least && strcmp(words[2], options[option]) == 0 ? option : NO_OPTION;
+    struct list list;
+    struct files all = *files;
+    enum status status = FAILED;
+    if (files->count < command->least - 1)
+        return misused("a FILE is missing", command->name);
+    if (files->count > command->least - 1)
+        return misused("--files-from LIST names the documents, and so does a word", files->names[command->least - 1]);
+    if (standard_inputs(files) > 1)
+        return misused("standard input is named twice", command->name);
+    if (!list_load(&list, files->given[FILES_FROM], files->names, files->count))
+        fail(files->given[FILES_FROM]);
+    else if (list.count == files->count)
+        fprintf(stderr, "runvestol: %s: the list names no file\n", files->given[FILES_FROM]);
+    else {
+        all.names = list.names;
+        all.count = list.count;
+        status = run_command(command, &all);
+    }
+    list_free(&list);
+    return status;
+}
+
+/* The word that asks for help or the version, else the first behind so many that begins as an option does, or NULL. */
+static const char *option_of(int count, char **words, int from)
+{
+    const char *first = NULL;
+    for (int i = count - 1; i >= from; i--)
+        if (is_option(words[i]))
+            first = words[i];
+    for (int i = 1; i < count; i++)
+        if (strcmp(words[i], "--help") == 0 || strcmp(words[i], "--version") == 0)
+            return words[i];
+    return first;
 }
 
 /* Runs what the words behind --limits say, the first being the program's name. */
 static enum status run_words(const struct limits *limits, int count, char **words)
 {
     const struct command *command = count < 2 ? NULL : command_named(words[1]);
-    enum option given = option_given(command, count, words);
-    int behind = given == NO_OPTION ? 1 : 3;
-    const char *option = option_of(count - behind, words + behind);
+    struct files files = {.limits = *limits};
+    int first = command == NULL ? 1 : 2 + options_take(command->options, files.given, count - 2, words + 2);
+    const char *option = option_of(count, words, first);
     if (option != NULL)
-        return run_option(option);
+        return run_option(&files, option);
     if (count < 2)
         return misused("a command is missing", NULL);
     if (command == NULL)
         return misused("unknown command", words[1]);
-    int first = given == FROM ? 4 : given == STEPS ? 3 : 2;
-    const struct files files = {*limits, given == FROM ? words[3] : NULL, given == STEPS, words + first, count - first};
-    return run_command(command, &files);
+    files.names = words + first;
+    files.count = count - first;
+    return files.given[FILES_FROM] != NULL ? run_listed(command, &files) : run_command(command, &files);
 }
 
 /* With a set of limits of its own, which stands before the command. */

@@ -2,24 +2,39 @@
 #ifndef HOST_SAMPLES_H
 #define HOST_SAMPLES_H
 
+#include <stdbool.h>
+#include <stdint.h>
+
+#include "call.h"
+#include "documents.h"
 #include "limits.h"
+#include "runvestol.h"
 #include "status.h"
 #include "text.h"
 
-/* What becomes of a sample; behind the last two no further one is taken. */
-enum fate { JOINED, LEFT_OUT, SHAPE_REFUSED, UNREADABLE };
+/* The shape reached so far, and two rooms: it stands in one, and the next is written to the other. A shape that is written is
+   never longer than a text may be. */
+struct inference {
+    const struct limits *limits;
+    struct text start, shape;
+    int other;
+    uint8_t rooms[2][RUNVESTOL_MOST_BYTES];
+};
 
-/* The shape in the file `from`, or (shape) where that is NULL. Where there is none: false, and errno says why. */
-bool start_shape(struct text *shape, const char *from);
+/* Begins with the shape in the file `from`, or with (shape) where that is NULL. Where it cannot be read: false, and errno says
+   why. */
+bool inference_begin(struct inference *inference, const struct limits *limits, const char *from);
 
-/* Joins a sample into the shape, or shows why it is refused. */
-enum fate join_sample(const struct limits *limits, struct text *shape, const struct text *sample);
+/* Joins a sample into the shape; false where the call refuses, which leaves the shape. */
+bool inference_join(struct inference *inference, const struct text *sample, struct outcome *o);
+
+void inference_end(struct inference *inference);
 
 /*
- * Writes the shape that the samples in the named files reach from the shape in the file `from`, or from (shape) where
- * that is NULL. A sample that is refused is shown and left out. Where the shape is refused that it begins with, or a
- * file cannot be read, nothing is written.
+ * Writes the shape that the samples reach from the shape in the file `from`, or from (shape) where that is NULL. A sample
+ * that is refused is shown and left out. Where the shape is refused that it begins with, or a file cannot be read,
+ * nothing is written. A terminal is shown how far it is.
  */
-enum status infer_samples(const struct limits *limits, const char *from, char **names, int count);
+enum status infer_samples(const struct limits *limits, const char *from, const struct source *source);
 
 #endif

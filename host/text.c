@@ -26,28 +26,29 @@ static bool read_all(FILE *stream, struct text *text)
 
 bool text_load(struct text *text, const char *name)
 {
+    *text = (struct text){name, NULL, 0};
+    if (text_reload(text, name))
+        return true;
+    int why = errno;
+    text_free(text);
+    errno = why;
+    return false;
+}
+
+bool text_reload(struct text *text, const char *name)
+{
     bool standard = strcmp(name, "-") == 0;
     FILE *stream = standard ? stdin : fopen(name, "rb");
-    *text = (struct text){name, NULL, 0};
+    text->name = name;
+    text->length = 0;
     if (stream == NULL)
         return false;
     bool read = read_all(stream, text);
     int why = errno;
     if (!standard)
         fclose(stream);
-    if (!read)
-        text_free(text);
     errno = why;
     return read;
-}
-
-bool text_put(struct text *text, const uint8_t *bytes, size_t length)
-{
-    if (!grow(text, length))
-        return false;
-    memcpy(text->bytes, bytes, length);
-    text->length = length;
-    return true;
 }
 
 bool text_add(struct text *text, const void *bytes, size_t length)
@@ -71,4 +72,19 @@ void text_free(struct text *text)
     free(text->bytes);
     text->bytes = NULL;
     text->length = 0;
+}
+
+size_t line_end(const struct text *text, size_t at)
+{
+    while (at < text->length && text->bytes[at] != '\n')
+        at++;
+    return at;
+}
+
+size_t line_spaces(const struct text *text, size_t at)
+{
+    size_t from = at;
+    while (at < text->length && text->bytes[at] == ' ')
+        at++;
+    return at - from;
 }

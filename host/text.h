@@ -7,7 +7,7 @@
 #include <stdint.h>
 
 struct text {
-    const char *name; /* as it was given on the command line */
+    const char *name; /* as it was given on the command line, or in a list */
     uint8_t *bytes;
     size_t length;
 };
@@ -15,13 +15,19 @@ struct text {
 /* Reads the file of that name, or standard input for "-". Where it cannot be read: false, and errno says why. */
 bool text_load(struct text *text, const char *name);
 
-/* Has the text hold a copy of these bytes in place of its own. Where there is no memory: false, and errno says why. */
-bool text_put(struct text *text, const uint8_t *bytes, size_t length);
+/* The same into a text that has memory already, which is used again, and kept where the file cannot be read. */
+bool text_reload(struct text *text, const char *name);
 
 /* Puts these bytes, or these words, behind the text's own. Where there is no memory: false. */
 bool text_add(struct text *text, const void *bytes, size_t length);
 bool text_say(struct text *text, const char *words);
 
 void text_free(struct text *text);
+
+/* Where the line of a byte ends: its line feed, or the end of the text. */
+size_t line_end(const struct text *text, size_t at);
+
+/* How many spaces stand from a byte on. */
+size_t line_spaces(const struct text *text, size_t at);
 
 #endif

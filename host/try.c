@@ -2,6 +2,7 @@
 
 #include <stdio.h>
 #include <stdlib.h>
+#include <string.h>
 
 #include "call.h"
 #include "characters.h"
@@ -16,9 +17,10 @@ enum { SHAPE_LINES = 30, RESULT_SHAPE_LINES = 12, RESULTS = 10, CHARACTERS = 120
 
 struct trial {
     const struct limits *limits;
-    struct text reader, shape;
-    struct text *samples;
-    int count;
+    struct text reader;
+    struct document *samples; /* with bytes and names of their own */
+    size_t count, room;
+    struct inference inference;
     struct output output;
 };
 
@@ -58,57 +60,57 @@ static void show_shape(const struct text *shape, int most, const char *command)
         show_more(more, "line", command);
 }
 
-/* A refusal ends the trial. It stands behind what was shown, also where both go to one file. */
-static enum status refuse(const struct text *texts, int count, const struct outcome *o, reason_of *reason)
+/* ---- the three parts; a refusal ends the trial, and stands behind what was shown, also where both go to one file */
+
+static enum status refuse(const struct text *first, const struct document *sample, const struct outcome *o, reason_of *reason)
 {
     fflush(stdout);
-    refusal_show(stderr, texts, count, o, reason);
+    documents_refused(first, sample, o, reason);
     return REFUSED;
 }
 
-/* ---- the three parts */
-
 static enum status try_infer(struct trial *trial)
 {
-    static const enum status statuses[] = {DONE, REFUSED, REFUSED, FAILED};
-    if (!start_shape(&trial->shape, NULL))
-        return fail("the shape");
-    for (int i = 0; i < trial->count; i++) {
-        enum fate fate = join_sample(trial->limits, &trial->shape, &trial->samples[i]);
-        if (fate != JOINED)
-            return statuses[fate];
-    }
+    struct inference *inference = &trial->inference;
+    struct outcome o;
+    for (size_t i = 0; i < trial->count; i++)
+        if (!inference_join(inference, &trial->samples[i].text, &o))
+            return refuse(&inference->shape, &trial->samples[i], &o, NULL);
     return DONE;
 }
 
 /* The shape is shown to whoever has a reader, since that is judged by it. It is in no file: what is refused is the reader's. */
 static enum status try_check(struct trial *trial)
 {
-    const struct text texts[] = {trial->reader, trial->shape};
+    const struct text texts[] = {trial->reader, trial->inference.shape};
+    char count[NUMBER_WORDS];
     struct outcome o;
     if (!call_with_room(call_check, trial->limits, texts, &trial->output, &o))
         return fail("the output");
     if (o.number == RUNVESTOL_OK || o.number > RUNVESTOL_FORM_LIMIT) {
-        printf("Shape of %d sample%s:\n", trial->count, trial->count == 1 ? "" : "s");
-        show_shape(&trial->shape, SHAPE_LINES, "infer");
+        printf("Shape of %s sample%s:\n", number_in_words(count, trial->count), trial->count == 1 ? "" : "s");
+        show_shape(&trial->inference.shape, SHAPE_LINES, "infer");
     }
-    if (o.number != RUNVESTOL_OK)
-        return refuse(texts, 1, &o, reason_of_check);
+    if (o.number != RUNVESTOL_OK) {
+        fflush(stdout);
+        refusal_show(stderr, texts, 1, &o, reason_of_check);
+        return REFUSED;
+    }
     puts("Result shape:");
     show_shape(&(struct text){NULL, trial->output.bytes, o.length}, RESULT_SHAPE_LINES, "check");
     return DONE;
 }
 
-static enum status try_run(struct trial *trial, const struct text *sample, bool is_shown)
+static enum status try_run(struct trial *trial, const struct document *sample, bool is_shown)
 {
-    const struct text texts[] = {trial->reader, *sample};
+    const struct text texts[] = {trial->reader, sample->text};
     struct outcome o;
     if (!call_with_room(call_run, trial->limits, texts, &trial->output, &o))
         return fail("the output");
     if (o.number != RUNVESTOL_OK)
-        return refuse(texts, 2, &o, reason_of_run);
+        return refuse(&trial->reader, sample, &o, reason_of_run);
     if (is_shown) {
-        printf("%s: ", sample->name);
+        printf("%s: ", sample->text.name);
         show_line(&(struct text){NULL, trial->output.bytes, o.length}, 0);
     }
     return DONE;
@@ -117,48 +119,73 @@ static enum status try_run(struct trial *trial, const struct text *sample, bool 
 static enum status try_runs(struct trial *trial)
 {
     puts("Results:");
-    for (int i = 0; i < trial->count; i++) {
+    for (size_t i = 0; i < trial->count; i++) {
         enum status status = try_run(trial, &trial->samples[i], i < RESULTS);
         if (status != DONE)
             return status;
     }
     if (trial->count > RESULTS)
-        show_more((size_t)(trial->count - RESULTS), "result", "run");
+        show_more(trial->count - RESULTS, "result", "run");
     return DONE;
 }
 
 static enum status try_all(struct trial *trial)
 {
+    if (!inference_begin(&trial->inference, trial->limits, NULL))
+        return fail("the shape");
     enum status status = try_infer(trial);
     status = status == DONE ? try_check(trial) : status;
     status = status == DONE ? try_runs(trial) : status;
-    text_free(&trial->shape);
+    inference_end(&trial->inference);
     free(trial->output.bytes);
     return close_output(status);
 }
 
-/* ---- the files, all in memory: standard input is read but once, and what is run is what the shape was reached by */
+/* ---- the samples, all in memory: standard input is read but once, and what is run is what the shape was reached by */
 
-static enum status try_loaded(struct trial *trial, char **names, int count)
+static bool make_room(struct trial *trial)
 {
-    enum status status = DONE;
-    for (; status == DONE && trial->count < count; trial->count++)
-        if (!text_load(&trial->samples[trial->count], names[trial->count]))
-            status = fail(names[trial->count]);
-    status = status == DONE ? try_all(trial) : status;
-    while (trial->count > 0)
-        text_free(&trial->samples[--trial->count]);
-    free(trial->samples);
-    return status;
+    if (trial->count < trial->room)
+        return true;
+    size_t room = trial->room == 0 ? 16 : 2 * trial->room;
+    struct document *samples = realloc(trial->samples, room * sizeof *samples);
+    if (samples == NULL)
+        return false;
+    trial->samples = samples;
+    trial->room = room;
+    return true;
 }
 
-enum status try_reader(const struct limits *limits, char **names, int count)
+/* A document that stands only until the next one comes, kept behind its own name. */
+static bool keep_sample(struct trial *trial, const struct document *sample)
+{
+    size_t name = strlen(sample->text.name) + 1;
+    uint8_t *memory = make_room(trial) ? malloc(name + sample->text.length) : NULL;
+    if (memory == NULL)
+        return false;
+    memcpy(memory, sample->text.name, name);
+    if (sample->text.length > 0)
+        memcpy(memory + name, sample->text.bytes, sample->text.length);
+    trial->samples[trial->count++] = (struct document){{(const char *)memory, memory + name, sample->text.length}, sample->is_line};
+    return true;
+}
+
+static enum status take_sample(void *job, const struct document *sample, bool *go_on)
+{
+    *go_on = keep_sample(job, sample);
+    return *go_on ? DONE : fail("the samples");
+}
+
+enum status try_reader(const struct limits *limits, const char *reader, const struct source *samples)
 {
     struct trial trial = {.limits = limits};
-    if (!text_load(&trial.reader, names[0]))
-        return fail(names[0]);
-    trial.samples = calloc((size_t)count - 1, sizeof *trial.samples);
-    enum status status = trial.samples == NULL ? fail("the samples") : try_loaded(&trial, names + 1, count - 1);
+    if (!text_load(&trial.reader, reader))
+        return fail(reader);
+    enum status status = documents_each(samples, take_sample, &trial);
+    status = status == DONE ? try_all(&trial) : status;
+    while (trial.count > 0)
+        free((void *)trial.samples[--trial.count].text.name);
+    free(trial.samples);
     text_free(&trial.reader);
     return status;
 }
