@@ -18,9 +18,9 @@ completionsdir = $(datarootdir)/bash-completion/completions
 INSTALL = install
 
 # a path as one word of the shell, whatever is in it
-word = '$(subst ','\'',$(1))'
+quoted = '$(subst ','\'',$(1))'
 # where a file goes, DESTDIR before it
-at = $(call word,$(DESTDIR)$(1))
+at = $(call quoted,$(DESTDIR)$(1))
 
 .PHONY: all install uninstall check-paths
 
@@ -29,7 +29,7 @@ all:
 
 # a path that goes by where make is called would be wrong in the file for pkg-config
 check-paths:
-	@for path in $(call word,$(PREFIX)) $(call word,$(includedir)) $(call word,$(libdir)); do \
+	@for path in $(call quoted,$(PREFIX)) $(call quoted,$(includedir)) $(call quoted,$(libdir)); do \
 	    case $$path in /*) ;; *) echo "make: PREFIX and the folders have to begin with /: $$path" >&2; exit 1 ;; esac; done
 
 install: check-paths all
@@ -38,7 +38,7 @@ install: check-paths all
 	$(INSTALL) -m 755 target/host/runvestol $(call at,$(bindir)/runvestol)
 	$(INSTALL) -m 644 include/runvestol.h $(call at,$(includedir)/runvestol.h)
 	$(INSTALL) -m 644 target/staticlib/librunvestol.a $(call at,$(libdir)/librunvestol.a)
-	install/write-pc $(call word,$(PREFIX)) $(call word,$(includedir)) $(call word,$(libdir)) >target/host/runvestol.pc
+	install/write-pc $(call quoted,$(PREFIX)) $(call quoted,$(includedir)) $(call quoted,$(libdir)) >target/host/runvestol.pc
 	$(INSTALL) -m 644 target/host/runvestol.pc $(call at,$(pkgconfigdir)/runvestol.pc)
 	$(INSTALL) -m 644 man/runvestol.1 $(call at,$(mandir)/man1/runvestol.1)
 	$(INSTALL) -m 644 man/runvestol.3 $(call at,$(mandir)/man3/runvestol.3)
