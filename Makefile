@@ -1,10 +1,10 @@
-# make             builds the library and the program, by the launcher: the first time that takes minutes, and it says what is missing
-# make install     puts the program, the library, the header, a file for pkg-config, the man pages and the bash completion below PREFIX
+# make             builds the library and the program, by the launcher; the first time that takes minutes
+# make install     puts below PREFIX the program, the library, its header, a file for pkg-config, man pages and the bash completion
 # make uninstall   takes these files away again; folders stay
 #
 # The variables below may be given on the command line. DESTDIR stands before every path and in no file, for who makes a package.
-# Folders may have spaces and quotes in their names; make takes a $ for its own. cc $(pkg-config ...) splits a PREFIX at its spaces,
-# which no file can change: there it is eval "cc ... $(pkg-config --cflags --libs runvestol)".
+# Folders may have spaces and quotes in their names; make takes a $ for its own. cc $(pkg-config ...) splits a PREFIX at its
+# spaces, which no file can change: there it is eval "cc ... $(pkg-config --cflags --libs runvestol)".
 
 PREFIX = /usr/local
 DESTDIR =

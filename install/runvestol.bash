@@ -1,5 +1,5 @@
-# Bash completion for runvestol: commands, the options of each, and files. A new command or option comes into the lists of the first
-# three functions; tests/c/manual holds them to what `runvestol --help` has.
+# Bash completion for runvestol: commands, the options of each, and files. A new command or option comes into the lists of the
+# first three functions; tests/c/manual holds them to what `runvestol --help` has.
 
 _runvestol_commands() {
     echo 'plain infer join below admits check run'
