@@ -10,46 +10,27 @@ enum { BEFORE = 48, BEHIND = 24 };
 
 static const char cut[] = "...";
 
-struct meaning {
-    bool has_place;
-    const char *words;
-};
-
-/* of those that are said with numbers of the set */
-static const char by_limit[] = "";
-
-static const struct meaning meanings[] = {
-    [RUNVESTOL_ANSWER_TOO_SHORT] = {false, "the answer buffer is too short"},
-    [RUNVESTOL_TEXT_TOO_LONG] = {false, by_limit},
-    [RUNVESTOL_JSON_SYNTAX] = {true, "no JSON text goes on like this"},
-    [RUNVESTOL_NUMBER_LIMIT] = {true, "the number has over 18 digits, over 9 behind the point, or an exponent"},
-    [RUNVESTOL_DUPLICATE_NAME] = {true, "the name stands a second time in its record"},
-    [RUNVESTOL_VALUE_LIMIT] = {true, by_limit},
-    [RUNVESTOL_FORM_SYNTAX] = {true, "no shape or reader goes on like this"},
-    [RUNVESTOL_FORM_LIMIT] = {true, by_limit},
-    [RUNVESTOL_UNWANTED_KIND] = {true, "the form may meet a kind of value that it does not want"},
-    [RUNVESTOL_UNLISTED_NAME] = {true, "the shape does not list the name"},
-    [RUNVESTOL_SHAPE_LIMIT] = {false, by_limit},
-    [RUNVESTOL_STUCK] = {true, "the form met a kind of value that it does not want"},
-    [RUNVESTOL_STEP_LIMIT] = {true, by_limit},
-    [RUNVESTOL_RESULT_LIMIT] = {false, by_limit},
-    [RUNVESTOL_OUTPUT_TOO_SHORT] = {false, "the output is too short"},
-    [RUNVESTOL_LIMIT_OUT_OF_RANGE] = {false, "a limit is out of its range"},
-};
-
-static struct meaning meaning_of(const struct text *text, uint64_t number, size_t place)
+static bool has_place(uint64_t number)
 {
-    if (number >= sizeof meanings / sizeof *meanings || meanings[number].words == NULL)
-        return (struct meaning){false, "a number that this program does not know"};
-    if (number == RUNVESTOL_JSON_SYNTAX && place == text->length)
-        return (struct meaning){true, "the text ends where JSON has to go on"};
-    if (number == RUNVESTOL_FORM_SYNTAX && place == text->length)
-        return (struct meaning){true, "the text ends where a shape or reader has to go on"};
-    return meanings[number];
+    switch (number) {
+    case RUNVESTOL_JSON_SYNTAX:
+    case RUNVESTOL_NUMBER_LIMIT:
+    case RUNVESTOL_DUPLICATE_NAME:
+    case RUNVESTOL_VALUE_LIMIT:
+    case RUNVESTOL_FORM_SYNTAX:
+    case RUNVESTOL_FORM_LIMIT:
+    case RUNVESTOL_UNWANTED_KIND:
+    case RUNVESTOL_UNLISTED_NAME:
+    case RUNVESTOL_STUCK:
+    case RUNVESTOL_STEP_LIMIT:
+        return true;
+    default:
+        return false;
+    }
 }
 
-/* Says what a refusal by a limit means, with the numbers of the set. */
-static void say_limit(FILE *to, uint64_t number, const struct limits *limits)
+/* Says what a refusal by a limit means, with the numbers of the set. Of any other: false. */
+static bool say_limit(FILE *to, uint64_t number, const struct limits *limits)
 {
     char bytes[NUMBER_WORDS], value[NUMBER_WORDS], values[NUMBER_WORDS], nesting[NUMBER_WORDS], deep[NUMBER_WORDS], step[NUMBER_WORDS];
     number_in_words(bytes, limits->bytes);
@@ -60,16 +41,31 @@ static void say_limit(FILE *to, uint64_t number, const struct limits *limits)
     place_in_words(value, limits->values + 1);
     if (number == RUNVESTOL_TEXT_TOO_LONG)
         fprintf(to, "the text has over %s bytes", bytes);
-    if (number == RUNVESTOL_VALUE_LIMIT)
+    else if (number == RUNVESTOL_VALUE_LIMIT)
         fprintf(to, "the value is the %s or nested %s deep", value, deep);
-    if (number == RUNVESTOL_FORM_LIMIT)
+    else if (number == RUNVESTOL_FORM_LIMIT)
         fprintf(to, "the form is the %s or nested %s deep", value, deep);
-    if (number == RUNVESTOL_SHAPE_LIMIT)
+    else if (number == RUNVESTOL_SHAPE_LIMIT)
         fprintf(to, "the shape to be written has over %s forms, %s levels or %s bytes", values, nesting, bytes);
-    if (number == RUNVESTOL_STEP_LIMIT)
+    else if (number == RUNVESTOL_STEP_LIMIT)
         fprintf(to, "the form would be step %s", step);
-    if (number == RUNVESTOL_RESULT_LIMIT)
+    else if (number == RUNVESTOL_RESULT_LIMIT)
         fprintf(to, "the result has over %s values or %s levels", values, nesting);
+    else
+        return false;
+    return true;
+}
+
+/* Says what a refusal means: the header's words, but where the set or the text's end says more. */
+static void say_meaning(FILE *to, const struct text *text, const struct outcome *o)
+{
+    bool at_end = o->place == text->length;
+    if (at_end && o->number == RUNVESTOL_JSON_SYNTAX)
+        fputs("the text ends where JSON has to go on", to);
+    else if (at_end && o->number == RUNVESTOL_FORM_SYNTAX)
+        fputs("the text ends where a shape or reader has to go on", to);
+    else if (!say_limit(to, o->number, &o->limits))
+        fputs(runvestol_message(o->number), to);
 }
 
 /* A place in a text, for a person: its line's number and first byte, and the characters of the line before it. */
@@ -137,19 +133,16 @@ static void say_where(FILE *to, const struct text *text, struct position p, bool
 static void show(FILE *to, const struct text *texts, int count, const struct outcome *o, reason_of *reason, bool is_line)
 {
     const struct text *text = &texts[o->text == 1 ? 0 : count - 1];
-    struct meaning meaning = meaning_of(text, o->number, o->place);
     struct position p = position_of(text, o->place);
     struct text words = {NULL, NULL, 0};
     say_where(to, text, p, is_line && text == &texts[count - 1]);
     fprintf(to, "refused %" PRIu64 " at %" PRIu64 ": ", o->number, o->place);
     if (reason != NULL && reason(&words, texts, o))
         show_characters(to, &words, 0, words.length, words.length);
-    else if (meaning.words == by_limit)
-        say_limit(to, o->number, &o->limits);
     else
-        fputs(meaning.words, to);
+        say_meaning(to, text, o);
     putc('\n', to);
-    if (meaning.has_place)
+    if (has_place(o->number))
         show_excerpt(to, text, p);
     text_free(&words);
 }

@@ -54,7 +54,9 @@
  * Nothing else is asked: every set of numbers, every text, of any bytes and any length, and every length of a buffer has
  * its answer. Where the outcome of one call is a text of another, hand both the same set.
  *
- * Link with librunvestol.a, which `rt staticlib runvestol` writes to target/staticlib/. It is x86-64 code for Linux.
+ * Link with librunvestol.a, which `rt staticlib runvestol` writes to target/staticlib/ and `make install` puts where
+ * `pkg-config --cflags --libs runvestol` finds it. It is x86-64 code for Linux, and needs no library but the C library.
+ * examples/host.c is a host over it.
  */
 #ifndef RUNVESTOL_H
 #define RUNVESTOL_H
@@ -140,6 +142,34 @@ enum runvestol_number {
     RUNVESTOL_OUTPUT_TOO_SHORT = 15,   /* the output is shorter than what there is to write */
     RUNVESTOL_LIMIT_OUT_OF_RANGE = 18  /* a number of the set is outside its range */
 };
+
+/*
+ * The words of a number, for a log or a person; of any number, those that no call returns among them. Those that go by the set
+ * are said without its numbers, and where the text ends too early 3 and 7 are said as anywhere.
+ */
+static inline const char *runvestol_message(uint64_t number)
+{
+    switch (number) {
+    case RUNVESTOL_OK: return "done";
+    case RUNVESTOL_ANSWER_TOO_SHORT: return "the answer buffer is too short";
+    case RUNVESTOL_TEXT_TOO_LONG: return "the text has too many bytes";
+    case RUNVESTOL_JSON_SYNTAX: return "no JSON text goes on like this";
+    case RUNVESTOL_NUMBER_LIMIT: return "the number has over 18 digits, over 9 behind the point, or an exponent";
+    case RUNVESTOL_DUPLICATE_NAME: return "the name stands a second time in its record";
+    case RUNVESTOL_VALUE_LIMIT: return "the value is one too many or nested too deep";
+    case RUNVESTOL_FORM_SYNTAX: return "no shape or reader goes on like this";
+    case RUNVESTOL_FORM_LIMIT: return "the form is one too many or nested too deep";
+    case RUNVESTOL_UNWANTED_KIND: return "the form may meet a kind of value that it does not want";
+    case RUNVESTOL_UNLISTED_NAME: return "the shape does not list the name";
+    case RUNVESTOL_SHAPE_LIMIT: return "the shape to be written has too many forms, levels or bytes";
+    case RUNVESTOL_STUCK: return "the form met a kind of value that it does not want";
+    case RUNVESTOL_STEP_LIMIT: return "the form would be a step too many";
+    case RUNVESTOL_RESULT_LIMIT: return "the result has too many values or levels";
+    case RUNVESTOL_OUTPUT_TOO_SHORT: return "the output is too short";
+    case RUNVESTOL_LIMIT_OUT_OF_RANGE: return "a limit is out of its range";
+    default: return "a number that this version does not know";
+    }
+}
 
 /*
  * Where the words of an answer begin. Each is 8 bytes, the low byte first; a word that a call's description does not

@@ -1,6 +1,8 @@
 /* The header stands alone, in C99 and with every warning. */
 #include "runvestol.h"
 
+#include <string.h>
+
 /* Each call with a shape that has no kind: nothing admits nothing, and is below itself. */
 static int shapes_are_known(void)
 {
@@ -42,7 +44,33 @@ static int sets_are_known(void)
                            document, 1, output, 1, answer, sizeof answer) == RUNVESTOL_LIMIT_OUT_OF_RANGE;
 }
 
+/* What any number that is not of the enum has for words; 16, 17 and 19 are the ones closest to it. */
+static int other_numbers_have_words(void)
+{
+    static const uint64_t others[] = {16, 17, 19, 0xFFFFFFFF, 0x100000000, 0x100000003, UINT64_MAX};
+    for (size_t i = 0; i < sizeof others / sizeof *others; i++)
+        if (strcmp(runvestol_message(others[i]), "a number that this version does not know") != 0)
+            return 0;
+    return 1;
+}
+
+/* Every number of the enum has words of its own. */
+static int numbers_have_words_of_their_own(void)
+{
+    for (uint64_t number = RUNVESTOL_OK; number <= RUNVESTOL_LIMIT_OUT_OF_RANGE; number++) {
+        if (number == 16 || number == 17)
+            continue;
+        for (uint64_t other = number + 1; other <= RUNVESTOL_LIMIT_OUT_OF_RANGE + 1; other++)
+            if (strcmp(runvestol_message(number), runvestol_message(other)) == 0)
+                return 0;
+        if (runvestol_message(number)[0] == '\0')
+            return 0;
+    }
+    return 1;
+}
+
 int main(void)
 {
-    return sets_are_known() && shapes_are_known() && readers_are_known() ? 0 : 1;
+    return sets_are_known() && shapes_are_known() && readers_are_known() && numbers_have_words_of_their_own()
+            && other_numbers_have_words() ? 0 : 1;
 }

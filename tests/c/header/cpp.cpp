@@ -14,5 +14,6 @@ int main()
         && runvestol_admits(RUNVESTOL_LARGEST, shape, length, document, 1, answer, sizeof answer) == RUNVESTOL_OK
         && runvestol_check(RUNVESTOL_LARGEST, reader, sizeof reader, shape, length, 0, 0, answer, sizeof answer) == short_output
         && runvestol_run(RUNVESTOL_LARGEST, reader, sizeof reader, document, 1, 0, 0, answer, sizeof answer) == short_output;
-    return known && number == RUNVESTOL_OK && output[0] == '7' ? 0 : 1;
+    const bool worded = runvestol_message(number)[0] == 'd' && runvestol_message(short_output)[0] == 't';
+    return known && worded && number == RUNVESTOL_OK && output[0] == '7' ? 0 : 1;
 }
