@@ -39,7 +39,8 @@
  *   (num N) (str "t") (yes) (no) (none) a number, a text, true, false, null
  *   (pack "name" R ...)                 a record of zero or more members, the decoded names distinct
  * K is null, bool, int, num, text, list or rec. A member that a record lacks reads as null. White space and names are as
- * in shapes. A reader has at most the set's bytes, its values as forms, places too, and its nesting.
+ * in shapes. A reader has at most the set's bytes, its values as forms, places too, and its nesting. An empty text, or
+ * one of JSON's white space only, is a reader too and means (none); it is no shape.
  *
  * What it does not do: it allocates nothing, opens nothing, keeps nothing from one call to the next, and touches no
  * memory of the host but what is lent to the call. It has no floating point numbers and no streams: a text is

@@ -184,15 +184,15 @@ static void expect_with_null(const struct operation *operation, const bool *null
 /* What comes of the right call with null for some of it. */
 static struct outcome outcome_with_null(const struct operation *operation, const bool *null)
 {
-    const struct outcome right = right_call_of(operation)->outcome;
+    struct outcome given = right_call_of(operation)->outcome;
     if (null[3])
         return too_short_an_answer;
-    for (int i = 0; i < text_count(operation); i++)
+    for (int i = 0; i < text_count(operation) && given.number == RUNVESTOL_OK; i++)
         if (null[i])
-            return refused_as_empty(operation, i);
-    if (null[2] && operation->writes)
-        return (struct outcome){.number = RUNVESTOL_OUTPUT_TOO_SHORT, .length = right.length};
-    return right;
+            given = outcome_of_empty(operation, i);
+    if (given.number == RUNVESTOL_OK && null[2] && operation->writes)
+        return (struct outcome){.number = RUNVESTOL_OUTPUT_TOO_SHORT, .length = given.length};
+    return given;
 }
 
 static void with_every_null(const struct operation *operation)
@@ -209,19 +209,19 @@ static void whatever_is_empty_may_be_a_null_pointer(void)
     for_each_operation(with_every_null);
 }
 
-static void expect_empty_texts_refused(const struct operation *operation)
+static void with_each_text_empty(const struct operation *operation)
 {
     for (int text = 0; text < text_count(operation); text++) {
         struct call call = right_call(operation);
-        const struct outcome refused = refused_as_empty(operation, text);
+        const struct outcome expected = outcome_of_empty(operation, text);
         call.texts[text] = bytes_of("");
-        expect_of_texts(operation, call.texts, call.output, &refused);
+        expect_of_texts(operation, call.texts, call.output, &expected);
     }
 }
 
-static void an_empty_text_is_refused_at_its_end(void)
+static void an_empty_text_is_refused_at_its_end_unless_it_is_a_reader(void)
 {
-    for_each_operation(expect_empty_texts_refused);
+    for_each_operation(with_each_text_empty);
 }
 
 /* ---- alignment */
@@ -269,6 +269,6 @@ void buffers_suite(void)
     RUN(a_broken_text_is_refused_before_a_short_output);
     RUN(the_first_text_is_refused_before_the_second);
     RUN(whatever_is_empty_may_be_a_null_pointer);
-    RUN(an_empty_text_is_refused_at_its_end);
+    RUN(an_empty_text_is_refused_at_its_end_unless_it_is_a_reader);
     RUN(buffers_need_no_alignment);
 }

@@ -121,6 +121,20 @@ static const struct table_case cases[] = {
     {"check_refuses_a_broken_reader_before_a_broken_shape", "check", {"(int)", "(shape dec)"}, REFUSES(FORM_SYNTAX, 1, 4)},
     {"check_refuses_a_broken_shape_before_a_kind_that_is_not_wanted", "check", {"(int (it 0))", "(shape text"}, REFUSES(FORM_SYNTAX, 2, 11)},
 
+    /* a text with no token */
+    {"check_takes_an_empty_reader_for_none", "check", {"", S1}, WRITES("(shape null)")},
+    {"check_takes_a_blank_reader_for_none", "check", {" \t\r\n", "(shape)"}, WRITES("(shape null)")},
+    {"check_refuses_an_empty_shape_behind_an_empty_reader", "check", {"", ""}, REFUSES(FORM_SYNTAX, 2, 0)},
+    {"check_refuses_a_blank_shape_at_its_end", "check", {"\n", "  "}, REFUSES(FORM_SYNTAX, 2, 2)},
+    {"check_refuses_a_lone_bracket_at_the_end", "check", {" (", "(shape)"}, REFUSES(FORM_SYNTAX, 1, 2)},
+    {"check_refuses_none_without_its_bracket_at_the_end", "check", {"(none", "(shape)"}, REFUSES(FORM_SYNTAX, 1, 5)},
+    {"check_takes_a_byte_order_mark_for_a_word", "check", {"\xEF\xBB\xBF", "(shape)"}, REFUSES(FORM_SYNTAX, 1, 0)},
+    {"check_takes_a_space_that_is_not_json_s_for_a_word", "check", {" \xC2\xA0", "(shape)"}, REFUSES(FORM_SYNTAX, 1, 1)},
+    {"check_takes_a_vertical_tab_for_a_word", "check", {"\n\v", "(shape)"}, REFUSES(FORM_SYNTAX, 1, 1)},
+    {"run_gives_null_by_an_empty_reader", "run", {"", "{\"a\":1}"}, GIVES("null", 1)},
+    {"run_gives_null_by_a_blank_reader", "run", {"\r\n", "[]"}, GIVES("null", 1)},
+    {"run_refuses_an_empty_document_behind_an_empty_reader", "run", {"", ""}, REFUSES(JSON_SYNTAX, 2, 0)},
+
     /* run: the sample sheet */
     {"run_gives_S2_in_16_steps", "run",
      {"(each (it 0) (when null (field \"bay\" (it 0)) (num 0) (dec (it 0))))", "[{\"bay\":4,\"due\":null},{\"bay\":4.5},{\"due\":\"jan\"}]"},

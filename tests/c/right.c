@@ -36,9 +36,12 @@ static struct outcome refused_at(const struct operation *operation, int text, ui
     return (struct outcome){.number = number, .text = (uint64_t)text + 1, .place = place};
 }
 
-struct outcome refused_as_empty(const struct operation *operation, int text)
+struct outcome outcome_of_empty(const struct operation *operation, int text)
 {
-    return refused_at(operation, text, 0);
+    static const struct outcome shape = WRITES("(shape null)\n"), value = {.length = 4, .steps = 1, .written = BYTES("null")};
+    if (operation->texts[text] != READER)
+        return refused_at(operation, text, 0);
+    return strcmp(operation->name, "check") == 0 ? shape : value;
 }
 
 struct bytes broken_text(const struct operation *operation, int text)

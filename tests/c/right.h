@@ -13,8 +13,8 @@ struct right_call {
 /* There is one for every operation. */
 const struct right_call *right_call_of(const struct operation *operation);
 
-/* What an empty text is refused with: text and number, at its end. */
-struct outcome refused_as_empty(const struct operation *operation, int text);
+/* What comes of the right call with an empty text: it is refused at its end, but for a reader, which means `(none)`. */
+struct outcome outcome_of_empty(const struct operation *operation, int text);
 
 /* A text that is refused at its third byte. */
 struct bytes broken_text(const struct operation *operation, int text);

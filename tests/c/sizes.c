@@ -46,7 +46,7 @@ static void expect_read_to_the_end(const struct operation *operation, int text)
 {
     const struct right_call *right = right_call_of(operation);
     const struct bytes given = right->texts[text];
-    struct outcome broken = refused_as_empty(operation, text);
+    struct outcome broken = refused_as_broken(operation, text);
     uint8_t *long_text = filled(LIMIT, ' ');
     broken.place = LIMIT - 1;
     memcpy(long_text + LIMIT - 1 - given.length, given.at, given.length);
@@ -59,6 +59,21 @@ static void expect_read_to_the_end(const struct operation *operation, int text)
 static void a_text_of_16384_bytes_is_read_to_its_last_byte(void)
 {
     for_each_text(expect_read_to_the_end);
+}
+
+static void expect_blank_as_empty(const struct operation *operation, int text)
+{
+    struct outcome expected = outcome_of_empty(operation, text);
+    uint8_t *blank = filled(LIMIT, ' ');
+    if (expected.number != RUNVESTOL_OK)
+        expected.place = LIMIT;
+    expect_with_text(operation, text, (struct bytes){blank, LIMIT}, &expected);
+    free(blank);
+}
+
+static void a_blank_text_of_16384_bytes_is_as_an_empty_one_but_for_its_end(void)
+{
+    for_each_text(expect_blank_as_empty);
 }
 
 static void expect_too_long(const struct operation *operation, int text)
@@ -191,6 +206,7 @@ void sizes_suite(void)
 {
     RUN(documents_of_every_length_up_to_600_bytes_are_read);
     RUN(a_text_of_16384_bytes_is_read_to_its_last_byte);
+    RUN(a_blank_text_of_16384_bytes_is_as_an_empty_one_but_for_its_end);
     RUN(a_text_of_16385_bytes_is_refused_whatever_it_holds);
     RUN(a_text_of_several_million_bytes_is_refused);
     RUN(a_first_text_is_judged_whole_before_the_length_of_the_second);

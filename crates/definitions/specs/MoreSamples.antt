@@ -10,10 +10,12 @@ use Rattle.definitions.specs.declared.Answer.{Answer}
 use Rattle.definitions.specs.Limits.{set-of, standard, smallest}
 use Rattle.definitions.specs.Bytes.{Bytes, bytes}
 use Rattle.definitions.specs.Outcome.{ok, refused}
+use Rattle.definitions.specs.Value.{Value}
 use Rattle.definitions.specs.Json.{read-json}
 use Rattle.definitions.specs.Shape.{only-null, only-text, only-rec, rec-of, field, no-fields, ascending}
-use Rattle.definitions.specs.Reader.{Place, read-place}
-use Rattle.definitions.specs.Operations.{Done, refusal, written, said, plain-operation, admits-operation, check-operation}
+use Rattle.definitions.specs.Reader.{Place, Result, read-reader, read-place}
+use Rattle.definitions.specs.Operations.{Done, refusal, written, said, plain-operation, below-operation, admits-operation, check-operation}
+use Rattle.definitions.specs.Operations.{run-operation}
 use Rattle.definitions.specs.Calls.{plain-call, admits-call}
 use Rattle.definitions.specs.WorkSlices.{plain-slices, infer-slices, admits-slices, join-slices, below-slices, check-slices, run-slices}
 use Rattle.definitions.specs.WorkSlices.{for-document, for-shape-document, for-grown-document, for-two-shapes, for-reader-shape, for-reader-document}
@@ -282,7 +284,59 @@ outside-the-binding
 unfolding evaluate
 outside-the-binding = refl
 
--- a blank reader ends at its length
-blank-reader : check-operation [] [] standard (bytes "  ") (bytes "(shape)") (room 4) ≡ record { answer = refusal 7 1 2; output = room 4 }
+-- ---- a text with no token: `(none)` as a reader, refused as a shape and as a place
+
+-- its place is 0, wherever the text ends
+blank-reader-at-0 : read-reader standard (bytes "\t\r\n ") ≡ ok (Result.literal 0 Value.null)
 unfolding evaluate
-blank-reader = refl
+blank-reader-at-0 = refl
+
+-- no form is written, so that no limit of forms or nesting counts one
+blank-reader-of-no-form : read-reader (set-of 0 0 0 0) [] ≡ ok (Result.literal 0 Value.null)
+unfolding evaluate
+blank-reader-of-no-form = refl
+
+abbrev null-shape : Bytes
+null-shape = bytes "(shape null)\n"
+
+empty-reader-checked
+    : check-operation [] [] standard [] (bytes "(shape)") (room 14) ≡ record { answer = written 13 0 false; output = null-shape ++ room 1 }
+unfolding evaluate
+empty-reader-checked = refl
+
+blank-reader-checked
+    : check-operation [] [] standard (bytes "  ") (bytes "(shape int)") (room 14) ≡ record { answer = written 13 0 false; output = null-shape ++ room 1 }
+unfolding evaluate
+blank-reader-checked = refl
+
+empty-reader-run
+    : run-operation read-json [] [] standard [] (bytes "{}") (room 5) ≡ record { answer = written 4 1 false; output = bytes "null" ++ room 1 }
+unfolding evaluate
+empty-reader-run = refl
+
+blank-reader-run
+    : run-operation read-json [] [] smallest (bytes " \n") (bytes "7") (room 5) ≡ record { answer = written 4 1 false; output = bytes "null" ++ room 1 }
+unfolding evaluate
+blank-reader-run = refl
+
+-- the second text is read and refused as ever, and a blank shape is 7 at its length
+blank-shape : check-operation [] [] standard [] (bytes "  ") (room 4) ≡ record { answer = refusal 7 2 2; output = room 4 }
+unfolding evaluate
+blank-shape = refl
+
+empty-shape : below-operation [] [] standard [] (bytes "(shape)") ≡ refusal 7 1 0
+unfolding evaluate
+empty-shape = refl
+
+blank-place : read-place standard (bytes " ") ≡ refused 7 1
+unfolding evaluate
+blank-place = refl
+
+-- one bracket is a token, and what JSON does not call white space is a word
+reader-cut-behind-its-bracket : read-reader standard (bytes " (") ≡ refused 7 2
+unfolding evaluate
+reader-cut-behind-its-bracket = refl
+
+vertical-tab-is-a-word : read-reader standard (0x20 ∷ 0x0B ∷ []) ≡ refused 7 1
+unfolding evaluate
+vertical-tab-is-a-word = refl

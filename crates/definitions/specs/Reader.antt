@@ -1,4 +1,4 @@
--- Readers: "A reader is one result form." Their forms, and reading them token by token. Assumes nothing.
+-- Readers: "A reader is one result form.", or a text with no token. Their forms, and reading them token by token. Assumes nothing.
 use Prim.Native.Nat.{ℕ, suc}
 use mathlib.Core.Bool.{Bool, true, false, not, _&&_, _||_}
 use mathlib.Core.List.{List, [], _∷_}
@@ -7,7 +7,7 @@ use lib.Dec.{ltb, eqb}
 use lib.ListN.{length}
 use Rattle.definitions.specs.declared.Limits.{Limits}
 use Rattle.definitions.specs.Bytes.{Bytes, bytes, same}
-use Rattle.definitions.specs.Outcome.{Outcome, refused}
+use Rattle.definitions.specs.Outcome.{Outcome, ok}
 use Rattle.definitions.specs.Number.{Numeral, no-digits, beyond, number-of, begin, spelled}
 use Rattle.definitions.specs.Value.{Value}
 use Rattle.definitions.specs.Tokens.{Token, opening, closing, quoted, word, broken, Placed, tokens, Step, misplaced, go, opens, want-open}
@@ -272,13 +272,13 @@ finished-place (whole-result r) = none
 
 -- ---- reading
 
--- a reader's text with no token, which ends at a place: 7 there, where request Q-7 will have another answer
-unfoldable pub empty-reader : ℕ → Outcome ℕ Result
-empty-reader end = refused 7 end
+-- what a text with no token means as a reader (request Q-7): `(none)`, "and its place is 0"
+unfoldable pub empty-reader : Result
+empty-reader = Result.literal 0 Value.null
 
 -- a reader from its tokens, where the text ends at a place
 unfoldable pub read-result : Limits → (end : ℕ) → List Placed → Outcome ℕ Result
-read-result l end [] = empty-reader end
+read-result l end [] = ok empty-reader
 read-result l end (t ∷ ts) = read-tokens step finished-result l 0 end (want (result-open text-end)) (t ∷ ts)
 
 -- what reading a reader comes to, with refusals 7 and 8 at their places

@@ -1,6 +1,6 @@
 -- The work slices that each operation asks for, in words, over the limits and the lengths of its texts; what is published is
 -- what the longest texts ask for. `docs/WORK-SLICES.md` says why each length suffices. Assumes nothing.
-use Prim.Native.Nat.{ℕ, _+_, _-_, _*_, _/_, min}
+use Prim.Native.Nat.{ℕ, _+_, _-_, _*_, _/_, min, max}
 use mathlib.Core.List.{List, [], _∷_}
 use Rattle.definitions.specs.declared.Limits.{Limits}
 
@@ -34,9 +34,10 @@ value-words l n = 3 * most-values l n
 abbrev pub text-words : Limits → (n : ℕ) → ℕ
 text-words l n = (min (l .bytes) n + 8 * most-values l n - 2) / 8
 
--- the most forms that are read of a reader of n bytes: each but the last takes a bracket and a word of two bytes or more
+-- the most forms that are read of a reader of n bytes: each but the last takes a bracket and a word of two bytes or more; an empty one
+-- is read as one form
 abbrev pub most-reader-forms : Limits → (n : ℕ) → ℕ
-most-reader-forms l n = min (l .values) ((min (l .bytes) n + 2) / 3)
+most-reader-forms l n = min (l .values) (max 1 ((min (l .bytes) n + 2) / 3))
 
 -- the forms of a reader of n bytes, three words each
 abbrev pub reader-words : Limits → (n : ℕ) → ℕ

@@ -1,11 +1,12 @@
 -- What `read_reader` and `read_place` answer: what the definitions come to, with the forms in a forms table. Assumes nothing.
 use Prim.Native.Nat.{ℕ, _+_, _*_, _≤_, _<_}
 use mathlib.Core.Path.{_≡_}
-use mathlib.Core.List.{List}
+use mathlib.Core.List.{List, _∷_}
 use lib.ListN.{length, take}
 use Rattle.definitions.specs.declared.Limits.{Limits}
 use Rattle.definitions.specs.Bytes.{Bytes}
 use Rattle.definitions.specs.Outcome.{ok, refused}
+use Rattle.definitions.specs.Tokens.{Placed, tokens}
 use Rattle.definitions.specs.Reader.{Place, Result, read-reader, read-place}
 use Rattle.laws.specs.FormGrammar.{place-forms, result-forms}
 use Rattle.forms.specs.Forms.{Place-rows, Form-rows}
@@ -24,6 +25,12 @@ pub record Tables (text : Bytes) (forms pool : List ℕ) (top values : ℕ) : Ty
   pub few : values ≤ 32768
   -- a reference has 16 bits for a text's first word
   pub small : 8 * top + length text + 5 * values < 524288
+
+-- the text has a token
+pub record Has-token (text : Bytes) : Type 0 where
+  pub first : Placed
+  pub others : List Placed
+  pub run : tokens text ≡ first ∷ others
 
 -- the pool p′ that was p has names and texts between words `top` and `top′`
 pub record Pool-used (text : Bytes) (p p′ : List ℕ) (top words top′ : ℕ) : Type 0 where

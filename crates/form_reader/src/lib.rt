@@ -1,5 +1,6 @@
 // Reader texts, read into a forms table: one row a form, in preorder, its names and texts in a pool.
-ghost use Rattle.form_reader.specs.FormReads.{Tables, Reads-reader, Reads-lone-place};
+ghost use Prim.Native.Nat.{_<_};
+ghost use Rattle.form_reader.specs.FormReads.{Tables, Has-token, Reads-reader, Reads-lone-place};
 
 mod heads; // what a result begins with
 mod opening; // the brackets of a form
@@ -24,8 +25,8 @@ pub enum FormsRead {
     Refused { number: u64, place: usize },
 }
 
-// Reads a reader. Its rows go into the forms table, its names and texts into the pool from word `top` on.
-pub fn read_reader(
+// Reads a reader of one form. Its rows go into the forms table, its names and texts into the pool from word `top` on.
+fn read_form(
     text: &[u8],
     forms: &mut [u64],
     pool: &mut [u64],
@@ -33,6 +34,7 @@ pub fn read_reader(
     limits: Limits,
 ) -> FormsRead
     requires { ⌜ Tables (now text) (now forms) (now pool) top (limits .values) ⌝ }
+    requires begun { ⌜ Has-token (now text) ⌝ }
     ensures read { λ r. ⌜ Reads-reader limits (now (text .entry)) (now (forms .entry)) (now (pool .entry)) (now (forms .exit)) (now (pool .exit)) top r ⌝ }
 {
     let start = Cursor {
@@ -58,6 +60,27 @@ pub fn read_reader(
             Ending::More { place } => FormsRead::Refused { number: 7, place },
         },
         Part::Refused { number, place } => FormsRead::Refused { number, place },
+    }
+}
+
+// Reads a reader, in the same way. A text with no token is read as `(none)` at place 0, in a row of its own.
+pub fn read_reader(
+    text: &[u8],
+    forms: &mut [u64],
+    pool: &mut [u64],
+    top: usize,
+    limits: Limits,
+) -> FormsRead
+    requires { ⌜ Tables (now text) (now forms) (now pool) top (limits .values) ⌝ }
+    requires one { ⌜ 0 < limits .values ⌝ }
+    ensures read { λ r. ⌜ Reads-reader limits (now (text .entry)) (now (forms .entry)) (now (pool .entry)) (now (forms .exit)) (now (pool .exit)) top r ⌝ }
+{
+    match expect::next_end(text, 0) {
+        Ending::More { place: _ } => read_form(text, forms, pool, top, limits),
+        Ending::Whole => {
+            forms::put_row(forms, 0, forms::NONE, 0, 0, 3, 0, 0);
+            FormsRead::Read { words: 3, top }
+        }
     }
 }
 

@@ -1,5 +1,5 @@
 -- A reader of R bytes begins at most (R + 2) / 3 forms: a bracket and a word of two bytes for each before the last, whose own
--- bracket is one byte. Assumes nothing.
+-- bracket is one byte. A text with no token begins none, and is read whatever the limits. Assumes nothing.
 use Prim.Native.Nat.{ℕ, suc, _+_, _/_, _≤_, _<_, min}
 use native.Mathlib.Omega.{arith}
 use native.Mathlib.Decide.{decLt}
@@ -98,15 +98,13 @@ pays (want (result-close r o)) t = close-pays 3 owes 0 (t .token) (go (put-resul
 pays (whole-place p) t = tt
 pays (whole-result r) t = tt
 
--- limits with so many values judge it as the others do
+-- limits with so many values, or more, judge it as the others do
 pub few-reader-forms
-    : (l : Limits) (text : Bytes) → read-reader (with-values l (min (l .values) ((length text + 2) / 3))) text ≡ read-reader l text
+    : (l : Limits) (text : Bytes) (most : ℕ) → (length text + 2) / 3 ≤ most
+    → read-reader (with-values l (min (l .values) most)) text ≡ read-reader l text
 unfolding read-reader read-result
-few-reader-forms l text = split (decLt most (l .values))
+few-reader-forms l text most enough = split (decLt most (l .values))
   where
-    most : ℕ
-    most = (length text + 2) / 3
-
     same : most < l .values → (ts : List Placed) → widths ts ≤ length text
         → read-result (with-values l (min (l .values) most)) (length text) ts ≡ read-result l (length text) ts
     same h [] g = refl

@@ -1,5 +1,5 @@
 -- A reader judged and read, and the text behind it: room for both, and what both come to. Assumes nothing.
-use Prim.Native.Nat.{ℕ, _+_, _/_, _≤_, _<_, min}
+use Prim.Native.Nat.{ℕ, _+_, _/_, _≤_, _<_, min, max}
 use native.Mathlib.Omega.{arith}
 use mathlib.Core.Path.{_≡_, sym, ap, _∙_, subst}
 use mathlib.Core.List.{List, _++_}
@@ -7,16 +7,17 @@ use lib.ListN.{length, take, drop, take-append-drop}
 use lib.Seq.{take-take}
 use Rattle.definitions.specs.declared.Limits.{Limits}
 use Rattle.definitions.specs.Bytes.{Bytes}
+use Rattle.definitions.specs.Tokens.{Placed}
 use Rattle.definitions.specs.ShapeText.{read-shape}
 use Rattle.definitions.specs.Reader.{Result, read-reader}
 use Rattle.definitions.specs.Operations.{Reading, Source, judge-both, stopped, refusal}
-use Rattle.definitions.specs.WorkSlices.{name-words, text-words, reader-texts}
+use Rattle.definitions.specs.WorkSlices.{name-words, text-words, most-reader-forms, reader-texts}
 use Rattle.laws.specs.Tests.{lt-ltb}
 use Rattle.laws.specs.ReaderForms.{reader-accepted-to}
 use Rattle.laws.specs.ReaderFacts.{reader-proper}
 use Rattle.laws.specs.RoundReaderRead.{reader-read-good}
 use Rattle.laws.specs.Judging.{text-long, text-reads, text-refused, first-stops, second-stops, both-pass}
-use Rattle.laws.specs.FormGrammar.{result-forms}
+use Rattle.laws.specs.FormGrammar.{result-forms, result-levels, Reader-within, one-form, no-token}
 use Rattle.forms.specs.Forms.{Form-rows}
 use Rattle.forms.specs.FormsLaws.{form-rows-grow}
 use Rattle.form_reader.specs.declared.FormsRead.{FormsRead}
@@ -26,6 +27,7 @@ use Rattle.shape_reader.specs.declared.ShapeRead.{ShapeRead}
 use Rattle.shape_reader.specs.declared.ShapeRead.the-variants.{Read, Refused}
 use Rattle.json.specs.declared.DocumentRead.{DocumentRead}
 use Rattle.json.specs.declared.DocumentRead.the-variants as document-read
+use Rattle.slices.specs.Small.{Small}
 use Rattle.slices.specs.Fewer.{with-values}
 use Rattle.documents.specs.Documents.{Document-room, Judges-document}
 use Rattle.documents.specs.DocumentsLaws.{document-passes as judged-passes, document-refused as judged-refused}
@@ -56,37 +58,62 @@ reader-grown {l} {forms} {p} {words} {top} {r} p′ top′ t e h within small =
 
 -- ---- a text
 
+-- a reader has no more forms than limits that have room for one allow, and is nested no deeper
+within-forms : {l : Limits} {ts : List Placed} {r : Result} → Reader-within l ts r → 1 ≤ l .values → result-forms r ≤ l .values
+unfolding result-forms
+within-forms (one-form f a b) h = a
+within-forms no-token h = h
+
+within-levels : {l : Limits} {ts : List Placed} {r : Result} → Reader-within l ts r → 1 ≤ l .nesting → result-levels r ≤ l .nesting
+unfolding result-levels
+within-levels (one-form f a b) h = b
+within-levels no-token h = h
+
+-- how many forms there are in the limits under which a text is read that is short enough
+few-are
+    : (l : Limits) (text : Bytes) {most : ℕ} → most ≡ most-reader-forms l (length text) → length text ≤ l .bytes
+    → min (l .values) most ≡ min (l .values) (max 1 ((length text + 2) / 3))
+few-are l text m h = omega (arith, m, h)
+
 module _ {l : Limits} {text : Bytes} where
   pub reader-long : (forms′ p′ : List ℕ) → l .bytes < length text → Judges-reader l text forms′ p′ (forms-read.Refused 2 0)
   reader-long forms′ p′ h = record { answer = λ k. text-long k l read-reader text (lt-ltb _ _ h) }
 
-  module _ {few : Limits} (e : few ≡ with-values l (min (l .values) ((length text + 2) / 3))) (h : length text ≤ l .bytes) where
+  module _ {few : Limits} {most : ℕ} (e : few ≡ with-values l (min (l .values) most)) (m : most ≡ most-reader-forms l (length text))
+      (h : length text ≤ l .bytes) where
     -- a text that is short enough has room under fewer forms
-    pub reader-room : {forms pool : List ℕ} → Reader-room text forms pool l → Tables text forms pool 0 (few .values)
+    pub reader-room : {forms pool : List ℕ} → Reader-room text forms pool l → Tables text forms pool 0 (few .values) × (0 < few .values)
     reader-room {forms} {pool} r =
-        let v : few .values ≡ min (l .values) ((length text + 2) / 3) = ap (λ (k : Limits). k .values) e in
-        record {
-          rows = omega (arith, r .rows, v, h);
-          texts = omega (arith, r .texts, v, h);
-          short = omega (arith, r .small .bytes, h);
-          few = omega (arith, r .small .values, v);
-          small = omega (arith, r .small .bytes, r .small .values, v, h);
-        }
+        let v : few .values ≡ min (l .values) (max 1 ((length text + 2) / 3)) = ap (λ (k : Limits). k .values) e ∙ few-are l text m h in (
+          record {
+            rows = omega (arith, r .rows, v, h);
+            texts = omega (arith, r .texts, v, h);
+            short = omega (arith, r .small .bytes, h);
+            few = omega (arith, r .small .values, v);
+            small = omega (arith, r .small .bytes, r .small .values, v, h);
+          },
+          omega (arith, r .small .one-form, v),
+        )
 
     -- and what was read so was read under the limits themselves
     pub reader-judged
-        : {forms p forms′ p′ : List ℕ} {r : FormsRead} → Reads-reader few text forms p forms′ p′ 0 r → Judges-reader l text forms′ p′ r
-    reader-judged {forms} {p} {forms′} {p′} {r} d = record { answer = go r (d .answer) }
+        : {forms p forms′ p′ : List ℕ} {r : FormsRead} → Small l → Reads-reader few text forms p forms′ p′ 0 r
+        → Judges-reader l text forms′ p′ r
+    reader-judged {forms} {p} {forms′} {p′} {r} small d = record { answer = go r (d .answer) }
       where
         same : read-reader l text ≡ read-reader few text
-        same = sym (ap (λ (k : Limits). read-reader k text) e ∙ few-reader-forms l text)
+        same =
+            sym
+            (ap (λ (k : Limits). read-reader k text) (e ∙ ap (with-values l) (few-are l text m h))
+            ∙ few-reader-forms l text (max 1 ((length text + 2) / 3)) (omega arith))
 
         go : (r : FormsRead) → Reader-answer few text forms′ p p′ 0 r → Reader-outcome l text forms′ p′ r
         go (forms-read.Read words top) a =
-            let v : few .values ≡ min (l .values) ((length text + 2) / 3) = ap (λ (k : Limits). k .values) e in
+            let v : few .values ≡ min (l .values) (max 1 ((length text + 2) / 3)) = ap (λ (k : Limits). k .values) e ∙ few-are l text m h in
             let read = same ∙ a .read in
-            let (f, counted, nests) = reader-accepted-to l text (a .form) read in
-            let fewer : result-forms (a .form) ≤ few .values = reader-accepted-to few text (a .form) (a .read) .1 in
+            let within = reader-accepted-to l text (a .form) read in
+            let some : 1 ≤ few .values = omega (arith, small .one-form, v) in
+            let fewer : result-forms (a .form) ≤ few .values = within-forms (reader-accepted-to few text (a .form) (a .read)) some in
             record {
               reader = a .form;
               judged = λ k. text-reads k l read-reader text (a .form) h read;
@@ -94,8 +121,8 @@ module _ {l : Limits} {text : Bytes} where
                   record {
                     rows = a .held;
                     counted = a .counted;
-                    few = counted;
-                    nests = nests;
+                    few = within-forms within (small .one-form);
+                    nests = within-levels within (small .one-level);
                     names-once = reader-proper l text (a .form) read;
                     good = reader-read-good l text (a .form) read;
                     within = a .used .within;

@@ -149,7 +149,7 @@ fn first_reader(text: &[u8], forms: &mut [u64], pool: &mut [u64], limits: Limits
             place: 0,
         };
     }
-    let few = slices::fewer(limits, (text.len() + 2) / 3);
+    let few = slices::fewer(limits, slices::most_reader_forms(limits, text.len()));
     form_reader::read_reader(text, forms, pool, 0, few)
 }
 

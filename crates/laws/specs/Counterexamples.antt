@@ -1,6 +1,7 @@
 -- That the theorems say something: with a hypothesis left out, turned round or weakened by one, each is false. Every name
 -- says what would go wrong. Assumes nothing.
-use Prim.Native.Nat.{ℕ, suc, _≤_, _+_}
+use Prim.Native.Nat.{ℕ, zero, suc, _≤_, _+_}
+use native.Mathlib.Omega.{arith}
 use mathlib.Core.Path.{_≡_, refl, sym, ap, _∙_, subst}
 use mathlib.Core.Bool.{Bool, true, false, false≢true, true≢false}
 use mathlib.Core.List.{List, [], _∷_, map}
@@ -21,10 +22,10 @@ use Rattle.definitions.specs.ShapeText.{read-shape}
 use Rattle.definitions.specs.Reader.{Place, Result, Conversion}
 use Rattle.definitions.specs.Checking.{check-reader}
 use Rattle.definitions.specs.Running.{run-reader}
-use Rattle.definitions.specs.Operations.{Source}
+use Rattle.definitions.specs.Operations.{Done, Source, check-operation}
 use Rattle.definitions.specs.Evaluate.{evaluate}
 use Rattle.laws.specs.Distinct.{distinct}
-use Rattle.laws.specs.Rfc8259.{ws-none, char-of, value, is-array, empty-array, values, no-value, JSON-text, json-text}
+use Rattle.laws.specs.Rfc8259.{ws, ws-none, ws-more, space, char-of, value, is-array, empty-array, values, no-value, JSON-text, json-text}
 use Rattle.laws.specs.Rfc3629.{UTF8-octets, no-octets, octets, char-1, utf8-1}
 use Rattle.laws.specs.Tree.{Tree, no-trees, tree, meaning, Numbers-fit, list-fits, tree-fits, no-trees-fit}
 use Rattle.laws.specs.Good.{Good-value, good-null, good-rec, good-member, good-no-members}
@@ -247,3 +248,20 @@ pub name-that-is-no-utf8-loses-the-shape
 unfolding evaluate start reached takes left-by infers ample odd-source
 name-that-is-no-utf8-loses-the-shape h =
     clash {n = 7} {p = 20} refl (h odd-source odd-distinct (record { sample = []; output = replicate 60 0; lent = [] } ∷ []) .1)
+
+-- ---- an empty reader
+
+spaces : (n : ℕ) → ws (replicate n 0x20) []
+spaces zero = ws-none
+spaces (suc n) = ws-more space (spaces n)
+
+-- with one byte more than the text limit a blank reader would still have to come to what `(none)` does
+pub long-blank-reader-is-too-long
+    : ((l : Limits) (reader : Bytes) → ws reader [] → length reader ≤ suc (l .bytes) → (shape output : Bytes)
+    → check-operation [] [] l reader shape output ≡ check-operation [] [] l (bytes "(none)") shape output)
+    → ⊥
+unfolding evaluate
+long-blank-reader-is-too-long h =
+    let e = ap (λ (d : Done). d .answer .number) (h standard (replicate 16385 0x20) (spaces 16385) (lit≤ tt) (bytes "(shape)") []) in
+    let z : Path ℕ 2 15 = e in
+    omega arith

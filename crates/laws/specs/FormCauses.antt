@@ -123,7 +123,7 @@ pub data Cause
 abbrev pub Shape-cause : Limits → Bytes → ℕ → ℕ → Type 0
 Shape-cause = Cause Shape-text Shape-bracket
 
--- in a reader every form counts
+-- in a reader every form counts; a text with no token is right, and has no cause
 abbrev pub Reader-cause : Limits → Bytes → ℕ → ℕ → Type 0
 Reader-cause = Cause Reader-text (Form-bracket Reader-text)
 

@@ -1,10 +1,12 @@
 -- The grammar of right shape texts and readers over tokens, from the paper's sections Shapes and Readers. `X ts m us` says
 -- that ts begins with an X that means m, and that us is left. A form keeps the place of its bracket; no other place is
--- looked at. No limit plays a part. Assumes nothing.
-use Prim.Native.Nat.{ℕ, suc, _+_, _<_, max}
+-- looked at. No limit plays a part in what is right. Assumes nothing.
+use Prim.Native.Nat.{ℕ, suc, _+_, _≤_, _<_, max}
 use mathlib.Core.Path.{_≡_}
+use mathlib.Core.Logic.{_⊎_}
 use mathlib.Core.Bool.{Bool, true, false}
 use mathlib.Core.List.{List, [], _∷_}
+use Rattle.definitions.specs.declared.Limits.{Limits}
 use Rattle.definitions.specs.Bytes.{Bytes, bytes}
 use Rattle.definitions.specs.Number.{Number, Numeral, beyond, number-of}
 use Rattle.definitions.specs.Value.{Value}
@@ -165,10 +167,15 @@ mutual
         : {k : ℕ} {n : Bytes} {r : Result} {ps : Pairs} {ts us vs ws : List Placed} → Name n ts us → Result-form k us r vs
         → among-pairs n ps ≡ false → Pairs-form k vs ps ws → Pairs-form k ts (pair n r ps) ws
 
--- a right reader: "one result form"; a place that stands alone
-abbrev pub Reader-text : List Placed → Type 0
-Reader-text ts = (r : Result) × Result-form 1 ts r []
+-- one result form and nothing behind
+abbrev pub Result-text : List Placed → Type 0
+Result-text ts = (r : Result) × Result-form 1 ts r []
 
+-- a right reader: "one result form", or no token at all (request Q-7)
+abbrev pub Reader-text : List Placed → Type 0
+Reader-text ts = Result-text ts ⊎ (ts ≡ [])
+
+-- a place that stands alone
 abbrev pub Place-text : List Placed → Type 0
 Place-text ts = (p : Place) × Place-form 1 ts p []
 
@@ -213,3 +220,13 @@ unfoldable mutual
   pub pairs-levels : Pairs → ℕ
   pairs-levels no-pairs = 0
   pairs-levels (pair n r ps) = max (result-levels r) (pairs-levels ps)
+
+-- ---- readers within limits, and what they mean
+
+pub data Reader-within (l : Limits) : List Placed → Result → Type 0 where
+  one-form
+      : {ts : List Placed} {r : Result} → Result-form 1 ts r [] → result-forms r ≤ l .values → result-levels r ≤ l .nesting
+      → Reader-within l ts r
+  -- "An empty text, or one of white space only, shall mean `(none)`: .. its place is 0." (request Q-7) No form is written in it, so that
+  -- none counts
+  no-token : Reader-within l [] (Result.literal 0 Value.null)

@@ -1,6 +1,7 @@
 -- Whether a text of forms is right depends on its tokens alone, not on their places. Assumes nothing.
 use Prim.Native.Nat.{ℕ}
 use mathlib.Core.Path.{_≡_, refl, sym, _∙_, ap, subst}
+use mathlib.Core.Logic.{inl, inr}
 use mathlib.Core.Bool.{true, false, _||_}
 use mathlib.Core.List.{List, [], _∷_}
 use Rattle.definitions.specs.Bytes.{Bytes, same}
@@ -233,13 +234,17 @@ mutual
 
 -- a right text's tokens at other places are a right text
 pub reader-places : {ts us : List Placed} → Reader-text ts → Same ts us → Reader-text us
-reader-places {us = us} (r, f) e = ended (result-same f e)
+reader-places {us = us} (inr i) e = inr (none-left (subst (λ ts. Same ts us) i e))
+  where
+    none-left : {vs : List Placed} → Same [] vs → vs ≡ []
+    none-left same-none = refl
+reader-places {us = us} (inl (r, f)) e = ended (result-same f e)
   where
     nothing-left : {s : Result} {ts vs : List Placed} → Same [] vs → Result-form 1 ts s vs → Result-form 1 ts s []
     nothing-left same-none f = f
 
     ended : (s : Result) × Moved (λ vs us. Result-form 1 vs s us) us [] → Reader-text us
-    ended (s, m) = (s, nothing-left (m .same-left) (m .form))
+    ended (s, m) = inl (s, nothing-left (m .same-left) (m .form))
 
 pub place-places : {ts us : List Placed} → Place-text ts → Same ts us → Place-text us
 place-places {us = us} (p, f) e = ended (place-same f e)

@@ -14,6 +14,7 @@ use Rattle.definitions.specs.Value.{Value}
 use Rattle.definitions.specs.Json.{read-json}
 use Rattle.definitions.specs.Shape.{Shape}
 use Rattle.definitions.specs.ShapeText.{read-shape}
+use Rattle.definitions.specs.Tokens.{Placed}
 use Rattle.definitions.specs.Reader.{Result, read-reader}
 use Rattle.definitions.specs.Checking.{check-reader}
 use Rattle.definitions.specs.Running.{Ran, run-reader}
@@ -29,6 +30,7 @@ use Rattle.laws.specs.Judging.{finish-zero}
 use Rattle.laws.specs.Tree.{Fits}
 use Rattle.laws.specs.JsonAdequate.{json-accepted-to, json-accepted-from}
 use Rattle.laws.specs.ShapeForms.{shape-accepted-to, shape-accepted-from}
+use Rattle.laws.specs.FormGrammar.{Reader-within, one-form, no-token}
 use Rattle.laws.specs.ReaderForms.{reader-accepted-to, reader-accepted-from}
 use Rattle.laws.specs.RunLaws.{run-steps-bounded}
 use Rattle.laws.specs.SoundSteps.{run-enough}
@@ -58,8 +60,11 @@ shape-reads-on l m g s t e =
     let (f, a, b) = shape-accepted-to l s t e in shape-accepted-from m s t f (le-trans a (g .values)) (le-trans b (g .nesting))
 
 reader-reads-on : (l m : Limits) → Larger l m → (s : Bytes) (r : Result) → read-reader l s ≡ ok r → read-reader m s ≡ ok r
-reader-reads-on l m g s r e =
-    let (f, a, b) = reader-accepted-to l s r e in reader-accepted-from m s r f (le-trans a (g .values)) (le-trans b (g .nesting))
+reader-reads-on l m g s r e = reader-accepted-from m s r (within-larger (reader-accepted-to l s r e))
+  where
+    within-larger : {ts : List Placed} {q : Result} → Reader-within l ts q → Reader-within m ts q
+    within-larger (one-form f a b) = one-form f (le-trans a (g .values)) (le-trans b (g .nesting))
+    within-larger no-token = no-token
 
 -- ---- what passed at one set passes at the other
 

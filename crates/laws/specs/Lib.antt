@@ -145,3 +145,4 @@ pub mod Theorems
 pub mod Larger
 pub mod Positives
 pub mod LargerLimits
+pub mod BlankReaders

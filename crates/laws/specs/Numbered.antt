@@ -12,7 +12,7 @@ use Rattle.definitions.specs.Shape.{Kind, Shape, Record, no-rec, rec-of, within
 use Rattle.definitions.specs.Limits.{over}
 use Rattle.definitions.specs.Tokens.{Placed, Step, misplaced, go, opens, judge-step, or-end, read-tokens, tokens}
 use Rattle.definitions.specs.ShapeText.{read-shape}
-use Rattle.definitions.specs.Reader.{Place, Result, Pairs, no-pairs, pair, empty-reader, read-result, read-reader}
+use Rattle.definitions.specs.Reader.{Place, Result, Pairs, no-pairs, pair, read-result, read-reader}
 use Rattle.definitions.specs.Checking.{wants, listed, field-shape, field-kinds, convert-kinds, list-kinds}
 use Rattle.definitions.specs.Checking.{if-kinds, check-place, check, check-pairs, check-reader}
 use Rattle.laws.specs.Judging.{Numbered}
@@ -49,8 +49,8 @@ unfolding read-shape
 numbered-shape l s = numbered-tokens _ _ l 0 (length s) _ (tokens s)
 
 numbered-result : (l : Limits) (end : ℕ) (ts : List Placed) → Numbered (read-result l end ts)
-unfolding read-result empty-reader
-numbered-result l end [] = lit< tt
+unfolding read-result
+numbered-result l end [] = tt
 numbered-result l end (t ∷ ts) = numbered-tokens _ _ l 0 end _ (t ∷ ts)
 
 pub numbered-reader : (l : Limits) (s : Bytes) → Numbered (read-reader l s)

@@ -1,8 +1,9 @@
 -- A reader that is refused, and a place that stands alone, is refused with the least of its causes. Assumes nothing.
 use Prim.Native.Nat.{ℕ, suc}
 use mathlib.Core.Path.{_≡_, refl, sym, _∙_, ap, subst, subst₂}
+use mathlib.Core.Logic.{inl, inr}
 use mathlib.Core.Bool.{true, false}
-use mathlib.Core.List.{List, [], _∷_, _++_, append-assoc}
+use mathlib.Core.List.{List, [], _∷_, _++_, append-assoc, nil≢cons}
 use mathlib.Core.Option.{some}
 use lib.ListN.{length}
 use native.Mathlib.Omega.{arith}
@@ -10,18 +11,20 @@ use Rattle.definitions.specs.declared.Limits.{Limits}
 use Rattle.definitions.specs.Bytes.{Bytes}
 use Rattle.definitions.specs.Outcome.{ok, refused}
 use Rattle.definitions.specs.Reader.{Place, Result, text-end, place-end, place-open, result-open, State, want, whole-place}
-use Rattle.definitions.specs.Reader.{whole-result, depth, place-depth, step, finished-result, finished-place, read-reader, read-place}
+use Rattle.definitions.specs.Reader.{whole-result, depth, place-depth, step, finished-result, finished-place, read-result, read-reader, read-place}
 use Rattle.definitions.specs.Tokens.{Placed, tokens, opens}
 use Rattle.laws.specs.Causes.{First}
-use Rattle.laws.specs.FormGrammar.{Result-form, Reader-text, Place-text, result-forms}
+use Rattle.laws.specs.FormGrammar.{Result-form, Result-text, Reader-text, Place-text, result-forms}
 use Rattle.laws.specs.FormRuns.{Walk, stay, on, enter, walk-unique}
 use Rattle.laws.specs.FormSteps.{says-go, says-opens}
-use Rattle.laws.specs.FormCauses.{form-begun, forms-begun, forms-open, Begins, Form-bracket, form-bracket, Reader-cause, Place-cause}
+use Rattle.laws.specs.FormCauses.{form-begun, forms-begun, forms-open, Begins, Form-bracket, form-bracket, Cause, misplaced-token}
+use Rattle.laws.specs.FormCauses.{missing-token, full-bracket, Reader-cause, Place-cause}
+use Rattle.laws.specs.JsonMoves.{ok≢refused}
 use Rattle.laws.specs.FormStops.{Reaches, walk-parts, walk-join}
 use Rattle.laws.specs.FormLeast.{Adequate, refused-cause, refused-least, accepted-causeless}
 use Rattle.laws.specs.ReaderBacks.{walk-right, place-right}
 use Rattle.laws.specs.ReaderDepths.{result-depths, place-depths, depths-result-forms}
-use Rattle.laws.specs.ReaderForms.{result-from-start, whole-result-state, whole-place-state, reader-right-walk, place-right-walk}
+use Rattle.laws.specs.ReaderForms.{reader-from-start, whole-result-state, whole-place-state, reader-right-walk, place-right-walk}
 use Rattle.laws.specs.ReaderLive.{root-around, root, Ends, ends-place, ends-result, Live, live}
 use Rattle.laws.specs.ReaderOpen.{open-in, Goes, Enters, step-says, walk-open, walk-begun, walk-root}
 
@@ -60,7 +63,7 @@ module _ (start : State) (Right : List Placed → Type 0) (outside : open-in sta
           let h = says-opens (Goes q) (Enters q) (step-says q t) e in
           (r, e ∙ ap (λ d. opens d r) (h .at-depth ∙ ap suc (walk-open w refl ∙ ap (λ n. forms-open n pre) outside)), ap suc (sym (walk-begun w refl)))
 
--- ---- the steps are adequate: readers
+-- ---- the steps are adequate: readers of one form
 
 reader-live
     : {pre : List Placed} {ds : List ℕ} {q : State} → Walk step (want (result-open text-end)) pre ds q []
@@ -79,55 +82,111 @@ reader-live {q = q} w = reached (subst (λ b. Live b q) (walk-root w) (live q))
 
 reader-sound
     : {ts : List Placed} {ds : List ℕ} {u : State} {r : Result} → Walk step (want (result-open text-end)) ts ds u []
-    → finished-result u ≡ some r → Reader-text ts
+    → finished-result u ≡ some r → Result-text ts
 reader-sound {ts} {ds} {u} {r} w e =
     (r, walk-right (subst (λ q. Walk step (want (result-open text-end)) ts ds q []) (whole-result-state u e) w))
 
-reader-complete : {ts : List Placed} → Reader-text ts → Reaches step finished-result (want (result-open text-end)) ts
+reader-complete : {ts : List Placed} → Result-text ts → Reaches step finished-result (want (result-open text-end)) ts
 unfolding finished-result
 reader-complete (r, f) =
     record { depths = result-depths r 0; last = whole-result r; value = r; walk = reader-right-walk f; is-whole = refl }
 
 reader-begins
-    : (pre : List Placed) (ds : List ℕ) (q : State) → Walk step (want (result-open text-end)) pre ds q [] → Begins Reader-text pre
+    : (pre : List Placed) (ds : List ℕ) (q : State) → Walk step (want (result-open text-end)) pre ds q [] → Begins Result-text pre
 reader-begins pre ds q w =
     let h = reader-live w in
     record { rest = h .0; right = reader-sound (walk-join w (h .1 .walk)) (h .1 .is-whole) }
 
 reader-walks
-    : (ts : List Placed) → Reader-text ts → (ds : List ℕ) × (u : State) × Walk step (want (result-open text-end)) ts ds u []
+    : (ts : List Placed) → Result-text ts → (ds : List ℕ) × (u : State) × Walk step (want (result-open text-end)) ts ds u []
 reader-walks ts r = let h = reader-complete r in (h .depths, h .last, h .walk)
 
-reader-adequate : Adequate step finished-result (want (result-open text-end)) Reader-text (Form-bracket Reader-text)
+reader-adequate : Adequate step finished-result (want (result-open text-end)) Result-text (Form-bracket Result-text)
 unfolding open-in depth
 reader-adequate =
     record {
       sound = reader-sound;
       complete = reader-complete;
       live = reader-live;
-      bracket-to = bracket-to (want (result-open text-end)) Reader-text refl reader-begins reader-walks;
-      bracket-from = bracket-from (want (result-open text-end)) Reader-text refl reader-begins reader-walks;
+      bracket-to = bracket-to (want (result-open text-end)) Result-text refl reader-begins reader-walks;
+      bracket-from = bracket-from (want (result-open text-end)) Result-text refl reader-begins reader-walks;
     }
+
+-- ---- a text with no token is right too, and has no cause
+
+-- some right reader begins so exactly where some form does
+form-begins : {pre : List Placed} → Begins Result-text pre → Begins Reader-text pre
+form-begins b = record { rest = b .rest; right = inl (b .right) }
+
+begins-form : (pre : List Placed) → Begins Reader-text pre → Begins Result-text pre
+begins-form [] b = reader-begins [] [] (want (result-open text-end)) stay
+begins-form (t ∷ pre) b = by-right (b .right)
+  where
+    by-right : Reader-text ((t ∷ pre) ++ b .rest) → Begins Result-text (t ∷ pre)
+    by-right (inl f) = record { rest = b .rest; right = f }
+    by-right (inr e) = absurd (nil≢cons (sym e))
+
+-- the causes of a text that has to be one form
+abbrev Form-cause : Limits → Bytes → ℕ → ℕ → Type 0
+Form-cause = Cause Result-text (Form-bracket Result-text)
+
+form-cause : {l : Limits} {s : Bytes} {m q : ℕ} → Reader-cause l s m q → Form-cause l s m q
+form-cause (misplaced-token pre t post i b n) = misplaced-token pre t post i (begins-form pre b) (λ c. n (form-begins c))
+form-cause {s = s} (missing-token b n) = missing-token (begins-form (tokens s) b) (λ f. n (inl f))
+form-cause (full-bracket pre t post n d i (form-bracket o b) h) =
+    full-bracket pre t post n d i (form-bracket o (begins-form (pre ++ t ∷ []) b)) h
+
+reader-cause : {l : Limits} {s : Bytes} {m q : ℕ} → (tokens s ≡ [] → ⊥) → Form-cause l s m q → Reader-cause l s m q
+reader-cause g (misplaced-token pre t post i b n) =
+    misplaced-token pre t post i (form-begins b) (λ c. n (begins-form (pre ++ t ∷ []) c))
+reader-cause {s = s} g (missing-token b n) = missing-token (form-begins b) no-reader
+  where
+    no-reader : Reader-text (tokens s) → ⊥
+    no-reader (inl f) = n f
+    no-reader (inr e) = g e
+reader-cause g (full-bracket pre t post n d i (form-bracket o b) h) = full-bracket pre t post n d i (form-bracket o (form-begins b)) h
+
+cons-end : (pre : List Placed) (t : Placed) (post : List Placed) → pre ++ t ∷ post ≡ [] → ⊥
+cons-end [] t post e = nil≢cons (sym e)
+cons-end (u ∷ pre) t post e = nil≢cons (sym e)
+
+no-token-no-cause : {l : Limits} {s : Bytes} {m q : ℕ} → tokens s ≡ [] → Reader-cause l s m q → ⊥
+no-token-no-cause e (misplaced-token pre t post i b n) = cons-end pre t post (sym i ∙ e)
+no-token-no-cause e (missing-token b n) = n (inr e)
+no-token-no-cause e (full-bracket pre t post n d i o h) = cons-end pre t post (sym i ∙ e)
 
 -- ---- refusals of readers
 
+-- without a token it is accepted
+no-token-refused : (l : Limits) (s : Bytes) (n p : ℕ) → tokens s ≡ [] → read-reader l s ≡ refused n p → ⊥
+unfolding read-reader read-result
+no-token-refused l s n p i e = ok≢refused (sym (ap (λ us. read-result l (length s) us) i) ∙ e)
+
 -- the refusal given is a cause
 pub reader-refused : (l : Limits) (s : Bytes) (n p : ℕ) → read-reader l s ≡ refused n p → Reader-cause l s n p
-unfolding read-reader
-reader-refused l s n p e = refused-cause reader-adequate l s n p (sym (result-from-start l (length s) (tokens s)) ∙ e)
+reader-refused l s n p e = by-tokens (tokens s) refl
+  where
+    by-tokens : (ts : List Placed) → tokens s ≡ ts → Reader-cause l s n p
+    by-tokens [] i = absurd (no-token-refused l s n p i e)
+    by-tokens (t ∷ ts) i =
+        reader-cause (λ z. nil≢cons (sym z ∙ i)) (refused-cause reader-adequate l s n p (sym (reader-from-start l s t ts i) ∙ e))
 
 -- it is the least: every other cause stands later, or there with no smaller number
 pub reader-least
     : (l : Limits) (s : Bytes) (n p m q : ℕ) → read-reader l s ≡ refused n p → Reader-cause l s m q → First n p m q
-unfolding read-reader
-reader-least l s n p m q e c =
-    refused-least reader-adequate l s n p m q (sym (result-from-start l (length s) (tokens s)) ∙ e) c
+reader-least l s n p m q e c = by-tokens (tokens s) refl
+  where
+    by-tokens : (ts : List Placed) → tokens s ≡ ts → First n p m q
+    by-tokens [] i = absurd (no-token-refused l s n p i e)
+    by-tokens (t ∷ ts) i = refused-least reader-adequate l s n p m q (sym (reader-from-start l s t ts i) ∙ e) (form-cause c)
 
 -- what is accepted has no cause
 pub reader-causeless : (l : Limits) (s : Bytes) (r : Result) (m q : ℕ) → read-reader l s ≡ ok r → Reader-cause l s m q → ⊥
-unfolding read-reader
-reader-causeless l s r m q e c =
-    accepted-causeless reader-adequate l s r m q (sym (result-from-start l (length s) (tokens s)) ∙ e) c
+reader-causeless l s r m q e c = by-tokens (tokens s) refl
+  where
+    by-tokens : (ts : List Placed) → tokens s ≡ ts → ⊥
+    by-tokens [] i = no-token-no-cause i c
+    by-tokens (t ∷ ts) i = accepted-causeless reader-adequate l s r m q (sym (reader-from-start l s t ts i) ∙ e) (form-cause c)
 
 -- ---- the steps are adequate: places that stand alone
 

@@ -13,6 +13,7 @@ use Rattle.laws.specs.Distinct.{distinct}
 use Rattle.laws.specs.Readers.{scoped-place, scoped, scoped-pairs, proper, proper-pairs}
 use Rattle.laws.specs.FormGrammar.{index-word, Place-form, it-form, field-form, Result-form, convert-form, keep-form, count-form, each-form}
 use Rattle.laws.specs.FormGrammar.{when-form, if-form, num-form, str-form, yes-form, no-form, none-form, pack-form, Pairs-form, no-pair, next-pair}
+use Rattle.laws.specs.FormGrammar.{Reader-within, one-form, no-token}
 use Rattle.laws.specs.Tests.{lt-ltb}
 use Rattle.laws.specs.ReaderForms.{reader-accepted-to}
 
@@ -45,7 +46,12 @@ mutual
   pairs-scoped (next-pair q f n ps) = and-intro (result-scoped f) (pairs-scoped ps)
 
 pub reader-scoped : (l : Limits) (s : Bytes) (r : Result) → read-reader l s ≡ ok r → scoped 1 r ≡ true
-reader-scoped l s r e = result-scoped (reader-accepted-to l s r e .0)
+unfolding scoped
+reader-scoped l s r e = within-scoped (reader-accepted-to l s r e)
+  where
+    within-scoped : {ts : List Placed} {q : Result} → Reader-within l ts q → scoped 1 q ≡ true
+    within-scoped (one-form f a b) = result-scoped f
+    within-scoped no-token = refl
 
 -- ---- distinct names
 
@@ -71,4 +77,9 @@ mutual
   pairs-proper (next-pair q f n ps) = and-intro (and-intro (not-false n) (result-proper f)) (pairs-proper ps)
 
 pub reader-proper : (l : Limits) (s : Bytes) (r : Result) → read-reader l s ≡ ok r → proper r ≡ true
-reader-proper l s r e = result-proper (reader-accepted-to l s r e .0)
+unfolding proper distinct
+reader-proper l s r e = within-proper (reader-accepted-to l s r e)
+  where
+    within-proper : {ts : List Placed} {q : Result} → Reader-within l ts q → proper q ≡ true
+    within-proper (one-form f a b) = result-proper f
+    within-proper no-token = refl

@@ -12,7 +12,10 @@ use Rattle.definitions.specs.Reader.{Place, Result, text-end, place-end, place-
 use Rattle.definitions.specs.Reader.{whole-result, put-place, put-result, depth, place-depth, bindings, place-bindings, step}
 use Rattle.definitions.specs.Reader.{finished-result, finished-place, empty-reader, read-result, read-reader, read-place}
 use Rattle.definitions.specs.Tokens.{Placed, tokens, or-end, read-tokens}
-use Rattle.laws.specs.FormGrammar.{Place-form, Result-form, place-forms, result-forms, place-levels, result-levels}
+use Rattle.laws.specs.FormGrammar.{Head, head, Place-form, Result-form, convert-form, keep-form, count-form, each-form, when-form, if-form}
+use Rattle.laws.specs.FormGrammar.{num-form, str-form, yes-form, no-form, none-form, pack-form, place-forms, result-forms, place-levels}
+use Rattle.laws.specs.FormGrammar.{result-levels, Reader-within, one-form, no-token}
+use Rattle.laws.specs.JsonMoves.{ok-injective}
 use Rattle.laws.specs.FormRuns.{Walk, walk-unique, most, Fits, Accepted, read-accepted, read-along}
 use Rattle.laws.specs.ReaderBacks.{walk-right, place-right}
 use Rattle.laws.specs.ReaderDepths.{place-depths, result-depths, depths-place-forms, depths-result-forms, depths-place-levels, depths-result-levels}
@@ -20,13 +23,14 @@ use Rattle.laws.specs.ReaderWalks.{place-walk, result-walk}
 
 -- ---- what is accepted is right
 
--- reading a text with no token is reading it from the start
-pub result-from-start
-    : (l : Limits) (end : ℕ) (ts : List Placed)
-    → read-result l end ts ≡ read-tokens step finished-result l 0 end (want (result-open text-end)) ts
-unfolding read-result empty-reader read-tokens or-end finished-result
-result-from-start l end [] = refl
-result-from-start l end (t ∷ ts) = refl
+-- a text with a token is read from the start
+pub reader-from-start
+    : (l : Limits) (s : Bytes) (t : Placed) (ts : List Placed) → tokens s ≡ t ∷ ts
+    → read-reader l s ≡ read-tokens step finished-result l 0 (length s) (want (result-open text-end)) (tokens s)
+unfolding read-reader read-result
+reader-from-start l s t ts i =
+    ap (λ us. read-result l (length s) us) i
+    ∙ sym (ap (λ us. read-tokens step finished-result l 0 (length s) (want (result-open text-end)) us) i)
 
 pub whole-result-state : {r : Result} (q : State) → finished-result q ≡ some r → q ≡ whole-result r
 unfolding finished-result
@@ -39,23 +43,6 @@ unfolding finished-place
 whole-place-state {p} (want w) e = absurd (Option·none-ne-some p e)
 whole-place-state {p} (whole-place a) e = ap whole-place (Option·some-injective a p e)
 whole-place-state {p} (whole-result a) e = absurd (Option·none-ne-some p e)
-
-reader-accepted
-    : (l : Limits) (s : Bytes) (r : Result) → read-reader l s ≡ ok r
-    → Accepted step finished-result l 0 (want (result-open text-end)) (tokens s) r
-unfolding read-reader
-reader-accepted l s r e =
-    read-accepted
-    step
-    finished-result
-    l
-    (length s)
-    (tokens s)
-    r
-    0
-    (want (result-open text-end))
-    (omega arith)
-    (sym (result-from-start l (length s) (tokens s)) ∙ e)
 
 place-accepted
     : (l : Limits) (s : Bytes) (p : Place) → read-place l s ≡ ok p
@@ -94,20 +81,20 @@ fits-from ds n m c d a b = record { count-fits = omega arith; depth-fits = omega
 
 -- ---- readers
 
--- what is accepted is a right reader within the limits
-pub reader-accepted-to
-    : (l : Limits) (s : Bytes) (r : Result) → read-reader l s ≡ ok r
-    → Result-form 1 (tokens s) r [] × (result-forms r ≤ l .values) × (result-levels r ≤ l .nesting)
-reader-accepted-to l s r e =
-    let a = reader-accepted l s r e in
+-- what is read from the start on is one form within the limits
+form-accepted-to
+    : (l : Limits) (end : ℕ) (ts : List Placed) (r : Result)
+    → read-tokens step finished-result l 0 end (want (result-open text-end)) ts ≡ ok r → Reader-within l ts r
+form-accepted-to l end ts r e =
+    let a = read-accepted step finished-result l end ts r 0 (want (result-open text-end)) (omega arith) e in
     let w =
     subst
-    (λ q. Walk step (want (result-open text-end)) (tokens s) (a .depths) q [])
+    (λ q. Walk step (want (result-open text-end)) ts (a .depths) q [])
     (whole-result-state (a .last) (a .is-whole))
     (a .walk)
     in
     let f = walk-right w in
-    let g =
+    let (g, h) =
     fits-to
     (result-depths r 0)
     (result-forms r)
@@ -116,23 +103,62 @@ reader-accepted-to l s r e =
     (depths-result-levels r 0)
     (subst (Fits l 0) (walk-unique {w = whole-result r} w (reader-right-walk f) .0) (a .fits))
     in
-    (f, g .0, g .1)
+    one-form f g h
 
--- a right reader within the limits is accepted, with what it means
-pub reader-accepted-from
-    : (l : Limits) (s : Bytes) (r : Result) → Result-form 1 (tokens s) r [] → result-forms r ≤ l .values
-    → result-levels r ≤ l .nesting → read-reader l s ≡ ok r
-unfolding read-reader read-tokens finished-result or-end
-reader-accepted-from l s r f a b =
-    result-from-start l (length s) (tokens s)
-    ∙ read-along
+-- such a form is read so
+form-accepted-from
+    : (l : Limits) (end : ℕ) {ts : List Placed} {r : Result} → Result-form 1 ts r [] → result-forms r ≤ l .values
+    → result-levels r ≤ l .nesting → read-tokens step finished-result l 0 end (want (result-open text-end)) ts ≡ ok r
+unfolding read-tokens finished-result or-end
+form-accepted-from l end {r = r} f a b =
+    read-along
     step
     finished-result
     l
-    (length s)
+    end
     (reader-right-walk f)
     0
     (fits-from (result-depths r 0) (result-forms r) (result-levels r) (depths-result-forms r 0) (depths-result-levels r 0) a b)
+
+-- what is accepted is a right reader within the limits
+pub reader-accepted-to : (l : Limits) (s : Bytes) (r : Result) → read-reader l s ≡ ok r → Reader-within l (tokens s) r
+unfolding read-reader read-result empty-reader
+reader-accepted-to l s r e = by-tokens (tokens s) e
+  where
+    by-tokens : (ts : List Placed) → read-result l (length s) ts ≡ ok r → Reader-within l ts r
+    by-tokens [] e = subst (λ q. Reader-within l [] q) (ok-injective e) no-token
+    by-tokens (t ∷ ts) e = form-accepted-to l (length s) (t ∷ ts) r e
+
+-- a form has tokens: what holds of every list of some holds of its own
+module _ (X : List Placed → Type 0) (of-some : (t : Placed) (ts : List Placed) → X (t ∷ ts)) where
+  head-tokens : {w : Bytes} {p : ℕ} {ts us : List Placed} → Head w p ts us → X ts
+  head-tokens head = of-some _ _
+
+  form-tokens : {k : ℕ} {r : Result} {ts us : List Placed} → Result-form k ts r us → X ts
+  form-tokens (convert-form w h f) = head-tokens h
+  form-tokens (keep-form h f) = head-tokens h
+  form-tokens (count-form h f) = head-tokens h
+  form-tokens (each-form h f g) = head-tokens h
+  form-tokens (when-form h w f g i) = head-tokens h
+  form-tokens (if-form h f g i) = head-tokens h
+  form-tokens (num-form h w) = head-tokens h
+  form-tokens (str-form h) = head-tokens h
+  form-tokens (yes-form h) = head-tokens h
+  form-tokens (no-form h) = head-tokens h
+  form-tokens (none-form h) = head-tokens h
+  form-tokens (pack-form h ps) = head-tokens h
+
+-- a right reader within the limits is accepted, with what it means
+pub reader-accepted-from : (l : Limits) (s : Bytes) (r : Result) → Reader-within l (tokens s) r → read-reader l s ≡ ok r
+unfolding read-reader read-result empty-reader
+reader-accepted-from l s r w = by-clause w
+  where
+    From-start : List Placed → Type 0
+    From-start ts = read-result l (length s) ts ≡ read-tokens step finished-result l 0 (length s) (want (result-open text-end)) ts
+
+    by-clause : {ts : List Placed} {q : Result} → Reader-within l ts q → read-result l (length s) ts ≡ ok q
+    by-clause (one-form f a b) = form-tokens From-start (λ t us. refl) f ∙ form-accepted-from l (length s) f a b
+    by-clause no-token = refl
 
 -- ---- places
 

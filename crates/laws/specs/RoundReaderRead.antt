@@ -22,7 +22,7 @@ use Rattle.laws.specs.Good.{good-count, good-each, good-when, good-choos
 use Rattle.laws.specs.NumberRound.{good-number as number-good}
 use Rattle.laws.specs.LexGood.{Good-token, good-opening, good-closing, good-quoted, good-word}
 use Rattle.laws.specs.LexGood.{good-broken, Good-tokens, good-no-tokens, good-then, tokens-good}
-use Rattle.laws.specs.RoundOutcome.{Gives, gives-refused, gives-holds, Leads, leads-nowhere, leads-on, leads-in, tokens-give}
+use Rattle.laws.specs.RoundOutcome.{Gives, gives-ok, gives-holds, Leads, leads-nowhere, leads-on, leads-in, tokens-give}
 use Rattle.laws.specs.RoundShapeRead.{want-open-leads, want-close-leads, want-text-leads, want-word-leads, where-true-leads, where-some-leads}
 
 -- ---- good states
@@ -229,7 +229,7 @@ finished-good (whole-result t) (good-whole-result g) r e = subst Good-reader (Op
 
 read-result-gives : (l : Limits) (end : ℕ) {ts : List Placed} → Good-tokens ts → Gives Good-reader (read-result l end ts)
 unfolding read-result empty-reader
-read-result-gives l end good-no-tokens = gives-refused
+read-result-gives l end good-no-tokens = gives-ok (good-literal good-null)
 read-result-gives l end (good-then g gs) =
     tokens-give Good-state Good-reader step finished-result step-good finished-good l 0 end (want (result-open text-end))
     (good-want (good-result-open good-end)) (good-then g gs)

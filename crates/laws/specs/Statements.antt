@@ -12,12 +12,12 @@ use lib.ListN.{length, take, drop}
 use Rattle.definitions.specs.declared.Limits.{Limits}
 use Rattle.definitions.specs.declared.Answer.{Answer}
 use Rattle.definitions.specs.Limits.{standard, in-range}
-use Rattle.definitions.specs.Bytes.{Bytes}
+use Rattle.definitions.specs.Bytes.{Bytes, bytes}
 use Rattle.definitions.specs.Outcome.{ok, refused}
 use Rattle.definitions.specs.Value.{Value, size, nesting}
 use Rattle.definitions.specs.Json.{read-json}
 use Rattle.definitions.specs.Plain.{plain}
-use Rattle.definitions.specs.Shape.{Shape, ascending, forms, levels}
+use Rattle.definitions.specs.Shape.{Shape, ascending, forms, levels, only-null}
 use Rattle.definitions.specs.Order.{below}
 use Rattle.definitions.specs.Join.{join, shape-of}
 use Rattle.definitions.specs.Admits.{admits}
@@ -32,11 +32,11 @@ use Rattle.definitions.specs.Calls.{Called, answer-words, answered, call, quiet
 use Rattle.definitions.specs.Calls.{below-call, admits-call, check-call, run-call}
 use Rattle.laws.specs.Distinct.{distinct}
 use Rattle.laws.specs.Tree.{Tree, meaning, Fits}
-use Rattle.laws.specs.Rfc8259.{JSON-text}
+use Rattle.laws.specs.Rfc8259.{ws, JSON-text}
 use Rattle.laws.specs.Causes.{Cause, Refused-first}
 use Rattle.laws.specs.TokenGrammar.{Tokens-of}
 use Rattle.laws.specs.FormCauses.{Shape-cause, Reader-cause}
-use Rattle.laws.specs.FormGrammar.{Shape-form, Result-form, result-forms, result-levels}
+use Rattle.laws.specs.FormGrammar.{Shape-form, Reader-within}
 use Rattle.laws.specs.Good.{Good-value, Good-shape}
 use Rattle.laws.specs.Readers.{scoped, proper, Safe}
 use Rattle.laws.specs.CheckRules.{Checks, Refuses}
@@ -85,11 +85,9 @@ Shapes-refused-for-cause = (l : Limits) (s : Bytes) (n p : ℕ) → read-shape l
 abbrev pub Shapes-refused-for-the-least : Type 0
 Shapes-refused-for-the-least = (l : Limits) (s : Bytes) (m q : ℕ) → Shape-cause l s m q → Refused-first (read-shape l s) m q
 
--- a reader is accepted exactly where it is a right text within the limits; the document is its one binding
+-- a reader is accepted exactly where it is a right text within the limits, one form or no token; the document is its one binding
 abbrev pub Readers-by-the-grammar : Type 0
-Readers-by-the-grammar =
-    (l : Limits) (s : Bytes) (r : Result)
-    → (read-reader l s ≡ ok r) ↔ (Result-form 1 (tokens s) r [] × (result-forms r ≤ l .values) × (result-levels r ≤ l .nesting))
+Readers-by-the-grammar = (l : Limits) (s : Bytes) (r : Result) → (read-reader l s ≡ ok r) ↔ Reader-within l (tokens s) r
 
 -- demand 1, of readers
 abbrev pub Readers-refused-for-cause : Type 0
@@ -442,3 +440,26 @@ Larger-sets-go-on-from-every-source = (source : Source) → Proper-source source
 
 abbrev pub Larger-sets-go-on : Type 0
 Larger-sets-go-on = Operations-go-on read-json × Calls-go-on read-json
+
+-- ---- request Q-7: an empty reader
+
+-- "An empty text, or one of white space only, shall mean `(none)`: it gives null in one step, its shape is null, and its place is 0.", and
+-- so every operation and every C call with such a reader, within the text limit, comes to what it does with `(none)`, at any limits
+pub record Blank-readers-mean-none : Type 0 where
+  -- these are the texts without a token
+  pub tokenless : (s : Bytes) → (tokens s ≡ []) ↔ ws s []
+  pub read-as : (l : Limits) (s : Bytes) → ws s [] → read-reader l s ≡ ok (Result.literal 0 Value.null)
+  pub gives : (l : Limits) (v : Value) → 1 ≤ l .steps → run-reader (Result.literal 0 Value.null) l v ≡ ok (record { result = Value.null; steps = 1 })
+  pub shaped : (s : Shape) → check-reader (Result.literal 0 Value.null) s ≡ ok only-null
+  pub by-check
+      : (l : Limits) (reader : Bytes) → ws reader [] → length reader ≤ l .bytes → (published lent : List ℕ) (shape output : Bytes)
+      → check-operation published lent l reader shape output ≡ check-operation published lent l (bytes "(none)") shape output
+  pub by-run
+      : (l : Limits) (reader : Bytes) → ws reader [] → length reader ≤ l .bytes → (source : Source) (published lent : List ℕ) (document output : Bytes)
+      → run-operation source published lent l reader document output ≡ run-operation source published lent l (bytes "(none)") document output
+  pub by-check-call
+      : (l : Limits) (reader : Bytes) → ws reader [] → length reader ≤ l .bytes → (shape output buffer : Bytes)
+      → check-call l reader shape output buffer ≡ check-call l (bytes "(none)") shape output buffer
+  pub by-run-call
+      : (l : Limits) (reader : Bytes) → ws reader [] → length reader ≤ l .bytes → (source : Source) (document output buffer : Bytes)
+      → run-call source l reader document output buffer ≡ run-call source l (bytes "(none)") document output buffer

@@ -41,7 +41,9 @@ use Rattle.laws.specs.Statements.{Demand-3-for-documents, Standard-in-ra
 use Rattle.laws.specs.Statements.{Written-documents-read-back, Calls-keep-the-output, Refused-with-the-first-cause}
 use Rattle.laws.specs.Statements.{Calls-are-operations, Answers-read-back, Demand-3-of-calls-from-every-source, Demand-3-of-calls}
 use Rattle.laws.specs.LargerLimits.{json-reads-on, operations-go-on, calls-go-on}
+use Rattle.laws.specs.BlankReaders.{no-token-blank, blank-reads, none-runs, none-checks, check-alike, run-alike, check-call-alike, run-call-alike}
 use Rattle.laws.specs.Statements.{Only-the-steps-run-out, Results-handed-on, Larger-sets-go-on-from-every-source, Larger-sets-go-on}
+use Rattle.laws.specs.Statements.{Blank-readers-mean-none}
 
 -- ---- reading
 
@@ -68,7 +70,7 @@ pub shapes-by-the-grammar : Shapes-by-the-grammar
 shapes-by-the-grammar l s t = (shape-accepted-to l s t, λ (f, a, b). shape-accepted-from l s t f a b)
 
 pub readers-by-the-grammar : Readers-by-the-grammar
-readers-by-the-grammar l s r = (reader-accepted-to l s r, λ (f, a, b). reader-accepted-from l s r f a b)
+readers-by-the-grammar l s r = (reader-accepted-to l s r, reader-accepted-from l s r)
 
 pub readers-refused-for-cause : Readers-refused-for-cause
 readers-refused-for-cause = reader-refused
@@ -211,3 +213,18 @@ larger-sets-go-on-from-every-source source proper on = (operations-go-on source 
 
 pub larger-sets-go-on : Larger-sets-go-on
 larger-sets-go-on = larger-sets-go-on-from-every-source read-json json-proper json-reads-on
+
+-- ---- request Q-7: an empty reader
+
+pub blank-readers-mean-none : Blank-readers-mean-none
+blank-readers-mean-none =
+    record {
+      tokenless = no-token-blank;
+      read-as = blank-reads;
+      gives = none-runs;
+      shaped = none-checks;
+      by-check = check-alike;
+      by-run = run-alike;
+      by-check-call = check-call-alike;
+      by-run-call = run-call-alike;
+    }

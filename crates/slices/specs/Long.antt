@@ -14,6 +14,7 @@ use Rattle.definitions.specs.WorkSlices.{join-slices, most-reader-forms, reader
 use Rattle.definitions.specs.WorkSlices.{for-reader-document, check-slices, run-slices}
 use Rattle.laws.specs.Tests.{ltb-le, le-ltb}
 use Rattle.laws.specs.Bools.{or-false-left, or-false-right}
+use Rattle.slices.specs.Small.{Small}
 
 -- ---- in parts
 
@@ -58,6 +59,21 @@ module _ (a b c d e v w x y z : ℕ) where
         i,
         j,
       )
+
+-- ---- what any text asks of the pool at most
+
+module _ (l : Limits) (small : Small l) (n : ℕ) where
+  pub texts-bound : text-words l n ≤ 2559
+  texts-bound = at _ (most-values l n) (omega (arith, small .bytes, small .values))
+    where
+      at : (b v : ℕ) → b + 8 * v ≤ 20480 → (b + 8 * v - 2) / 8 ≤ 2559
+      at b v h = omega arith
+
+  pub readers-bound : reader-texts l n ≤ 2368
+  readers-bound = at _ (most-reader-forms l n) (omega (arith, small .bytes, small .values))
+    where
+      at : (b v : ℕ) → b + 5 * v ≤ 18944 → (b + 5 * v + 6) / 8 ≤ 2368
+      at b v h = omega arith
 
 -- ---- what is published is enough for every text
 

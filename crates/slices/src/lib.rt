@@ -1,7 +1,7 @@
 // What goes before the texts of an operation: whether its limits are in range, and its work slices as long as published at them.
 ghost use mathlib.Core.Path.{_≡_};
 ghost use mathlib.Core.List.{[], _∷_};
-ghost use Prim.Native.Nat.{min};
+ghost use Prim.Native.Nat.{min, max};
 ghost use Rattle.definitions.specs.Limits.{set-of, within, in-range};
 ghost use Rattle.definitions.specs.Operations.{slices-short};
 ghost use Rattle.definitions.specs.Calls.{buffer-published};
@@ -39,6 +39,13 @@ fn least(a: usize, b: usize) -> usize
     ensures chosen { λ r. ⌜ r ≡ min a b ⌝ }
 {
     if a < b { a } else { b }
+}
+
+// The larger of two numbers.
+fn greatest(a: usize, b: usize) -> usize
+    ensures chosen { λ r. ⌜ r ≡ max a b ⌝ }
+{
+    if a < b { b } else { a }
 }
 
 // Whether a number lies in a range, both ends in.
@@ -125,11 +132,12 @@ fn text_words(limits: Limits, bytes: usize) -> usize
 }
 
 // The most forms that are read of a reader of so many bytes.
-fn most_reader_forms(limits: Limits, bytes: usize) -> usize
+pub fn most_reader_forms(limits: Limits, bytes: usize) -> usize
     requires { ⌜ Small limits ⌝ }
     ensures counted { λ r. ⌜ r ≡ most-reader-forms limits bytes ⌝ }
 {
-    least(limits.values, (least(limits.bytes, bytes) + 2) / 3)
+    let written = (least(limits.bytes, bytes) + 2) / 3;
+    least(limits.values, greatest(1, written))
 }
 
 // The words that the names and texts of a reader of so many bytes can take.

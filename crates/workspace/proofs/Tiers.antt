@@ -1,6 +1,6 @@
 -- The work slices of the C calls are long enough: those that pass a test of their lengths, and the longest for all texts.
 -- Assumes nothing.
-use Prim.Native.Nat.{ℕ, _+_, _-_, _*_, _/_, _≤_}
+use Prim.Native.Nat.{ℕ, _+_, _≤_}
 use native.Mathlib.Omega.{arith}
 use native.Mathlib.Nat.{add-le-add}
 use mathlib.Core.Path.{_≡_}
@@ -10,12 +10,12 @@ use lib.ListN.{length}
 use Rattle.definitions.specs.declared.Limits.{Limits}
 use Rattle.definitions.specs.Bytes.{Bytes}
 use Rattle.definitions.specs.Operations.{slices-short}
-use Rattle.definitions.specs.WorkSlices.{form-words, shape-words, name-words, most-values, value-words, text-words, most-reader-forms}
+use Rattle.definitions.specs.WorkSlices.{form-words, shape-words, name-words, value-words, text-words}
 use Rattle.definitions.specs.WorkSlices.{reader-words, reader-texts, bound-words, result-words}
 use Rattle.definitions.specs.WorkSlices.{for-document, for-shape-document, for-grown-document, for-two-shapes, for-grown-shapes}
 use Rattle.definitions.specs.WorkSlices.{for-reader-shape, for-reader-document}
 use Rattle.slices.specs.Small.{Small}
-use Rattle.slices.specs.Long.{two-long, three-long, five-long}
+use Rattle.slices.specs.Long.{two-long, three-long, five-long, texts-bound, readers-bound}
 use Rattle.inputs.specs.Inputs.{Shape-document-slices, Two-shapes-slices}
 use Rattle.perform.specs.Perform.{Document-slices, Grown-document-slices, Grown-shapes-slices, Check-slices, Run-slices}
 
@@ -34,20 +34,8 @@ module _ (l : Limits) (small : Small l) (n : ℕ) where
   values-most : value-words l n ≤ 1536
   values-most = omega (arith, small .values)
 
-  texts-most : text-words l n ≤ 2559
-  texts-most = at _ (most-values l n) (omega (arith, small .bytes, small .values))
-    where
-      at : (b v : ℕ) → b + 8 * v ≤ 20480 → (b + 8 * v - 2) / 8 ≤ 2559
-      at b v h = omega arith
-
   reader-most : reader-words l n ≤ 1536
   reader-most = omega (arith, small .values)
-
-  readers-most : reader-texts l n ≤ 2368
-  readers-most = at _ (most-reader-forms l n) (omega (arith, small .bytes, small .values))
-    where
-      at : (b v : ℕ) → b + 5 * v ≤ 18944 → (b + 5 * v + 6) / 8 ≤ 2368
-      at b v h = omega arith
 
   results-most : result-words l ≤ 1536
   results-most = omega (arith, small .values)
@@ -57,17 +45,17 @@ module _ (l : Limits) (small : Small l) (n : ℕ) where
 
 module _ (l : Limits) (small : Small l) (n m : ℕ) where
   most-document : slices-short (for-document l n) (1536 ∷ 2559 ∷ []) ≡ false
-  most-document = two-long (value-words l n) (text-words l n) 1536 2559 (values-most l small n) (texts-most l small n)
+  most-document = two-long (value-words l n) (text-words l n) 1536 2559 (values-most l small n) (texts-bound l small n)
 
   most-shape-document : slices-short (for-shape-document l n m) (1024 ∷ 1536 ∷ 4607 ∷ []) ≡ false
   most-shape-document =
       three-long (shape-words l n) (value-words l m) (name-words l n + text-words l m) 1024 1536 4607 (shapes-most l small n)
-      (values-most l small m) (add-le-add (names-most l small n) (texts-most l small m))
+      (values-most l small m) (add-le-add (names-most l small n) (texts-bound l small m))
 
   most-grown-document : slices-short (for-grown-document l n m) (1024 ∷ 1536 ∷ 4607 ∷ []) ≡ false
   most-grown-document =
       three-long (form-words l) (value-words l m) (name-words l n + text-words l m) 1024 1536 4607 (forms-most l small n)
-      (values-most l small m) (add-le-add (names-most l small n) (texts-most l small m))
+      (values-most l small m) (add-le-add (names-most l small n) (texts-bound l small m))
 
   most-two-shapes : slices-short (for-two-shapes l n m) (1024 ∷ 1024 ∷ 4096 ∷ []) ≡ false
   most-two-shapes =
@@ -83,13 +71,13 @@ module _ (l : Limits) (small : Small l) (n m : ℕ) where
   most-reader-shape =
       five-long (reader-words l n) (shape-words l m) (form-words l) (bound-words l) (reader-texts l n + name-words l m) 1536 1024 1024 32 4416
       (reader-most l small n) (shapes-most l small m) (forms-most l small n) (bound-most l small n)
-      (add-le-add (readers-most l small n) (names-most l small m))
+      (add-le-add (readers-bound l small n) (names-most l small m))
 
   most-reader-document : slices-short (for-reader-document l n m) (1536 ∷ 1536 ∷ 1536 ∷ 32 ∷ 4927 ∷ []) ≡ false
   most-reader-document =
       five-long (reader-words l n) (value-words l m) (result-words l) (bound-words l) (reader-texts l n + text-words l m) 1536 1536 1536 32 4927
       (reader-most l small n) (values-most l small m) (results-most l small n) (bound-most l small n)
-      (add-le-add (readers-most l small n) (texts-most l small m))
+      (add-le-add (readers-bound l small n) (texts-bound l small m))
 
 -- ---- slices of tested lengths, and the longest
 

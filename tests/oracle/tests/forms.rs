@@ -66,8 +66,8 @@ fn a_cut_token_is_refused_at_its_first_byte_and_a_cut_text_at_its_length() {
     wrong_readers(&[
         (b"(num 1.", 5),
         (b"(str \"", 5),
-        (b"", 0),
-        (b"(yes", 4),
+        (b" (", 2),
+        (b"(none", 5),
         (b"(pack ", 6),
     ]);
 }

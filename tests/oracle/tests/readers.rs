@@ -199,3 +199,20 @@ fn the_result_of_a_run_may_be_longer_than_a_text() {
     assert_eq!(answer.number, 0);
     assert!(written.len() > 200 * 16_000);
 }
+
+#[test]
+fn a_reader_without_a_token_means_none() {
+    for blank in [b"".as_slice(), b" ", b"\t\r\n  "] {
+        checks(blank, b"(shape int)", b"(shape null)\n");
+        runs(blank, b"[1,2]", b"null", 1);
+        refuses(Check, blank, blank, (7, 2, blank.len() as u64));
+        refuses(Run, blank, blank, (3, 2, blank.len() as u64));
+    }
+}
+
+#[test]
+fn what_json_does_not_call_white_space_is_a_word_and_a_long_blank_is_too_long() {
+    refuses(Run, b"\xEF\xBB\xBF", b"1", (7, 1, 0));
+    refuses(Run, b" \x0B", b"1", (7, 1, 1));
+    refuses(Run, &[b' '; 16385], b"1", (2, 1, 0));
+}

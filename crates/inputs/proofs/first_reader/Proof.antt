@@ -12,16 +12,21 @@ returns c =
 read-reader-requires : tie.Need-read-reader-requires
 read-reader-requires c κs =
     let at-fewer = c .before .before in
-    let at-short = at-fewer .before in
+    let at-most = at-fewer .before in
+    let at-short = at-most .before in
     let at-start = at-short .before .before .before .before .before in
-    reader-room (at-fewer .fewer .ensures) (at-short .if1 .left) (at-start .pre)
+    reader-room (at-fewer .fewer .ensures) (at-most .most-reader-forms .ensures) (at-short .if1 .left) (at-start .pre)
 
 returns-2 : tie.Need-returns-2
 returns-2 c =
     let at-read = c .before .before .before .before in
     let at-fewer = at-read .before .before .before in
-    reader-judged (at-fewer .fewer .ensures) (at-fewer .before .if1 .left) (at-read .read-reader .ensures)
+    let at-most = at-fewer .before in
+    let at-short = at-most .before in
+    let at-start = at-short .before .before .before .before .before in
+    reader-judged (at-fewer .fewer .ensures) (at-most .most-reader-forms .ensures) (at-short .if1 .left) (at-start .pre .small)
+    (at-read .read-reader .ensures)
 
 pub first-reader-spec : {M : Type 1} → statement M
 first-reader-spec =
-    tie.close (tie.spec returns (λ c. search needs) (λ c κs. search needs) read-reader-requires (λ c. search needs) (λ c. search needs) returns-2)
+    tie.close (tie.spec returns (λ c κs. search needs) (λ c κs. search needs) read-reader-requires (λ c. search needs) (λ c. search needs) returns-2)

@@ -117,7 +117,7 @@ impl Source {
 
     pub fn any_reader(&mut self) -> Vec<u8> {
         let shape = self.shape();
-        match self.random.below(10) {
+        match self.random.below(11) {
             0 => {
                 let mut text = self.reader_on(&shape);
                 let length = self.border_length();
@@ -132,12 +132,23 @@ impl Source {
                 self.damage_tokens(&mut tokens, &READER_TOKENS);
                 self.spell_tokens(&tokens)
             }
+            8 => self.blank_text(),
             _ => {
                 let mut text = self.reader_on(&shape);
                 self.damage(&mut text);
                 text
             }
         }
+    }
+
+    /// No token: white space alone, now and then as much as a text may have.
+    fn blank_text(&mut self) -> Vec<u8> {
+        let mut text = self.spell_tokens(&[]);
+        if self.random.once_in(3) {
+            let length = self.border_length();
+            self.pad(&mut text, length);
+        }
+        text
     }
 
     /// A few tokens of a sort, after a right beginning.

@@ -64,9 +64,13 @@ impl Case {
     ];
 }
 
-/// Reads a whole reader text. Its size (2) has been judged before.
+/// Reads a whole reader text. Its size (2) has been judged before. One without a token means `(none)`, at place 0.
 pub fn read_reader(bytes: &[u8], limits: &Limits) -> Result<Form, Refusal> {
     let mut forms = Forms::new(bytes, limits);
+    if forms.token == Token::End {
+        let body = Body::Literal(Rc::new(Value::Null));
+        return Ok(Form { at: 0, body });
+    }
     // The document is bound around everything.
     let form = form(&mut forms, 1, 1)?;
     forms.end()?;
