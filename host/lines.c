@@ -29,11 +29,6 @@ void lines_close(struct lines *lines)
     errno = why;
 }
 
-static bool is_blank(uint8_t byte)
-{
-    return byte == ' ' || byte == '\t' || byte == '\r';
-}
-
 /* Has the first bytes stand for a line that goes on behind them, and is too long whatever follows. Where all of these are
    blank the last one becomes one that is not, once there is such a one: only then the line is a document. */
 static void cut_line(struct lines *lines)
@@ -78,20 +73,12 @@ static enum found any_line(struct lines *lines, struct text *line)
     return FOUND;
 }
 
-static bool all_blank(const struct text *line)
-{
-    size_t at = 0;
-    while (at < line->length && is_blank(line->bytes[at]))
-        at++;
-    return at == line->length;
-}
-
 enum found lines_next(struct lines *lines, struct text *line)
 {
     enum found found;
     do
         found = any_line(lines, line);
-    while (found == FOUND && all_blank(line));
+    while (found == FOUND && blank_before(line, line->length));
     if (found == FOUND && line->bytes[line->length - 1] == '\r')
         line->length--;
     return found;

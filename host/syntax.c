@@ -118,15 +118,6 @@ static bool has_mark(const struct text *text)
     return text->length >= sizeof mark && memcmp(text->bytes, mark, sizeof mark) == 0;
 }
 
-/* Whether nothing but white space stands before a place, which is a whole reader of its own. */
-static bool is_blank_before(const struct text *text, size_t place)
-{
-    size_t at = 0;
-    while (at < place && strchr(" \t\n\r", text->bytes[at]) != NULL && text->bytes[at] != '\0')
-        at++;
-    return at == place;
-}
-
 bool reason_of_syntax(struct text *words, const struct text *texts, const struct outcome *o)
 {
     const struct text *reader = &texts[0];
@@ -134,7 +125,8 @@ bool reason_of_syntax(struct text *words, const struct text *texts, const struct
         return false;
     if (has_mark(reader))
         return text_say(words, "the text begins with a byte order mark; it has to be saved as UTF-8 without one");
-    if (!is_blank_before(reader, o->place) && read_on(reader, o, "") == AS_A_WHOLE)
+    /* white space alone is a whole reader too, but no one would say that something stands behind it */
+    if (!blank_before(reader, o->place) && read_on(reader, o, "") == AS_A_WHOLE)
         return text_say(words, "the reader is whole, and nothing may stand behind it");
     return (o->place < reader->length || text_say(words, "the text ends, and ")) && say_next(words, reader, o);
 }

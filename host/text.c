@@ -74,6 +74,19 @@ void text_free(struct text *text)
     text->length = 0;
 }
 
+bool is_blank(uint8_t byte)
+{
+    return byte == ' ' || byte == '\t' || byte == '\n' || byte == '\r';
+}
+
+bool blank_before(const struct text *text, size_t place)
+{
+    size_t at = 0;
+    while (at < place && is_blank(text->bytes[at]))
+        at++;
+    return at == place;
+}
+
 size_t line_end(const struct text *text, size_t at)
 {
     while (at < text->length && text->bytes[at] != '\n')

@@ -24,6 +24,10 @@ bool text_say(struct text *text, const char *words);
 
 void text_free(struct text *text);
 
+/* Whether a byte is white space as JSON has it, and whether nothing else stands before a place. */
+bool is_blank(uint8_t byte);
+bool blank_before(const struct text *text, size_t place);
+
 /* Where the line of a byte ends: its line feed, or the end of the text. */
 size_t line_end(const struct text *text, size_t at);
 

@@ -12,10 +12,9 @@ use Rattle.definitions.specs.Reader.{Place, Result, text-end, place-end, place-
 use Rattle.definitions.specs.Reader.{whole-result, put-place, put-result, depth, place-depth, bindings, place-bindings, step}
 use Rattle.definitions.specs.Reader.{finished-result, finished-place, empty-reader, read-result, read-reader, read-place}
 use Rattle.definitions.specs.Tokens.{Placed, tokens, or-end, read-tokens}
-use Rattle.laws.specs.FormGrammar.{Head, head, Place-form, Result-form, convert-form, keep-form, count-form, each-form, when-form, if-form}
-use Rattle.laws.specs.FormGrammar.{num-form, str-form, yes-form, no-form, none-form, pack-form, place-forms, result-forms, place-levels}
-use Rattle.laws.specs.FormGrammar.{result-levels, Reader-within, one-form, no-token}
-use Rattle.laws.specs.JsonMoves.{ok-injective}
+use Rattle.laws.specs.FormGrammar.{Place-form, Result-form, place-forms, result-forms, place-levels, result-levels}
+use Rattle.laws.specs.FormGrammar.{Reader-within, one-form, no-token}
+use Rattle.laws.specs.JsonMoves.{ok-injective, ok≢refused}
 use Rattle.laws.specs.FormRuns.{Walk, walk-unique, most, Fits, Accepted, read-accepted, read-along}
 use Rattle.laws.specs.ReaderBacks.{walk-right, place-right}
 use Rattle.laws.specs.ReaderDepths.{place-depths, result-depths, depths-place-forms, depths-result-forms, depths-place-levels, depths-result-levels}
@@ -129,35 +128,14 @@ reader-accepted-to l s r e = by-tokens (tokens s) e
     by-tokens [] e = subst (λ q. Reader-within l [] q) (ok-injective e) no-token
     by-tokens (t ∷ ts) e = form-accepted-to l (length s) (t ∷ ts) r e
 
--- a form has tokens: what holds of every list of some holds of its own
-module _ (X : List Placed → Type 0) (of-some : (t : Placed) (ts : List Placed) → X (t ∷ ts)) where
-  head-tokens : {w : Bytes} {p : ℕ} {ts us : List Placed} → Head w p ts us → X ts
-  head-tokens head = of-some _ _
-
-  form-tokens : {k : ℕ} {r : Result} {ts us : List Placed} → Result-form k ts r us → X ts
-  form-tokens (convert-form w h f) = head-tokens h
-  form-tokens (keep-form h f) = head-tokens h
-  form-tokens (count-form h f) = head-tokens h
-  form-tokens (each-form h f g) = head-tokens h
-  form-tokens (when-form h w f g i) = head-tokens h
-  form-tokens (if-form h f g i) = head-tokens h
-  form-tokens (num-form h w) = head-tokens h
-  form-tokens (str-form h) = head-tokens h
-  form-tokens (yes-form h) = head-tokens h
-  form-tokens (no-form h) = head-tokens h
-  form-tokens (none-form h) = head-tokens h
-  form-tokens (pack-form h ps) = head-tokens h
-
--- a right reader within the limits is accepted, with what it means
+-- a right reader within the limits is accepted, with what it means; without a token no form is read
 pub reader-accepted-from : (l : Limits) (s : Bytes) (r : Result) → Reader-within l (tokens s) r → read-reader l s ≡ ok r
-unfolding read-reader read-result empty-reader
+unfolding read-reader read-result empty-reader read-tokens finished-result or-end
 reader-accepted-from l s r w = by-clause w
   where
-    From-start : List Placed → Type 0
-    From-start ts = read-result l (length s) ts ≡ read-tokens step finished-result l 0 (length s) (want (result-open text-end)) ts
-
     by-clause : {ts : List Placed} {q : Result} → Reader-within l ts q → read-result l (length s) ts ≡ ok q
-    by-clause (one-form f a b) = form-tokens From-start (λ t us. refl) f ∙ form-accepted-from l (length s) f a b
+    by-clause {ts = []} (one-form f a b) = absurd (ok≢refused (sym (form-accepted-from l (length s) f a b)))
+    by-clause {ts = t ∷ ts} (one-form f a b) = form-accepted-from l (length s) f a b
     by-clause no-token = refl
 
 -- ---- places
