@@ -13,7 +13,7 @@ enum { MOST_NAMES = 8 };
 static const struct want {
     const char *form, *kinds;
 } wants[] = {
-    {"field", "rec"}, {"int", "int"}, {"dec", "int or dec"}, {"bool", "bool"}, {"text", "text"},
+    {"field", "rec or null"}, {"int", "int"}, {"dec", "int or dec"}, {"bool", "bool"}, {"text", "text"},
     {"count", "list or null"}, {"each", "list or null"}, {"if", "bool"},
 };
 

@@ -38,9 +38,9 @@
  *   (if R R R)                          the second R where the first is true, the third where it is false
  *   (num N) (str "t") (yes) (no) (none) a number, a text, true, false, null
  *   (pack "name" R ...)                 a record of zero or more members, the decoded names distinct
- * K is null, bool, int, num, text, list or rec. A member that a record lacks reads as null. White space and names are as
- * in shapes. A reader has at most the set's bytes, its values as forms, places too, and its nesting. An empty text, or
- * one of JSON's white space only, is a reader too and means (none); it is no shape.
+ * K is null, bool, int, num, text, list or rec. A member that a record lacks reads as null, and so does any member of null.
+ * White space and names are as in shapes. A reader has at most the set's bytes, its values as forms, places too, and its
+ * nesting. An empty text, or one of JSON's white space only, is a reader too and means (none); it is no shape.
  *
  * What it does not do: it allocates nothing, opens nothing, keeps nothing from one call to the next, and touches no
  * memory of the host but what is lent to the call. It has no floating point numbers and no streams: a text is
@@ -341,9 +341,10 @@ uint64_t runvestol_admits(uint64_t bytes, uint64_t values, uint64_t nesting, uin
  * want, and no name that the shape does not list, whatever document the shape admits. Writes the result shape, which admits
  * whatever comes of the reader on such a document.
  *
- * field wants rec and a name that is listed, int, bool and text want their own kind, dec wants int or dec, count and each
- * want list or null, and the first R of if wants bool: a form's place or part may have no other kind there. In the first R
- * of when the value bound has the kinds of K alone, in the second the others, where int stays beside dec.
+ * field wants rec or null and a name that is listed, int, bool and text want their own kind, dec wants int or dec, count and
+ * each want list or null, and the first R of if wants bool: a form's place or part may have no other kind there. Where the
+ * place of field has null, so has what field gives; null alone lists no name. In the first R of when the value bound has the
+ * kinds of K alone, in the second the others, where int stays beside dec.
  *
  *   bytes, values, nesting, steps   the set.
  *   reader, reader_length   text 1, the reader.

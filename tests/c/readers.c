@@ -8,6 +8,7 @@
 /* a shape of every kind, and the same as it is written in a record's member */
 #define ALL "(shape null bool int dec text list rec (shape int) (member \"a\" (shape text)))"
 #define BAY "(shape rec (member \"bay\" (shape null int)))"
+#define MOTOR "(shape rec (member \"motor\" (shape null rec (member \"rpm\" (shape int)))))"
 #define S1 "(shape list (shape rec (member \"bay\" (shape null int dec)) (member \"due\" (shape null text))))"
 
 static const struct table_case cases[] = {
@@ -24,9 +25,21 @@ static const struct table_case cases[] = {
     {"check_refuses_a_name_that_is_not_listed_at_its_field", "check", {"(keep (field \"due\" (it 0)))", BAY},
      REFUSES(UNLISTED_NAME, 1, 6)},
     {"check_refuses_field_of_another_kind_beside_rec", "check",
-     {"(keep (field \"a\" (it 0)))", "(shape null rec (member \"a\" (shape)))"}, REFUSES(UNWANTED_KIND, 1, 6)},
-    {"check_refuses_the_kind_before_the_name_at_one_form", "check", {"(keep (field \"due\" (it 0)))", "(shape null rec)"},
+     {"(keep (field \"a\" (it 0)))", "(shape null text rec (member \"a\" (shape)))"}, REFUSES(UNWANTED_KIND, 1, 6)},
+    {"check_refuses_the_kind_before_the_name_at_one_form", "check", {"(keep (field \"due\" (it 0)))", "(shape null int rec)"},
      REFUSES(UNWANTED_KIND, 1, 6)},
+    {"check_adds_null_to_a_member_where_the_place_has_null", "check", {"(keep (field \"rpm\" (field \"motor\" (it 0))))", MOTOR},
+     WRITES("(shape null int)")},
+    {"check_adds_null_to_a_member_of_no_kind", "check",
+     {"(keep (field \"a\" (it 0)))", "(shape null rec (member \"a\" (shape)))"}, WRITES("(shape null)")},
+    {"check_adds_null_to_a_member_with_its_parts", "check",
+     {"(keep (field \"a\" (it 0)))", "(shape null rec (member \"a\" (shape list rec (shape int) (member \"b\" (shape)))))"},
+     WRITES("(shape null list rec\n (shape int)\n (member \"b\"\n  (shape)))")},
+    {"check_refuses_a_conversion_of_the_null_that_a_member_gained", "check", {"(int (field \"rpm\" (field \"motor\" (it 0))))", MOTOR},
+     REFUSES(UNWANTED_KIND, 1, 0)},
+    {"check_takes_the_null_that_a_member_gained_out_by_when", "check",
+     {"(when null (field \"rpm\" (field \"motor\" (it 0))) (num 0) (int (it 0)))", MOTOR}, WRITES("(shape int)")},
+    {"check_finds_no_name_in_null", "check", {"(keep (field \"a\" (it 0)))", "(shape null)"}, REFUSES(UNLISTED_NAME, 1, 6)},
     {"check_finds_no_name_in_nothing", "check", {"(keep (field \"a\" (it 0)))", "(shape)"}, REFUSES(UNLISTED_NAME, 1, 6)},
     {"check_refuses_the_inner_field_first", "check", {"(int (field \"a\" (field \"b\" (it 0))))", BAY}, REFUSES(UNLISTED_NAME, 1, 16)},
     {"check_goes_outward_by_it", "check",
@@ -147,7 +160,11 @@ static const struct table_case cases[] = {
     {"run_reads_a_member", "run", {"(keep (field \"\\u0061\" (it 0)))", "{\"b\":1,\"a\":[2]}"}, GIVES("[2]", 3)},
     {"run_reads_a_missing_member_as_null", "run", {"(keep (field \"c\" (it 0)))", "{\"b\":1,\"a\":[2]}"}, GIVES("null", 3)},
     {"run_is_stuck_at_field_of_no_record", "run", {"(keep (field \"a\" (it 0)))", "[]"}, REFUSES(STUCK, 1, 6)},
-    {"run_is_stuck_at_field_of_a_missing_member", "run", {"(keep (field \"b\" (field \"a\" (it 0))))", "{}"}, REFUSES(STUCK, 1, 6)},
+    {"run_reads_through_a_missing_member", "run", {"(keep (field \"b\" (field \"a\" (it 0))))", "{}"}, GIVES("null", 4)},
+    {"run_reads_through_null", "run", {"(keep (field \"rpm\" (field \"motor\" (it 0))))", "{\"motor\":null}"}, GIVES("null", 4)},
+    {"run_reads_through_null_as_deep_as_it_goes", "run", {"(count (field \"c\" (field \"b\" (field \"a\" (it 0)))))", "null"}, GIVES("0", 5)},
+    {"run_is_stuck_at_field_of_a_text_in_a_record", "run", {"(keep (field \"b\" (field \"a\" (it 0))))", "{\"a\":\"t\"}"},
+     REFUSES(STUCK, 1, 6)},
     {"run_goes_outward_by_it", "run",
      {"(each (it 0) (each (it 0) (pack \"0\" (keep (it 0)) \"1\" (keep (it 1)) \"2\" (count (it 2)))))", "[[1,\"x\"],[]]"},
      GIVES("[[{\"0\":1,\"1\":[1,\"x\"],\"2\":2},{\"0\":\"x\",\"1\":[1,\"x\"],\"2\":2}],[]]", 20)},

@@ -1,18 +1,18 @@
 -- The bits of tests by their codes. Assumes nothing.
 use Prim.Native.Nat.{ℕ, _-_, _*_, _^_, _%_, _≤_, _<_}
 use mathlib.Core.Path.{_≡_, refl, sym, ap, _∙_}
-use mathlib.Core.Bool.{true, false}
+use mathlib.Core.Bool.{Bool, true, false}
 use native.Mathlib.Omega.{arith}
-use lib.Bits.{bitAnd}
+use lib.Bits.{bitAnd, bitOr}
 use lib.Pow.{pow-mono}
-use Rattle.definitions.specs.Shape.{Kind, among, rank}
+use Rattle.definitions.specs.Shape.{Kind, among, rank, Shape, has}
 use Rattle.definitions.specs.Reader.{Test}
-use Rattle.definitions.specs.Checking.{test-kinds, taken-out}
+use Rattle.definitions.specs.Checking.{gain-null, test-kinds, taken-out}
 use Rattle.shapes.specs.Shapes.{bit, kind-bit, kind-bits, has-bit}
-use Rattle.shapes.specs.ShapesLaws.{has-kind}
+use Rattle.shapes.specs.ShapesLaws.{has-kind, bits-with-null}
 use Rattle.forms.specs.Forms.{test-code}
 use Rattle.forms.specs.FormsLaws.{test-int}
-use Rattle.checking.specs.KindSets.{flags, test-flags, other-flags, cut-bits, out-bits, int-of-decimals, Tells-test, Tells-cut, Tells-out}
+use Rattle.checking.specs.KindSets.{flags, test-flags, other-flags, cut-bits, out-bits, int-of-decimals, Tells-test, Tells-cut, Tells-out, Tells-gain}
 
 -- that of `num`
 pub num-flags : Tells-test 3 12
@@ -95,3 +95,17 @@ int-out kinds test i d k s e f =
     ∙ sym
     (ap (λ (y : Test). kind-bits (taken-out y s)) (test-int k (sym e ∙ i))
     ∙ out-bits Test.int s (λ z. sym (has-kind Kind.dec s) ∙ ap (λ (y : ℕ). has-bit y 8) (sym f) ∙ d))
+
+-- "the member's shape gains null where the place has null"
+null-there : (place : ℕ) (s : Shape) {b : Bool} → place ≡ kind-bits s → has-bit place 1 ≡ b → b ≡ has Kind.null s
+unfolding kind-bit
+null-there place s f h = sym h ∙ ap (λ (y : ℕ). has-bit y 1) f ∙ has-kind Kind.null s
+
+pub null-gained : (kinds place : ℕ) → has-bit place 1 ≡ true → Tells-gain kinds place (bitOr kinds 1)
+unfolding gain-null
+null-gained kinds place h s t e f =
+    ap (λ (y : ℕ). bitOr y 1) e ∙ bits-with-null t ∙ ap (λ (b : Bool). kind-bits (gain-null b t)) (null-there place s f h)
+
+pub none-gained : (kinds place : ℕ) → has-bit place 1 ≡ false → Tells-gain kinds place kinds
+unfolding gain-null
+none-gained kinds place h s t e f = e ∙ ap (λ (b : Bool). kind-bits (gain-null b t)) (null-there place s f h)

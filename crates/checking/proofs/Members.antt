@@ -9,7 +9,7 @@ use lib.Dec.{eqb}
 use lib.ListN.{length, getD}
 use Rattle.definitions.specs.Bytes.{Bytes}
 use Rattle.definitions.specs.Shape.{Kind, Shape, rec-of, Fields, within, record-of, has}
-use Rattle.definitions.specs.Checking.{field-kinds}
+use Rattle.definitions.specs.Checking.{field-kinds, gain-null}
 use Rattle.pool.specs.Pool.{text-in}
 use Rattle.nodes.specs.StandingLaws.{text-referred}
 use Rattle.shapes.specs.Shapes.{kind-bit, has-bit, members-at, size-at}
@@ -18,9 +18,10 @@ use Rattle.shapes.specs.Members.{Listed, Some-listed, Tells, Names}
 use Rattle.shapes.specs.declared.Member.{Member}
 use Rattle.shapes.specs.declared.Member.the-variants as member
 use Rattle.checking.specs.declared.places.Located.the-variants as located
+use Rattle.checking.specs.KindSets.{Tells-gain}
 use Rattle.checking.specs.Bindings.{Bound}
-use Rattle.checking.specs.BindingsLaws.{bound-members, found-bound}
-use Rattle.checking.specs.WantsLaws.{within-told, rec-wanted, field-unmet, field-nothing, field-missing, field-found, rec-there, rec-lacks}
+use Rattle.checking.specs.BindingsLaws.{bound-gained, bound-members, found-bound}
+use Rattle.checking.specs.WantsLaws.{within-told, field-wanted, field-unmet, field-nothing, field-missing, field-found, rec-there, rec-lacks}
 use Rattle.checking.specs.CheckContracts.{Meets-field, Field-asked, Gives-field}
 
 -- whether rec is left
@@ -32,17 +33,17 @@ rec-left {s} h = ap (λ (x : ℕ). has-bit x 64) (sym (h .left)) ∙ has-kind Ki
 pub row-ends : {shapes p : List ℕ} {deep row kinds : ℕ} {s : Shape} → Bound shapes p deep row kinds s → row + size-at shapes row ≤ length shapes
 row-ends h = omega (arith, stands-within (h .stands), stands-size (h .stands))
 
-module _ (shapes pool : List ℕ) (row kinds k place : ℕ) {w : Bool} (told : w ≡ eqb (bitAnd kinds 64) kinds) where
-  among-rec : {p : List ℕ} {deep : ℕ} {s : Shape} → Bound shapes p deep row kinds s → w ≡ within field-kinds s
-  among-rec {s} h = told ∙ within-told field-kinds s kinds 64 (h .left) rec-wanted
+module _ (shapes pool : List ℕ) (row kinds k place : ℕ) {w : Bool} (told : w ≡ eqb (bitAnd kinds 65) kinds) where
+  is-wanted : {p : List ℕ} {deep : ℕ} {s : Shape} → Bound shapes p deep row kinds s → w ≡ within field-kinds s
+  is-wanted {s} h = told ∙ within-told field-kinds s kinds 65 (h .left) field-wanted
 
   pub unmet : w ≡ false → Gives-field shapes pool row kinds k place (located.Refused 9 place)
-  unmet e p deep n s h = field-unmet place n s (sym (among-rec (h .bound)) ∙ e)
+  unmet e p deep n s h = field-unmet place n s (sym (is-wanted (h .bound)) ∙ e)
 
   module _ (met : w ≡ true) {t : Bool} (has-told : t ≡ has-bit kinds 64) where
     pub without : t ≡ false → Gives-field shapes pool row kinds k place (located.Refused 10 place)
     without e p deep n s h =
-        field-nothing place n s (sym (among-rec (h .bound)) ∙ met) (rec-lacks s (sym (rec-left (h .bound)) ∙ sym has-told ∙ e))
+        field-nothing place n s (sym (is-wanted (h .bound)) ∙ met) (rec-lacks s (sym (rec-left (h .bound)) ∙ sym has-told ∙ e))
 
     module _ (there : t ≡ true) where
       fields : {p : List ℕ} {deep : ℕ} {s : Shape} → Bound shapes p deep row kinds s → (fs : Fields) × (record-of s ≡ rec-of fs)
@@ -85,15 +86,16 @@ module _ (shapes pool : List ℕ) (row kinds k place : ℕ) {w : Bool} (told : w
 
           pub member-missing : r ≡ member.Missing → Gives-field shapes pool row kinds k place (located.Refused 10 place)
           member-missing e p deep n s h =
-              field-missing place n s (sym (among-rec (h .bound)) ∙ met) (fields (h .bound) .0) (fields (h .bound) .1) (tells member.Missing e h)
+              field-missing place n s (sym (is-wanted (h .bound)) ∙ met) (fields (h .bound) .0) (fields (h .bound) .1) (tells member.Missing e h)
 
           pub member-found
-              : {at left : ℕ} → r ≡ member.Found at → left ≡ getD shapes at 0 % 128
-              → Gives-field shapes pool row kinds k place (located.At at left)
-          member-found {at} e l p deep n s h =
+              : {at left given : ℕ} → r ≡ member.Found at → left ≡ getD shapes at 0 % 128 → Tells-gain left kinds given
+              → Gives-field shapes pool row kinds k place (located.At at given)
+          member-found {at} e l gains p deep n s h =
               let f = fields (h .bound) in
-              let g = tells (member.Found at) e h in (
-                g .shape,
-                field-found place n s (sym (among-rec (h .bound)) ∙ met) (f .0) (g .shape) (f .1) (g .found),
-                rw l (found-bound n (bound-members (h .bound) (f .0) (f .1)) (g .found) (g .stands)),
+              let g = tells (member.Found at) e h in
+              let b = found-bound n (bound-members (h .bound) (f .0) (f .1)) (g .found) (g .stands) in (
+                gain-null (has Kind.null s) (g .shape),
+                field-found place n s (sym (is-wanted (h .bound)) ∙ met) (f .0) (g .shape) (f .1) (g .found),
+                rw (gains s (g .shape) (l ∙ sym (b .left)) (sym (h .bound .left))) (bound-gained (has Kind.null s) b),
               )

@@ -1,4 +1,5 @@
--- What is bound while a reader is checked: one word a binding, the row of a shape in the shapes table and the kinds that are left of it.
+-- What is bound while a reader is checked: one word a binding, the row of a shape in the shapes table and the kinds that are left of it;
+-- null may be among them where the table has none, behind a `field` that read through null.
 -- Assumes nothing.
 use Prim.Native.Nat.{ℕ, _*_, _+_, _/_, _%_, _≤_, _<_}
 use mathlib.Core.Path.{_≡_}
@@ -10,7 +11,7 @@ use Rattle.definitions.specs.Checking.{element-shape}
 use Rattle.shapes.specs.Shapes.{kind-bits, Stands}
 use Rattle.forms.specs.Forms.{slot}
 
--- s is what these kinds leave of the shape whose rows stand at a row: with list its element, with rec its members
+-- s has these kinds, and what they leave of the shape whose rows stand at a row: with list its element, with rec its members
 pub record Bound (shapes p : List ℕ) (deep row kinds : ℕ) (s : Shape) : Type 0 where
   pub name : ℕ
   pub base : Shape

@@ -12,7 +12,8 @@ use Rattle.definitions.specs.Bytes.{Bytes, same}
 use Rattle.definitions.specs.Shape.{Kind, Shape, shape, no-list, list-of, Record, no-rec, rec-of, Fields, no-fields, field, nothing, find}
 use Rattle.definitions.specs.Shape.{element-of, record-of, ascending, ascending-element, ascending-fields, levels, levels-fields, has-list, has-rec}
 use Rattle.definitions.specs.Reader.{Test}
-use Rattle.definitions.specs.Checking.{stay, cut-to, taken-out, element-shape}
+use Rattle.definitions.specs.Join.{with-null}
+use Rattle.definitions.specs.Checking.{gain-null, stay, cut-to, taken-out, element-shape}
 use Rattle.laws.specs.Bools.{and-left, and-right, clash}
 use Rattle.laws.specs.Fields.{none-some, find-cases, find-none, find-ascending}
 use Rattle.shapes.specs.Shapes.{bit, numeric-bits, kind-bits, Stands, Fields-stand, members-at, size-at}
@@ -58,6 +59,16 @@ bound-nothing h =
       nests = h .nests;
     }
 
+gain-element : (b : Bool) (s : Shape) → element-of (gain-null b s) ≡ element-of s
+unfolding gain-null with-null element-of
+gain-element true (shape n b m t e r) = refl
+gain-element false s = refl
+
+gain-record : (b : Bool) (s : Shape) → record-of (gain-null b s) ≡ record-of s
+unfolding gain-null with-null record-of
+gain-record true (shape n b m t e r) = refl
+gain-record false s = refl
+
 bound-stay
     : {shapes p : List ℕ} {deep row kinds : ℕ} {s : Shape} (kept : Kind → Bool) → Bound shapes p deep row kinds s
     → Bound shapes p deep row (kind-bits (stay kept s)) (stay kept s)
@@ -84,6 +95,23 @@ pub bound-out
     → Bound shapes p deep row (kind-bits (taken-out k s)) (taken-out k s)
 unfolding taken-out
 bound-out k h = bound-stay _ h
+
+-- with null added
+pub bound-gained
+    : {shapes p : List ℕ} {deep row kinds : ℕ} {s : Shape} (b : Bool) → Bound shapes p deep row kinds s
+    → Bound shapes p deep row (kind-bits (gain-null b s)) (gain-null b s)
+unfolding gain-null
+bound-gained {s} b h =
+    record {
+      name = h .name;
+      base = h .base;
+      stands = h .stands;
+      left = refl;
+      element = λ x e. h .element x (sym (gain-element b s) ∙ e);
+      members = λ fs e. h .members fs (sym (gain-record b s) ∙ e);
+      ascends = h .ascends;
+      nests = h .nests;
+    }
 
 -- ---- its element and its members
 

@@ -12,7 +12,7 @@ use Rattle.definitions.specs.Shape.{Kind, among, Numeric, no-number, int-only, 
 use Rattle.definitions.specs.Shape.{Record, Fields, no-rec, rec-of, has, has-int, has-dec, has-list}
 use Rattle.definitions.specs.Shape.{has-rec, within, every, all-kinds, rank, element-of, record-of}
 use Rattle.definitions.specs.Reader.{Test}
-use Rattle.definitions.specs.Checking.{test-kinds, stay, stay-numeric, stay-element, stay-record, cut-to, taken-out}
+use Rattle.definitions.specs.Checking.{gain-null, test-kinds, stay, stay-numeric, stay-element, stay-record, cut-to, taken-out}
 use Rattle.shapes.specs.Shapes.{bit, kind-bits}
 use Rattle.shapes.specs.ShapesLaws.{numeric-sum}
 use Rattle.forms.specs.Forms.{test-code}
@@ -281,3 +281,6 @@ Tells-cut kinds test r = (k : Test) (s : Shape) → test ≡ test-code k → kin
 
 abbrev pub Tells-out : (kinds test r : ℕ) → Type 0
 Tells-out kinds test r = (k : Test) (s : Shape) → test ≡ test-code k → kinds ≡ kind-bits s → r ≡ kind-bits (taken-out k s)
+
+abbrev pub Tells-gain : (kinds place r : ℕ) → Type 0
+Tells-gain kinds place r = (s t : Shape) → kinds ≡ kind-bits t → place ≡ kind-bits s → r ≡ kind-bits (gain-null (has Kind.null s) t)

@@ -7,9 +7,9 @@ use mathlib.Core.Option.{none, some}
 use lib.Bits.{bitAnd}
 use lib.Dec.{eqb}
 use Rattle.definitions.specs.Bytes.{Bytes}
-use Rattle.definitions.specs.Outcome.{Outcome, ok, refused}
+use Rattle.definitions.specs.Outcome.{Outcome, ok, refused, _>>=_}
 use Rattle.definitions.specs.Shape.{Kind, among, rank, Shape, shape, no-rec, rec-of, Fields, find, within, record-of, has, has-rec}
-use Rattle.definitions.specs.Checking.{field-kinds, wants, listed, field-shape}
+use Rattle.definitions.specs.Checking.{field-kinds, wants, listed, gain-null, field-shape}
 use Rattle.laws.specs.Bools.{clash}
 use Rattle.shapes.specs.Shapes.{bit, kind-bits}
 use Rattle.checking.specs.KindSets.{flags, within-bits}
@@ -34,33 +34,39 @@ module _ {A : Type 0} (at : ℕ) (ks : List Kind) (s : Shape) (out : Outcome ℕ
 
 -- ---- members
 
-pub rec-wanted : 64 ≡ wanted field-kinds
+pub field-wanted : 65 ≡ wanted field-kinds
 unfolding flags among rank field-kinds bit
-rec-wanted = refl
+field-wanted = refl
 
 module _ (at : ℕ) (n : Bytes) (s : Shape) where
   pub field-unmet : within field-kinds s ≡ false → field-shape at n s ≡ refused 9 at
   unfolding field-shape
-  field-unmet e = wants-unmet at field-kinds s (listed at n (record-of s)) e
+  field-unmet e = wants-unmet at field-kinds s _ e
 
   module _ (e : within field-kinds s ≡ true) where
-    field-met : field-shape at n s ≡ listed at n (record-of s)
-    unfolding field-shape
-    field-met = wants-met at field-kinds s (listed at n (record-of s)) e
+    -- what is listed, with the null that it gains
+    gained : Outcome ℕ Shape → Outcome ℕ Shape
+    gained o = o >>= λ t. ok (gain-null (has Kind.null s) t)
+
+    field-met : {o : Outcome ℕ Shape} → listed at n (record-of s) ≡ o → field-shape at n s ≡ gained o
+    unfolding field-shape gained
+    field-met l = wants-met at field-kinds s _ e ∙ ap gained l
 
     pub field-nothing : record-of s ≡ no-rec → field-shape at n s ≡ refused 10 at
-    unfolding listed
-    field-nothing r = field-met ∙ ap (λ (x : _). listed at n x) r
+    unfolding listed gained _>>=_
+    field-nothing r = field-met (ap (λ (x : _). listed at n x) r)
 
     pub field-missing : (fs : Fields) → record-of s ≡ rec-of fs → find n fs ≡ none → field-shape at n s ≡ refused 10 at
-    unfolding listed
+    unfolding listed gained _>>=_
     field-missing fs r f =
-        field-met ∙ ap (λ (x : _). listed at n x) r ∙ ap (λ (o : _). elim o [ none ↦ refused 10 at | some t ↦ ok t ]) f
+        field-met (ap (λ (x : _). listed at n x) r ∙ ap (λ (o : _). elim o [ none ↦ refused 10 at | some t ↦ ok t ]) f)
 
-    pub field-found : (fs : Fields) (t : Shape) → record-of s ≡ rec-of fs → find n fs ≡ some t → field-shape at n s ≡ ok t
-    unfolding listed
+    pub field-found
+        : (fs : Fields) (t : Shape) → record-of s ≡ rec-of fs → find n fs ≡ some t
+        → field-shape at n s ≡ ok (gain-null (has Kind.null s) t)
+    unfolding listed gained _>>=_
     field-found fs t r f =
-        field-met ∙ ap (λ (x : _). listed at n x) r ∙ ap (λ (o : _). elim o [ none ↦ refused 10 at | some u ↦ ok u ]) f
+        field-met (ap (λ (x : _). listed at n x) r ∙ ap (λ (o : _). elim o [ none ↦ refused 10 at | some u ↦ ok u ]) f)
 
 -- the members of a shape, if it has rec
 pub rec-there : (s : Shape) → has Kind.rec s ≡ true → (fs : Fields) × (record-of s ≡ rec-of fs)

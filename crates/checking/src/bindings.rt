@@ -1,4 +1,4 @@
-// Bindings: one word each, the row of a shape and the kinds that are left of it.
+// Bindings: one word each, the row of a shape and the kinds that are left of it, or null beside them.
 ghost use mathlib.Core.Path.{_≡_};
 ghost use Prim.Native.Nat.{_/_, _%_, _^_, _<_};
 ghost use lib.ListN.{length, getD, set};

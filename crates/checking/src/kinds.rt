@@ -3,7 +3,7 @@ ghost use mathlib.Core.Path.{_≡_};
 ghost use Prim.Native.Nat.{_<_};
 ghost use lib.Bits.{bitAnd};
 ghost use lib.Dec.{eqb};
-ghost use Rattle.checking.specs.KindSets.{Tells-test, Tells-cut, Tells-out};
+ghost use Rattle.checking.specs.KindSets.{Tells-test, Tells-cut, Tells-out, Tells-gain};
 use shapes::Shape;
 
 // The code of the test `num`; that of every other test is the place of its kind's bit.
@@ -48,4 +48,14 @@ pub fn taken_out(kinds: u64, test: u64) -> u64
         return kinds;
     }
     kinds & (127 - Shape::INT.kinds)
+}
+
+// These kinds, with null where those of the place have it.
+pub fn gain_null(kinds: u64, place: u64) -> u64
+    ensures told { λ r. ⌜ Tells-gain kinds place r ⌝ }
+{
+    if shapes::has(Shape { kinds: place }, Shape::NULL) {
+        return kinds | Shape::NULL.kinds;
+    }
+    kinds
 }

@@ -1,4 +1,4 @@
-// The shape of a place: where it stands, and which kinds are left of it.
+// The shape of a place: where it stands, and which kinds it has.
 ghost use Rattle.checking.specs.CheckContracts.{Field-asked, Gives-field, Place-asked, Gives-place};
 use crate::bindings;
 use crate::kinds;
@@ -12,12 +12,12 @@ pub enum Located {
     Refused { number: u64, place: usize },
 }
 
-// The member of a name of the shape at a row, of which these kinds are left.
+// The member of a name of the shape at a row, of which these kinds are left; it has null where they have.
 fn member(shapes: &[u64], row: usize, kinds: u64, pool: &[u64], name: u64, place: usize) -> Located
     requires { ⌜ Field-asked (now shapes) (now pool) row kinds name ⌝ }
     ensures found { λ r. ⌜ Gives-field (now (shapes .entry)) (now (pool .entry)) row kinds name place r ⌝ }
 {
-    if !kinds::within(kinds, Shape::REC.kinds) {
+    if !kinds::within(kinds, Shape::REC.kinds | Shape::NULL.kinds) {
         return Located::Refused { number: 9, place };
     }
     if !shapes::has(Shape { kinds }, Shape::REC) {
@@ -32,7 +32,7 @@ fn member(shapes: &[u64], row: usize, kinds: u64, pool: &[u64], name: u64, place
     let left = shapes::kinds(shapes, found);
     Located::At {
         row: found,
-        kinds: left.kinds,
+        kinds: kinds::gain_null(left.kinds, kinds),
     }
 }
 

@@ -8,16 +8,16 @@ use lib.ListN.{getD}
 use Rattle.definitions.specs.Bytes.{Bytes}
 use Rattle.definitions.specs.Outcome.{Outcome, ok, refused, _>>=_}
 use Rattle.definitions.specs.Shape.{Kind, among, Numeric, no-number, int-only, int-and-dec, Shape, shape, Element}
-use Rattle.definitions.specs.Shape.{no-list, list-of, Record, no-rec, rec-of, Fields, no-fields, nothing, within}
+use Rattle.definitions.specs.Shape.{no-list, list-of, Record, no-rec, rec-of, Fields, no-fields, nothing, has, within}
 use Rattle.definitions.specs.Shape.{element-of, record-of, find, only-bool, only-numeric, only-text, only-list, only-rec}
-use Rattle.definitions.specs.Join.{join, insert, shape-of}
+use Rattle.definitions.specs.Join.{with-null, join, insert, shape-of}
 use Rattle.definitions.specs.Reader.{Place, Conversion, to-int, to-dec, to-bool, to-text, Test, Result, Pairs, no-pairs, pair}
 
 -- ---- the kinds that each form wants
 
--- "`field` wants kinds within rec"
+-- request Q-2: "Let `field` accept kinds within rec and null."
 unfoldable pub field-kinds : List Kind
-field-kinds = Kind.rec ∷ []
+field-kinds = Kind.rec ∷ Kind.null ∷ []
 
 -- "`int`, `bool`, `text` want kinds within their own ..; `dec` wants kinds within int and dec"
 unfoldable pub convert-kinds : Conversion → List Kind
@@ -45,9 +45,14 @@ unfoldable pub listed : (at : ℕ) → Bytes → Record → Outcome ℕ Shape
 listed at n no-rec = refused 10 at
 listed at n (rec-of fs) = elim (find n fs) [ none ↦ refused 10 at | some s ↦ ok s ]
 
--- "`field` wants kinds within rec and the name listed, and gives that member's shape."
+-- request Q-2: "the member's shape gains null where the place has null"
+unfoldable pub gain-null : Bool → Shape → Shape
+gain-null true s = with-null s
+gain-null false s = s
+
+-- "`field` wants .. the name listed, and gives that member's shape", with null where the place has it
 unfoldable pub field-shape : (at : ℕ) → Bytes → Shape → Outcome ℕ Shape
-field-shape at n s = wants at field-kinds s (listed at n (record-of s))
+field-shape at n s = wants at field-kinds s (listed at n (record-of s) >>= λ t. ok (gain-null (has Kind.null s) t))
 
 -- "and give it; `dec` .. gives both"
 unfoldable pub convert-shape : Conversion → Shape

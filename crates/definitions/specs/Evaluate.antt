@@ -43,9 +43,9 @@ unfolding Limits.standard Limits.smallest Limits.in-range Bytes.bytes Bytes.betw
     Reader.put-place Reader.use-result Reader.put-result Reader.depth Reader.place-depth Reader.binds Reader.bindings Reader.place-bindings Reader.word-number
     Reader.index-fits Reader.among-pairs Reader.pairs-onto Reader.test-words Reader.place-words Reader.result-words Reader.index-step Reader.literal-step
     Reader.pack-step Reader.want-step Reader.step Reader.finished-result Reader.finished-place Reader.empty-reader Reader.read-result Reader.read-reader
-    Reader.read-place Checking.field-kinds Checking.convert-kinds Checking.list-kinds Checking.if-kinds Checking.wants Checking.listed Checking.field-shape
-    Checking.convert-shape Checking.element-shape Checking.test-kinds Checking.stay-numeric Checking.stay-element Checking.stay-record Checking.stay
-    Checking.cut-to Checking.taken-out Checking.check-place Checking.check Checking.check-reader Running.gives Running.enter Running.stuck-unless
+    Reader.read-place Checking.field-kinds Checking.convert-kinds Checking.list-kinds Checking.if-kinds Checking.wants Checking.listed Checking.gain-null
+    Checking.field-shape Checking.convert-shape Checking.element-shape Checking.test-kinds Checking.stay-numeric Checking.stay-element Checking.stay-record
+    Checking.stay Checking.cut-to Checking.taken-out Checking.check-place Checking.check Checking.check-reader Running.gives Running.enter Running.stuck-unless
     Running.member-of Running.members-of Running.field-value Running.converted Running.items-of Running.int-value Running.truth Running.run-place
     Running.run-items Running.run Running.run-reader Operations.refusal Operations.output-short Operations.written Operations.said Operations._>>=_
     Operations.source Operations.in-text Operations.judge-text Operations.judge-both Operations.slices-short Operations.judge-work Operations.judge-limits

@@ -29,14 +29,47 @@ refuses n p = record { answer = refusal n 1 p; output = room }
 
 -- ---- checking
 
--- "at one form 9 before 10": null is no rec, and lists no a
-nine-before-ten : check "(keep (field \"a\" (it 0)))" "(shape null)" ≡ refuses 9 6
+-- "at one form 9 before 10": an int is neither rec nor null, and a isn't listed
+nine-before-ten : check "(keep (field \"a\" (it 0)))" "(shape int rec (member \"b\" (shape int)))" ≡ refuses 9 6
 unfolding evaluate
 nine-before-ten = refl
 
 name-not-listed : check "(keep (field \"b\" (it 0)))" "(shape rec (member \"a\" (shape int)))" ≡ refuses 10 6
 unfolding evaluate
 name-not-listed = refl
+
+-- request Q-2: null is wanted, and "a name that isn't listed still meets 10", on null alone too
+not-listed-on-null : check "(keep (field \"a\" (it 0)))" "(shape null)" ≡ refuses 10 6
+unfolding evaluate
+not-listed-on-null = refl
+
+-- request Q-2: a motor that was null in some samples is read through, and its members gain null
+listed-through-null
+    : check "(keep (field \"rpm\" (field \"motor\" (it 0))))" "(shape rec (member \"motor\" (shape null rec (member \"rpm\" (shape int)))))"
+    ≡ writes "(shape null int)\n" 0
+unfolding evaluate
+listed-through-null = refl
+
+-- one that was null in every sample lists no member
+unlisted-through-null
+    : check "(keep (field \"rpm\" (field \"motor\" (it 0))))" "(shape rec (member \"motor\" (shape null)))" ≡ refuses 10 6
+unfolding evaluate
+unlisted-through-null = refl
+
+-- nothing gains null too
+nothing-gains-null : check "(keep (field \"a\" (it 0)))" "(shape null rec (member \"a\" (shape)))" ≡ writes "(shape null)\n" 0
+unfolding evaluate
+nothing-gains-null = refl
+
+-- where the place has no null, none is gained
+no-null-gained : check "(keep (field \"a\" (it 0)))" "(shape rec (member \"a\" (shape int)))" ≡ writes "(shape int)\n" 0
+unfolding evaluate
+no-null-gained = refl
+
+-- no other kind is let through
+text-has-no-member : check "(keep (field \"a\" (it 0)))" "(shape null text rec (member \"a\" (shape int)))" ≡ refuses 9 6
+unfolding evaluate
+text-has-no-member = refl
 
 -- a part that is refused stops the form before its own kinds are judged: the list of `each` is none here
 part-before-form : check "(each (it 0) (int (it 1)))" "(shape text)" ≡ refuses 9 13
@@ -67,6 +100,25 @@ decimal-is-a-num = refl
 zero-fraction-is-no-int : run standard "(when int (it 0) (yes) (no))" "4.0" ≡ writes "false" 3
 unfolding evaluate
 zero-fraction-is-no-int = refl
+
+-- request Q-2: "On null it reads null", in the steps that a record takes
+reads-through-null : run standard "(keep (field \"rpm\" (field \"motor\" (it 0))))" "{\"motor\":null}" ≡ writes "null" 4
+unfolding evaluate
+reads-through-null = refl
+
+reads-through-record : run standard "(keep (field \"rpm\" (field \"motor\" (it 0))))" "{\"motor\":{\"rpm\":60}}" ≡ writes "60" 4
+unfolding evaluate
+reads-through-record = refl
+
+-- a missing member is null, and read through alike
+reads-through-missing : run standard "(keep (field \"b\" (field \"a\" (it 0))))" "{}" ≡ writes "null" 4
+unfolding evaluate
+reads-through-missing = refl
+
+-- any other kind is stuck, at its field
+stuck-on-text : run standard "(keep (field \"b\" (field \"a\" (it 0))))" "{\"a\":\"t\"}" ≡ refuses 12 6
+unfolding evaluate
+stuck-on-text = refl
 
 -- `each` is stuck behind P and before any R
 each-before-its-result : run standard "(each (it 0) (int (it 1)))" "\"t\"" ≡ refuses 12 0

@@ -39,7 +39,7 @@ unfoldable pub member-of : Bytes → Members → Value
 member-of n no-members = Value.null
 member-of n (member m v ms) = elim (same n m) [ true ↦ v | false ↦ member-of n ms ]
 
--- the members of a record; of anything else none
+-- the members of a record; null has none, and so "on null it reads null" (request Q-2); nor has anything else
 unfoldable pub members-of : Value → Members
 members-of Value.null = no-members
 members-of (Value.bool b) = no-members
@@ -48,7 +48,7 @@ members-of (Value.text t) = no-members
 members-of (Value.list vs) = no-members
 members-of (Value.rec ms) = ms
 
--- "`field` on a non-record .. is stuck"
+-- "`field` on a non-record .. is stuck", but on null
 unfoldable pub field-value : (at : ℕ) → Bytes → Value → Outcome ℕ Value
 field-value at n v = stuck-unless at field-kinds v (ok (member-of n (members-of v)))
 

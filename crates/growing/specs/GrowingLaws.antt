@@ -2,7 +2,7 @@
 use Prim.Native.Nat.{Ordering, Ordering·lt, Ordering·eq, Ordering·gt}
 use mathlib.Core.Path.{_≡_, refl, sym, _∙_, ap, ap₂}
 use mathlib.Core.Logic.{_⊎_, inl, inr}
-use mathlib.Core.Bool.{Bool, true, false, not, _&&_, _||_, or-true, or-false}
+use mathlib.Core.Bool.{Bool, true, false, not, _&&_, _||_, or-false}
 use mathlib.Core.Option.{Option, none, some}
 use Rattle.definitions.specs.Bytes.{Bytes, order, same, found}
 use Rattle.definitions.specs.Shape.{Shape, shape, Element, no-list, list-of, Record, no-rec, rec-of}
@@ -20,11 +20,6 @@ use Rattle.growing.specs.Growing.{with-element, with-fields, element-sta
 use Rattle.growing.specs.Growing.{null-lacked, null-others, named, in-order, join-in}
 
 -- ---- parts
-
-pub null-is : (s : Shape) → join s only-null ≡ with-null s
-unfolding join only-null with-null
-null-is (shape n b m t e r) =
-    λ i. shape (or-true n i) (or-false b i) (numeric-nothing m i) (or-false t i) (element-nothing e i) (record-nothing r i)
 
 null-first : (s : Shape) → join only-null s ≡ with-null s
 unfolding join only-null with-null join-numeric

@@ -8,14 +8,14 @@ use lib.Bits.{bitOr}
 use lib.ListN.{length, getD, take, drop}
 use lib.Seq.{getD-drop}
 use Rattle.definitions.specs.Shape.{Shape, shape, Element, no-list, list-of, Record, no-rec, rec-of, Fields, no-fields}
-use Rattle.definitions.specs.Shape.{nothing, has-list, has-rec, element-of, record-of, only-null, only-list, only-rec, forms}
+use Rattle.definitions.specs.Shape.{nothing, has-list, has-rec, element-of, record-of, only-list, only-rec, forms}
 use Rattle.definitions.specs.Join.{with-null, join, join-element, join-record, join-fields, add-null}
 use Rattle.shapes.specs.Shapes.{head-of, head-word, bit, numeric-bits, kind-bits, size-at, Shape-rows, shape-rows, Element-rows, Record-rows, Stands}
 use Rattle.shapes.specs.ShapesLaws.{kind-bits-lt, union-bits, head-kinds, head-size, stands-kinds, stands-size}
 use Rattle.join.specs.Replacing.{Put}
 use Rattle.join.specs.ReplacingLaws.{Split, split-used, split-put, split-replaced, split-drop, stands-split}
 use Rattle.growing.specs.Growing.{with-element, with-fields}
-use Rattle.growing.specs.GrowingLaws.{null-is, list-is, rec-is}
+use Rattle.growing.specs.GrowingLaws.{list-is, rec-is}
 use Rattle.growing.specs.GrowingForms.{forms-some}
 use Rattle.growing.specs.StepLaws.{split-as}
 
@@ -39,10 +39,6 @@ unfolding element-of record-of
 together (shape n b k t e r) f g = shape-rows f g
 
 -- ---- kinds added
-
-pub bits-with-null : (s : Shape) → bitOr (kind-bits s) 1 ≡ kind-bits (with-null s)
-unfolding kind-bits bit numeric-bits has-list has-rec only-null
-bits-with-null s = union-bits s only-null ∙ ap kind-bits (null-is s)
 
 element-bits : (a c s : Shape) → kind-bits (with-element a s) ≡ kind-bits (with-element c s)
 unfolding kind-bits with-element has-list

@@ -13,14 +13,14 @@ use Rattle.definitions.specs.Join.{with-null}
 use Rattle.laws.specs.FieldsPut.{forms-with-null}
 use Rattle.nodes.specs.Nodes.{Refers}
 use Rattle.shapes.specs.Shapes.{head-of, size-at, Shape-rows, Field-rows, no-field-rows, field-rows, Stands, Fields-stand}
-use Rattle.shapes.specs.ShapesLaws.{length-shape-rows, stands-size, stands-row, fields-end}
+use Rattle.shapes.specs.ShapesLaws.{bits-with-null, length-shape-rows, stands-size, stands-row, fields-end}
 use Rattle.join.specs.Replacing.{Put}
 use Rattle.join.specs.ReplacingLaws.{Split, split-used, split-inner, split-outer, split-stands, replaced-split, split-replaced}
 use Rattle.growing.specs.Growing.{null-if-lacked, null-lacked, null-others}
 use Rattle.growing.specs.GrowingForms.{forms-some}
 use Rattle.growing.specs.Rows.{Room, Meets-fields, Meets-listed, Listed-held, Nulls-listed, Nullable, Nulls}
 use Rattle.growing.specs.StepLaws.{split-as, fields-split}
-use Rattle.growing.specs.HeadLaws.{null-parts, bits-with-null, raise-fits, kinds-put, kept-put}
+use Rattle.growing.specs.HeadLaws.{null-parts, raise-fits, kinds-put, kept-put}
 
 -- ---- one member
 

@@ -9,6 +9,7 @@ use lib.ListN.{length, getD, take, drop}
 use Rattle.definitions.specs.Value.{Value, Items, Members}
 use Rattle.definitions.specs.Shape.{Numeric, Shape, shape, element-of, record-of, forms}
 use Rattle.definitions.specs.Join.{shape-of, numeric-of}
+use Rattle.laws.specs.JoinLaws.{join-null}
 use Rattle.nodes.specs.Nodes.{kind-code}
 use Rattle.nodes.specs.Standing.{Value-stands}
 use Rattle.plain.specs.Table.{Bounded-numbers}
@@ -17,7 +18,6 @@ use Rattle.shapes.specs.ShapesLaws.{union-bits, stands-row}
 use Rattle.join.specs.Replacing.{Put, Becomes}
 use Rattle.join.specs.declared.Joined.{Joined}
 use Rattle.growing.specs.Rows.{Room}
-use Rattle.growing.specs.GrowingLaws.{null-is}
 use Rattle.infer.specs.Infer.{with-bool, with-numeric, with-text, infer-into}
 use Rattle.infer.specs.InferLaws.{bool-is, numeric-is, text-is, infer-is}
 use Rattle.infer.specs.Inferring.{Meets, Infers, Joins}
@@ -78,7 +78,7 @@ scalar-parts (Value.rec ms) s h = absurd (let z : ⊥ = omega arith in z)
 
 scalar-bits : (v : Value) (s : Shape) → kind-code v < 5 → bitOr (kind-bits s) (kind-bits (shape-of v)) ≡ kind-bits (infer-into v s)
 unfolding infer-into kind-code shape-of
-scalar-bits Value.null s h = union-bits s _ ∙ ap kind-bits (null-is s)
+scalar-bits Value.null s h = union-bits s _ ∙ ap kind-bits (join-null s)
 scalar-bits (Value.bool b) s h = union-bits s _ ∙ ap kind-bits (bool-is s)
 scalar-bits (Value.number x) s h = union-bits s _ ∙ ap kind-bits (numeric-is (numeric-of x) s)
 scalar-bits (Value.text t) s h = union-bits s _ ∙ ap kind-bits (text-is s)

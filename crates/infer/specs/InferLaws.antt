@@ -10,11 +10,11 @@ use Rattle.definitions.specs.Join.{join-numeric, numeric-of, join, join-element
 use Rattle.laws.specs.Bools.{and-left, and-right, and-three, and-intro}
 use Rattle.laws.specs.Distinct.{distinct, distinct-items, distinct-members}
 use Rattle.laws.specs.OrderInduction.{ascending-of-element, ascending-of-record}
-use Rattle.laws.specs.JoinLaws.{nothing-ascending, join-nothing-right, join-assoc, join-ascending}
+use Rattle.laws.specs.JoinLaws.{nothing-ascending, join-nothing-right, join-null, join-assoc, join-ascending}
 use Rattle.laws.specs.JoinLaws.{shape-of-ascending, numeric-nothing, element-nothing, record-nothing}
 use Rattle.shapes.specs.AsMany.{All-listed}
 use Rattle.growing.specs.Growing.{element-start, fields-start, member-start, place, null-others, named, in-order, join-in}
-use Rattle.growing.specs.GrowingLaws.{null-is, list-is, rec-is, element-joined, element-start-ascending, apart, rising}
+use Rattle.growing.specs.GrowingLaws.{list-is, rec-is, element-joined, element-start-ascending, apart, rising}
 use Rattle.growing.specs.GrowingLaws.{named-field, place-ascending, place-same, joined-named, others-same}
 use Rattle.growing.specs.GrowingLaws.{fields-start-ascending, member-start-ascending, records-joined}
 use Rattle.infer.specs.Infer.{with-bool, with-numeric, with-text, infer-into, infer-items, infer-members}
@@ -92,7 +92,7 @@ mutual
   unfolding infer-into shape-of distinct shapes-of join-in
 
   pub infer-is : (v : Value) (s : Shape) → ascending s ≡ true → distinct v ≡ true → infer-into v s ≡ join s (shape-of v)
-  infer-is Value.null s i d = sym (null-is s)
+  infer-is Value.null s i d = sym (join-null s)
   infer-is (Value.bool b) s i d = sym (bool-is s)
   infer-is (Value.number x) s i d = sym (numeric-is (numeric-of x) s)
   infer-is (Value.text t) s i d = sym (text-is s)

@@ -1,4 +1,4 @@
--- The rules of checking as relations, in the words of document 01: which shape a form gives, and where and with which number
+-- The rules of checking as relations, in the words of documents 01 and 02: which shape a form gives, and where and with which number
 -- it is refused. A clause is a sentence of the paper; none goes by way of the functions that check. Assumes nothing.
 use Prim.Native.Nat.{ℕ}
 use mathlib.Core.Path.{_≡_}
@@ -10,7 +10,7 @@ use Rattle.definitions.specs.Bytes.{Bytes}
 use Rattle.definitions.specs.Value.{Value}
 use Rattle.definitions.specs.Shape.{Kind, among, int-only, int-and-dec, Shape, no-list, list-of, no-rec, rec-of, Fields, no-fields}
 use Rattle.definitions.specs.Shape.{nothing, has, within, element-of, record-of, find, only-bool, only-numeric, only-text, only-list, only-rec}
-use Rattle.definitions.specs.Join.{join, insert, shape-of}
+use Rattle.definitions.specs.Join.{with-null, join, insert, shape-of}
 use Rattle.definitions.specs.Reader.{Place, Conversion, Test, Result, Pairs, no-pairs, pair}
 
 -- ---- what the forms want and bind
@@ -22,6 +22,11 @@ pub data Listed (n : Bytes) (s : Shape) : Shape → Type 0 where
 pub data Unlisted (n : Bytes) (s : Shape) : Type 0 where
   no-members : record-of s ≡ no-rec → Unlisted n s
   no-such-name : {fs : Fields} → record-of s ≡ rec-of fs → find n fs ≡ none → Unlisted n s
+
+-- request Q-2: "the member's shape gains null where the place has null"
+pub data Gains-null (s t : Shape) : Shape → Type 0 where
+  gained : has Kind.null s ≡ true → Gains-null s t (with-null t)
+  none-gained : has Kind.null s ≡ false → Gains-null s t t
 
 -- what each conversion wants and gives
 pub data Converts : Conversion → List Kind → Shape → Type 0 where
@@ -71,10 +76,10 @@ pub record Taken-out (ks : List Kind) (s t : Shape) : Type 0 where
 pub data Place-checks (env : List Shape) : Place → Shape → Type 0 where
   -- "`(it N)`, the N-th binding outward, 0 innermost"
   checks-it : {at n : ℕ} → Place-checks env (Place.it at n) (getD env n nothing)
-  -- "`field` wants kinds within rec and the name listed, and gives that member's shape."
+  -- "`field` wants .. the name listed, and gives that member's shape.", and of request Q-2: "Let `field` accept kinds within rec and null."
   checks-field
-      : {at : ℕ} {n : Bytes} {p : Place} {s t : Shape} → Place-checks env p s → within (Kind.rec ∷ []) s ≡ true → Listed n s t
-      → Place-checks env (Place.field at n p) t
+      : {at : ℕ} {n : Bytes} {p : Place} {s t u : Shape} → Place-checks env p s → within (Kind.rec ∷ Kind.null ∷ []) s ≡ true → Listed n s t
+      → Gains-null s t u → Place-checks env (Place.field at n p) u
 
 mutual
   pub data Checks : List Shape → Result → Shape → Type 0 where
@@ -121,11 +126,11 @@ pub data Place-refuses (env : List Shape) : Place → (number place : ℕ) → T
       : {at m q : ℕ} {n : Bytes} {p : Place} → Place-refuses env p m q → Place-refuses env (Place.field at n p) m q
   -- 9: "a kind not wanted", "place of form"
   field-kind
-      : {at : ℕ} {n : Bytes} {p : Place} {s : Shape} → Place-checks env p s → within (Kind.rec ∷ []) s ≡ false
+      : {at : ℕ} {n : Bytes} {p : Place} {s : Shape} → Place-checks env p s → within (Kind.rec ∷ Kind.null ∷ []) s ≡ false
       → Place-refuses env (Place.field at n p) 9 at
-  -- 10: "name not listed"; "at one form 9 before 10"
+  -- 10: "name not listed"; "at one form 9 before 10"; of request Q-2: "A name that isn't listed still meets 10."
   field-name
-      : {at : ℕ} {n : Bytes} {p : Place} {s : Shape} → Place-checks env p s → within (Kind.rec ∷ []) s ≡ true → Unlisted n s
+      : {at : ℕ} {n : Bytes} {p : Place} {s : Shape} → Place-checks env p s → within (Kind.rec ∷ Kind.null ∷ []) s ≡ true → Unlisted n s
       → Place-refuses env (Place.field at n p) 10 at
 
 mutual

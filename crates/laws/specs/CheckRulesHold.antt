@@ -2,19 +2,19 @@
 use Prim.Native.Nat.{ℕ}
 use mathlib.Core.Path.{_≡_, refl, ap, _∙_}
 use mathlib.Core.Logic.{_⊎_, inl, inr, _↔_}
-use mathlib.Core.Bool.{true, false}
+use mathlib.Core.Bool.{Bool, true, false}
 use mathlib.Core.List.{List, [], _∷_}
 use mathlib.Core.Option.{Option, none, some}
 use Rattle.definitions.specs.Bytes.{Bytes}
 use Rattle.definitions.specs.Outcome.{Outcome, ok, refused}
-use Rattle.definitions.specs.Shape.{Kind, Shape, Record, no-rec, rec-of, Fields, within, element-of, record-of, find}
+use Rattle.definitions.specs.Shape.{Kind, Shape, Record, no-rec, rec-of, Fields, has, within, element-of, record-of, find}
 use Rattle.definitions.specs.Reader.{Place, Conversion, Result, Pairs, no-pairs, pair}
-use Rattle.definitions.specs.Checking.{field-kinds, convert-kinds, convert-shape, list-kinds, if-kinds, wants, listed, field-shape}
+use Rattle.definitions.specs.Checking.{field-kinds, convert-kinds, convert-shape, list-kinds, if-kinds, wants, listed, gain-null, field-shape}
 use Rattle.definitions.specs.Checking.{element-shape, cut-to, taken-out, check-place, check, check-pairs, check-reader}
 use Rattle.laws.specs.RuleTells.{Tells, gave, stopped, told, told-refused, tells-map, tells-bind, tells-wants, bind-ok, bind-refused}
 use Rattle.laws.specs.RuleTells.{wants-met, wants-unmet}
-use Rattle.laws.specs.CheckRules.{Listed, is-listed, Unlisted, no-members, no-such-name, Converts, Place-checks, checks-it, checks-field}
-use Rattle.laws.specs.CheckRules.{Checks, checks-convert, checks-keep, checks-count, checks-each, checks-when, checks-if}
+use Rattle.laws.specs.CheckRules.{Listed, is-listed, Unlisted, no-members, no-such-name, Gains-null, gained, none-gained, Converts, Place-checks}
+use Rattle.laws.specs.CheckRules.{checks-it, checks-field, Checks, checks-convert, checks-keep, checks-count, checks-each, checks-when, checks-if}
 use Rattle.laws.specs.CheckRules.{checks-literal, checks-pack}
 use Rattle.laws.specs.CheckRules.{Pairs-check, checks-no-pairs, checks-pair, Place-refuses, field-part, field-kind, field-name}
 use Rattle.laws.specs.CheckRules.{Refuses, convert-part}
@@ -29,25 +29,48 @@ use Rattle.laws.specs.CheckRulesKinds.{converts, converts-as, element-is
 abbrev Place-tells : List Shape → Place → Outcome ℕ Shape → Type 0
 Place-tells env p o = Tells (Place-checks env p) (Place-refuses env p) o
 
+-- where the name is listed with a shape, and where it is not
 listed-tells
-    : {env : List Shape} (at : ℕ) (n : Bytes) {p : Place} {s : Shape} → Place-checks env p s → within field-kinds s ≡ true
-    → (r : Record) → record-of s ≡ r → Place-tells env (Place.field at n p) (listed at n r)
-unfolding listed field-kinds
-listed-tells at n d w no-rec e = stopped (field-name d w (no-members e))
-listed-tells {env} at n {p} {s} d w (rec-of fs) e = go (find n fs) refl
+    : (at : ℕ) (n : Bytes) (s : Shape) (r : Record) → record-of s ≡ r
+    → Tells (Listed n s) (λ m q. (m ≡ 10) × (q ≡ at) × Unlisted n s) (listed at n r)
+unfolding listed
+listed-tells at n s no-rec e = stopped (refl, refl, no-members e)
+listed-tells at n s (rec-of fs) e = go (find n fs) refl
   where
     go
         : (o : Option Shape) → find n fs ≡ o
-        → Place-tells env (Place.field at n p) (elim o [ none ↦ refused 10 at | some t ↦ ok t ])
-    go none f = stopped (field-name d w (no-such-name e f))
-    go (some t) f = gave (checks-field d w (is-listed e f))
+        → Tells (Listed n s) (λ m q. (m ≡ 10) × (q ≡ at) × Unlisted n s) (elim o [ none ↦ refused 10 at | some t ↦ ok t ])
+    go none f = stopped (refl, refl, no-such-name e f)
+    go (some t) f = gave (is-listed e f)
+
+null-gains : (s t : Shape) (b : Bool) → has Kind.null s ≡ b → Gains-null s t (gain-null b t)
+unfolding gain-null
+null-gains s t true e = gained e
+null-gains s t false e = none-gained e
+
+gains-as : {s t u : Shape} → Gains-null s t u → gain-null (has Kind.null s) t ≡ u
+unfolding gain-null
+gains-as {t = t} (gained e) = ap (λ b. gain-null b t) e
+gains-as {t = t} (none-gained e) = ap (λ b. gain-null b t) e
+
+field-tells
+    : {env : List Shape} (at : ℕ) (n : Bytes) {p : Place} {s : Shape} → Place-checks env p s
+    → Place-tells env (Place.field at n p) (field-shape at n s)
+unfolding field-shape field-kinds
+field-tells {env} at n {p} {s} d =
+    tells-wants at field-kinds s (λ w. field-kind d w) λ w.
+    tells-bind (listed-tells at n s (record-of s) refl) (λ m q x. unlisted w x) λ t h.
+    gave (checks-field d w h (null-gains s t (has Kind.null s) refl))
+  where
+    unlisted
+        : within field-kinds s ≡ true → {m q : ℕ} → (m ≡ 10) × (q ≡ at) × Unlisted n s
+        → Place-refuses env (Place.field at n p) m q
+    unlisted w (e, f, u) = rw (e, f) (field-name d w u)
 
 place-tells : (p : Place) (env : List Shape) → Place-tells env p (check-place p env)
-unfolding check-place field-shape field-kinds
+unfolding check-place
 place-tells (Place.it at n) env = gave checks-it
-place-tells (Place.field at n p) env =
-    tells-bind (place-tells p env) (λ m q x. field-part x) λ s d.
-    tells-wants at field-kinds s (λ w. field-kind d w) λ w. listed-tells at n d w (record-of s) refl
+place-tells (Place.field at n p) env = tells-bind (place-tells p env) (λ m q x. field-part x) λ s d. field-tells at n d
 
 mutual
   unfolding check list-kinds if-kinds
@@ -97,14 +120,15 @@ unlisted-refused {n} at (no-such-name e f) = ap (listed at n) e ∙ rw (f, liste
 place-gives : {env : List Shape} {p : Place} {s : Shape} → Place-checks env p s → check-place p env ≡ ok s
 unfolding check-place field-shape field-kinds
 place-gives checks-it = refl
-place-gives (checks-field {at} {s = s} d w l) = bind-ok _ (place-gives d) ∙ wants-met at field-kinds s _ w ∙ listed-gives at l
+place-gives (checks-field {at} {s = s} d w l g) =
+    bind-ok _ (place-gives d) ∙ wants-met at field-kinds s _ w ∙ bind-ok _ (listed-gives at l) ∙ ap ok (gains-as g)
 
 place-refused : {env : List Shape} {p : Place} {m q : ℕ} → Place-refuses env p m q → check-place p env ≡ refused m q
 unfolding check-place field-shape field-kinds
 place-refused (field-part x) = bind-refused _ (place-refused x)
 place-refused (field-kind {at} {s = s} d w) = bind-ok _ (place-gives d) ∙ wants-unmet at field-kinds s _ w
 place-refused (field-name {at} {s = s} d w u) =
-    bind-ok _ (place-gives d) ∙ wants-met at field-kinds s _ w ∙ unlisted-refused at u
+    bind-ok _ (place-gives d) ∙ wants-met at field-kinds s _ w ∙ bind-refused _ (unlisted-refused at u)
 
 -- with a shape bound that the rules name
 bound

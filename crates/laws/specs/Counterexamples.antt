@@ -16,7 +16,7 @@ use Rattle.definitions.specs.Json.{read-json}
 use Rattle.definitions.specs.Plain.{plain}
 use Rattle.definitions.specs.Shape.{Shape, no-fields, field, rec-of, ascending, only-null, only-numeric, int-only, only-text, only-rec}
 use Rattle.definitions.specs.Order.{below}
-use Rattle.definitions.specs.Join.{shape-of}
+use Rattle.definitions.specs.Join.{with-null, shape-of}
 use Rattle.definitions.specs.Admits.{admits}
 use Rattle.definitions.specs.ShapeText.{read-shape}
 use Rattle.definitions.specs.Reader.{Place, Result, Conversion}
@@ -31,6 +31,7 @@ use Rattle.laws.specs.Tree.{Tree, no-trees, tree, meaning, Numbers-fit, 
 use Rattle.laws.specs.Good.{Good-value, good-null, good-rec, good-member, good-no-members}
 use Rattle.laws.specs.Readers.{scoped, scoped-place, proper}
 use Rattle.laws.specs.Chain.{Each, each-none, each-one, Call, start, infers, takes, left-by, accepted, reached, Reordered, swap-first}
+use Rattle.laws.specs.OldField.{old-field-shape, check-place-by, check-by, old-check-reader, old-field-value, run-place-by, run-by, old-run-reader}
 
 -- ---- values and shapes that serve below
 
@@ -265,3 +266,18 @@ long-blank-reader-is-too-long h =
     let e = ap (λ (d : Done). d .answer .number) (h standard (replicate 16385 0x20) (spaces 16385) (lit≤ tt) (bytes "(shape)") []) in
     let z : Path ℕ 2 15 = e in
     omega arith
+
+-- ---- reading through null
+
+unfoldable pub field-a : Result
+field-a = Result.keep 0 (Place.field 6 (bytes "a") (Place.it 17 0))
+
+-- not every check is what it was: it was 9 where the place has null
+pub null-was-not-wanted : ((r : Result) (s : Shape) → check-reader r s ≡ old-check-reader r s) → ⊥
+unfolding evaluate old-check-reader check-by check-place-by old-field-shape field-a int-shape with-a
+null-was-not-wanted h = clash {n = 9} {p = 6} (h field-a (with-null with-a)) refl
+
+-- not every run: it was stuck on null
+pub null-was-not-read : ((r : Result) (l : Limits) (v : Value) → run-reader r l v ≡ old-run-reader r l v) → ⊥
+unfolding evaluate old-run-reader run-by run-place-by old-field-value field-a
+null-was-not-read h = clash {n = 12} {p = 6} (h field-a standard Value.null) refl

@@ -1,12 +1,12 @@
 -- The join is the least upper bound of two shapes, hence commutative, associative and idempotent; names ascend in it and
 -- in the shape of a value. Assumes nothing.
 use mathlib.Core.Path.{_≡_, refl}
-use mathlib.Core.Bool.{true, or-false}
+use mathlib.Core.Bool.{true, or-true, or-false}
 use Rattle.definitions.specs.Value.{Value, Items, no-items, item, Members, no-members, member}
 use Rattle.definitions.specs.Shape.{Numeric, no-number, int-only, int-and-dec, Shape, shape, Element, no-list, list-of, Record, no-rec, rec-of}
 use Rattle.definitions.specs.Shape.{nothing, only-null, only-bool, only-numeric, only-text, only-list, only-rec, ascending, ascending-fields}
 use Rattle.definitions.specs.Order.{below}
-use Rattle.definitions.specs.Join.{join, join-numeric, join-element, join-record, shape-of, join-items, fields-of}
+use Rattle.definitions.specs.Join.{with-null, join, join-numeric, join-element, join-record, shape-of, join-items, fields-of}
 use Rattle.laws.specs.Bools.{and-intro}
 use Rattle.laws.specs.FieldsPut.{insert-ascending}
 use Rattle.laws.specs.OrderLaws.{below-refl, below-trans, below-antisym}
@@ -44,6 +44,11 @@ unfolding join nothing
 join-nothing-right (shape n b m t e r) =
     λ i.
     shape (or-false n i) (or-false b i) (numeric-nothing m i) (or-false t i) (element-nothing e i) (record-nothing r i)
+
+pub join-null : (s : Shape) → join s only-null ≡ with-null s
+unfolding join only-null with-null
+join-null (shape n b m t e r) =
+    λ i. shape (or-true n i) (or-false b i) (numeric-nothing m i) (or-false t i) (element-nothing e i) (record-nothing r i)
 
 -- ---- a lattice
 

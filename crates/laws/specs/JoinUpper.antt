@@ -45,7 +45,7 @@ with-null-record : (s : Shape) → record-of (with-null s) ≡ record-of s
 unfolding record-of with-null
 with-null-record (shape n b m t e r) = refl
 
-with-null-kinds : (s : Shape) → Kinds s (with-null s)
+pub with-null-kinds : (s : Shape) → Kinds s (with-null s)
 unfolding has with-null
 with-null-kinds (shape n b m t e r) Kind.null h = refl
 with-null-kinds (shape n b m t e r) Kind.bool h = h

@@ -146,3 +146,7 @@ pub mod Larger
 pub mod Positives
 pub mod LargerLimits
 pub mod BlankReaders
+pub mod OldField
+pub mod OldOperations
+pub mod ThroughNull
+pub mod ThroughNullOperations

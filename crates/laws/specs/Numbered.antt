@@ -87,7 +87,7 @@ unfolding check-place field-shape
 numbered-place (Place.it at n) env = tt
 numbered-place (Place.field at n p) env =
     numbered-bind (check-place p env) _ (numbered-place p env) λ s.
-    numbered-wants at field-kinds s _ (numbered-listed at n (record-of s))
+    numbered-wants at field-kinds s _ (numbered-bind (listed at n (record-of s)) _ (numbered-listed at n (record-of s)) λ t. tt)
 
 mutual
   unfolding check

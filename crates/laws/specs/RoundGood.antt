@@ -12,7 +12,7 @@ use Rattle.laws.specs.Good.{good-list, good-rec, Good-items, good-no-ite
 
 -- ---- join
 
-with-null-good : {s : Shape} → Good-shape s → Good-shape (with-null s)
+pub with-null-good : {s : Shape} → Good-shape s → Good-shape (with-null s)
 unfolding with-null
 with-null-good (good-shape e r) = good-shape e r
 

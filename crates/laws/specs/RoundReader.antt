@@ -7,15 +7,15 @@ use mathlib.Core.Option.{Option, none, some, Option·none-ne-some, Option·some-
 use lib.ListN.{getD}
 use Rattle.definitions.specs.Bytes.{Bytes, same}
 use Rattle.definitions.specs.Outcome.{Outcome, ok, refused}
-use Rattle.definitions.specs.Shape.{Kind, Shape, Element, Record, Fields, nothing, within, element-of}
+use Rattle.definitions.specs.Shape.{Kind, Shape, Element, Record, Fields, nothing, has, within, element-of}
 use Rattle.definitions.specs.Shape.{record-of, find, only-bool, only-numeric, only-text, only-list, only-rec}
 use Rattle.definitions.specs.Reader.{Place, Conversion, to-int, to-dec, to-bool, to-text, Test, Result, Pairs}
-use Rattle.definitions.specs.Checking.{wants, listed, field-shape, field-kinds, list-kinds, if-kinds, convert-kinds, convert-shape, element-shape}
-use Rattle.definitions.specs.Checking.{stay-element, stay-record, stay, cut-to, taken-out, check-place, check, check-pairs, check-reader}
+use Rattle.definitions.specs.Checking.{wants, listed, gain-null, field-shape, field-kinds, list-kinds, if-kinds, convert-kinds, convert-shape}
+use Rattle.definitions.specs.Checking.{element-shape, stay-element, stay-record, stay, cut-to, taken-out, check-place, check, check-pairs, check-reader}
 use Rattle.laws.specs.Good.{Good-shape, good-shape, Good-element, good-no-list, good-list-of, Good-record, good-no-rec}
 use Rattle.laws.specs.Good.{good-rec-of, Good-fields, good-no-fields, good-field, Good-reader, good-convert, good-keep, good-count}
 use Rattle.laws.specs.Good.{good-each, good-when, good-choose, good-literal, good-pack, Good-pairs, good-no-pairs, good-pair}
-use Rattle.laws.specs.RoundGood.{join-good, nothing-good, insert-good, shape-of-good}
+use Rattle.laws.specs.RoundGood.{with-null-good, join-good, nothing-good, insert-good, shape-of-good}
 use Rattle.laws.specs.RoundOutcome.{Gives, gives-ok, gives-refused, gives-holds, gives-then, gives-if}
 
 -- ---- checking
@@ -98,11 +98,17 @@ listed-gives at n (good-rec-of {fs} g) = told (find n fs) (find-good n g)
     told none h = gives-refused
     told (some s) h = gives-ok (h s refl)
 
+gain-good : (b : Bool) {s : Shape} → Good-shape s → Good-shape (gain-null b s)
+unfolding gain-null
+gain-good true g = with-null-good g
+gain-good false g = g
+
 check-place-gives : (p : Place) (env : List Shape) → Good-shapes env → Gives Good-shape (check-place p env)
 unfolding check-place field-shape
 check-place-gives (Place.it at n) env g = gives-ok (getD-good g n)
 check-place-gives (Place.field at n p) env g =
-    gives-then (check-place-gives p env g) (λ s h. wants-gives at field-kinds s (listed-gives at n (record-of-good h)))
+    gives-then (check-place-gives p env g) λ s h.
+    wants-gives at field-kinds s (gives-then (listed-gives at n (record-of-good h)) λ t k. gives-ok (gain-good (has Kind.null s) k))
 
 mutual
   unfolding check only-numeric only-list only-rec

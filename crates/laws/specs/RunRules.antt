@@ -1,4 +1,4 @@
--- The rules of running as relations, in the words of document 01: which value a form gives and how many steps are counted
+-- The rules of running as relations, in the words of documents 01 and 02: which value a form gives and how many steps are counted
 -- then, where it is stuck and where the steps run out. A clause is a sentence of the paper; none goes by way of the functions
 -- that run. Assumes nothing.
 use Prim.Native.Nat.{ℕ, suc, _<_, _≤_}
@@ -32,6 +32,8 @@ pub data Member (n : Bytes) : Members → Value → Type 0 where
 
 pub data Field (n : Bytes) : Value → Value → Type 0 where
   of-record : {ms : Members} {v : Value} → Member n ms v → Field n (Value.rec ms) v
+  -- request Q-2: "On null it reads null."
+  through-null : Field n Value.null Value.null
 
 -- what `count` counts and `each` goes through
 pub data Elements : Value → Items → Type 0 where
@@ -132,10 +134,10 @@ module _ (l : Limits) where
     field-part
         : {n at m q : ℕ} {name : Bytes} {p : Place} → Enters n → Place-halts env (suc n) p m q
         → Place-halts env n (Place.field at name p) m q
-    -- "`field` on a non-record .. is stuck, at that form."
+    -- "`field` on a non-record .. is stuck, at that form.", but on null
     field-stuck
-        : {n at m : ℕ} {name : Bytes} {p : Place} {v : Value} → Enters n → Place-runs env (suc n) p v m → Is-not (Kind.rec ∷ []) v
-        → Place-halts env n (Place.field at name p) 12 at
+        : {n at m : ℕ} {name : Bytes} {p : Place} {v : Value} → Enters n → Place-runs env (suc n) p v m
+        → Is-not (Kind.rec ∷ Kind.null ∷ []) v → Place-halts env n (Place.field at name p) 12 at
 
   mutual
     pub data Halts : List Value → (n : ℕ) → Result → (number place : ℕ) → Type 0 where

@@ -16,7 +16,7 @@ use Rattle.definitions.specs.Running.{enter, stuck-unless, member-of, members-o
 use Rattle.laws.specs.Bools.{clash}
 use Rattle.laws.specs.Tests.{ltb-lt, ltb-le, le-ltb}
 use Rattle.laws.specs.RuleTells.{Tells, stopped, tells-either}
-use Rattle.laws.specs.RunRules.{Is, Is-not, Member, missing, this, later, Field, of-record, Elements, of-list, of-null}
+use Rattle.laws.specs.RunRules.{Is, Is-not, Member, missing, this, later, Field, of-record, through-null, Elements, of-list, of-null}
 
 -- ---- what the forms read of a value
 
@@ -46,22 +46,24 @@ number-not x ks i d = go (is-int x)
     go true = i
     go false = d
 
-pub field-is : (n : Bytes) (v : Value) → Is (Kind.rec ∷ []) v → Field n v (member-of n (members-of v))
-unfolding kind-of among rank members-of
-field-is n Value.null e = absurd (false≢true e)
+pub field-is : (n : Bytes) (v : Value) → Is (Kind.rec ∷ Kind.null ∷ []) v → Field n v (member-of n (members-of v))
+unfolding kind-of among rank members-of member-of
+field-is n Value.null e = through-null
 field-is n (Value.bool b) e = absurd (false≢true e)
-field-is n (Value.number x) e = clash e (number-not x (Kind.rec ∷ []) refl refl)
+field-is n (Value.number x) e = clash e (number-not x (Kind.rec ∷ Kind.null ∷ []) refl refl)
 field-is n (Value.text t) e = absurd (false≢true e)
 field-is n (Value.list vs) e = absurd (false≢true e)
 field-is n (Value.rec ms) e = of-record (member-is n ms)
 
-pub field-kind : {n : Bytes} {v w : Value} → Field n v w → Is (Kind.rec ∷ []) v
+pub field-kind : {n : Bytes} {v w : Value} → Field n v w → Is (Kind.rec ∷ Kind.null ∷ []) v
 unfolding kind-of among rank
 field-kind (of-record h) = refl
+field-kind through-null = refl
 
 pub field-as : {n : Bytes} {v w : Value} → Field n v w → member-of n (members-of v) ≡ w
-unfolding members-of
+unfolding members-of member-of
 field-as (of-record h) = member-as h
+field-as through-null = refl
 
 pub elements-is : (v : Value) → Is (Kind.list ∷ Kind.null ∷ []) v → Elements v (items-of v)
 unfolding kind-of among rank items-of

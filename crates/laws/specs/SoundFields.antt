@@ -7,15 +7,17 @@ use mathlib.Core.Bool.{Bool, true, false, _&&_, _||_, false≢true}
 use mathlib.Core.Option.{Option, none, some}
 use Rattle.definitions.specs.Bytes.{Bytes, order, same}
 use Rattle.definitions.specs.Value.{Value, Members, no-members, member, has-name}
-use Rattle.definitions.specs.Shape.{Kind, rank, among, Shape, Record, no-rec, rec-of, Fields, no-fields, field, has, record-of, find, ascending-fields}
-use Rattle.definitions.specs.Join.{insert}
+use Rattle.definitions.specs.Shape.{Kind, rank, among, Shape, shape, Record, no-rec, rec-of, Fields, no-fields, field, has, element-of, record-of, find}
+use Rattle.definitions.specs.Shape.{ascending-fields}
+use Rattle.definitions.specs.Join.{with-null, insert}
 use Rattle.definitions.specs.Admits.{kind-of, missing-have-null, admits, admitted, admitted-members}
-use Rattle.definitions.specs.Checking.{field-kinds}
+use Rattle.definitions.specs.Checking.{field-kinds, gain-null}
 use Rattle.definitions.specs.Running.{member-of, members-of}
 use Rattle.laws.specs.Bools.{and-left, and-right, and-intro, or-cases, or-left, or-right, or-false-left, or-false-right}
 use Rattle.laws.specs.Names.{same-refl, same-eq, same-sym}
 use Rattle.laws.specs.Fields.{none-some, some-same, find-here, find-there, find-none}
 use Rattle.laws.specs.FieldsPut.{find-insert-here, find-insert-there}
+use Rattle.laws.specs.JoinUpper.{with-null-has, with-null-kinds}
 use Rattle.laws.specs.Bools.{and-two}
 use Rattle.laws.specs.SoundKinds.{number-kind}
 
@@ -66,13 +68,28 @@ pub member-admitted
     → find n fs ≡ some u → admitted (member-of n ms) u ≡ true
 member-admitted n ms fs u h l e = member-admitted-from n ms fs u h e (lacked-find ms n fs u l e)
 
+-- null added takes nothing away
+with-null-admits : (v : Value) (s : Shape) → admitted v s ≡ true → admitted v (with-null s) ≡ true
+unfolding admitted has element-of record-of with-null
+with-null-admits Value.null (shape n b m t e r) h = refl
+with-null-admits (Value.bool b) (shape n c m t e r) h = h
+with-null-admits (Value.number x) s h = with-null-kinds s (kind-of (Value.number x)) h
+with-null-admits (Value.text t) (shape n b m u e r) h = h
+with-null-admits (Value.list vs) (shape n b m t e r) h = h
+with-null-admits (Value.rec ms) (shape n b m t e r) h = h
+
+gain-admits : (b : Bool) (v : Value) (s : Shape) → admitted v s ≡ true → admitted v (gain-null b s) ≡ true
+unfolding gain-null
+gain-admits false v s h = h
+gain-admits true v s h = with-null-admits v s h
+
 -- what `field` reads out of an admitted value
 pub field-admits
     : (n : Bytes) (v : Value) (s : Shape) (fs : Fields) (u : Shape) → admits s v ≡ true
     → among (kind-of v) field-kinds ≡ true → record-of s ≡ rec-of fs → find n fs ≡ some u
-    → admits u (member-of n (members-of v)) ≡ true
-unfolding admits admitted kind-of among rank field-kinds members-of
-field-admits n Value.null s fs u h k r e = absurd (false≢true k)
+    → admits (gain-null (has Kind.null s) u) (member-of n (members-of v)) ≡ true
+unfolding admits admitted kind-of among rank field-kinds members-of member-of gain-null
+field-admits n Value.null s fs u h k r e = ap (λ b. has Kind.null (gain-null b u)) h ∙ with-null-has u
 field-admits n (Value.bool b) s fs u h k r e = absurd (false≢true k)
 field-admits n (Value.number x) s fs u h k r e =
     absurd (number-kind (λ j. among j field-kinds ≡ true → ⊥) x false≢true false≢true k)
@@ -80,7 +97,7 @@ field-admits n (Value.text t) s fs u h k r e = absurd (false≢true k)
 field-admits n (Value.list vs) s fs u h k r e = absurd (false≢true k)
 field-admits n (Value.rec ms) s fs u h k r e =
     let d = and-two (admitted-members ms fs) (missing-have-null ms fs) there in
-    member-admitted n ms fs u (d .0) (d .1) e
+    gain-admits (has Kind.null s) (member-of n ms) u (member-admitted n ms fs u (d .0) (d .1) e)
   where
     there : admitted-members ms fs && missing-have-null ms fs ≡ true
     there = subst (λ (x : Record). elim x [ no-rec ↦ false | rec-of gs ↦ admitted-members ms gs && missing-have-null ms gs ] ≡ true) r h

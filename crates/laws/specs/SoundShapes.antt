@@ -1,18 +1,18 @@
 -- The shapes that a check meets and gives have their names ascending. Assumes nothing.
 use Prim.Native.Nat.{ℕ, zero, suc}
 use mathlib.Core.Path.{_≡_, refl, sym, _∙_, ap}
-use mathlib.Core.Bool.{true}
+use mathlib.Core.Bool.{Bool, true, false}
 use mathlib.Core.List.{List, [], _∷_}
 use lib.ListN.{getD}
 use Rattle.definitions.specs.Outcome.{ok}
-use Rattle.definitions.specs.Shape.{Shape, shape, no-list, list-of, nothing, element-of, record-of, ascending, ascending-record}
+use Rattle.definitions.specs.Shape.{Kind, Shape, shape, no-list, list-of, nothing, has, element-of, record-of, ascending, ascending-record}
 use Rattle.definitions.specs.Shape.{ascending-fields, only-numeric, only-bool, only-text, only-list, only-rec}
 use Rattle.definitions.specs.Reader.{Place, Conversion, to-int, to-dec, to-bool, to-text, Result, Pairs, no-pairs, pair}
-use Rattle.definitions.specs.Checking.{field-kinds, convert-kinds, list-kinds, if-kinds, field-shape, convert-shape}
+use Rattle.definitions.specs.Checking.{field-kinds, convert-kinds, list-kinds, if-kinds, gain-null, field-shape, convert-shape}
 use Rattle.definitions.specs.Checking.{element-shape, cut-to, taken-out, check-place, check, check-pairs, check-reader}
 use Rattle.laws.specs.Bools.{and-left, and-intro}
 use Rattle.laws.specs.Fields.{find-ascending}
-use Rattle.laws.specs.FieldsPut.{insert-ascending}
+use Rattle.laws.specs.FieldsPut.{with-null-ascending, insert-ascending}
 use Rattle.laws.specs.OrderInduction.{ascending-of-record}
 use Rattle.laws.specs.JoinLaws.{join-ascending, shape-of-ascending}
 use Rattle.laws.specs.SoundHolds.{Holds, gave, any, holds-of, holds-bind, holds-wants, holds-listed}
@@ -47,13 +47,19 @@ convert-ascending to-dec = refl
 convert-ascending to-bool = refl
 convert-ascending to-text = refl
 
+gain-ascending : (b : Bool) (s : Shape) → ascending s ≡ true → ascending (gain-null b s) ≡ true
+unfolding gain-null
+gain-ascending true s h = with-null-ascending s h
+gain-ascending false s h = h
+
 pub place-ascending : (p : Place) (env : List Shape) → Ascends env → Holds any Rises (check-place p env)
 unfolding check-place field-shape ascending
 place-ascending (Place.it at k) env a = gave (a k)
 place-ascending (Place.field at n p) env a =
     holds-bind (place-ascending p env a) λ s h.
     holds-wants at field-kinds s λ w.
-    holds-listed at n (record-of s) λ fs u r e. find-ascending fs n u (ap ascending-record (sym r) ∙ ascending-of-record s h) e
+    holds-bind (holds-listed at n (record-of s) λ fs u r e. find-ascending fs n u (ap ascending-record (sym r) ∙ ascending-of-record s h) e) λ u i.
+    gave (gain-ascending (has Kind.null s) u i)
 
 mutual
   unfolding check ascending only-numeric only-list only-rec

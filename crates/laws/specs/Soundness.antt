@@ -4,16 +4,17 @@ use Prim.Native.Nat.{ℕ, zero, suc}
 use mathlib.Core.Path.{_≡_, refl, sym, _∙_}
 use mathlib.Core.Bool.{true, not, _&&_, false≢true}
 use mathlib.Core.List.{List, [], _∷_}
+use mathlib.Core.Option.{some}
 use lib.Dec.{ltb, leb·suc-zero, leb·suc-suc}
 use lib.ListN.{getD}
 use Rattle.definitions.specs.declared.Limits.{Limits}
 use Rattle.definitions.specs.Outcome.{Outcome, ok, refused}
 use Rattle.definitions.specs.Value.{Value, Items, no-items, item, count}
-use Rattle.definitions.specs.Shape.{among, Shape, nothing, element-of, record-of, ascending, only-list, only-rec}
+use Rattle.definitions.specs.Shape.{Kind, among, Shape, rec-of, Fields, nothing, has, find, element-of, record-of, ascending, only-list, only-rec}
 use Rattle.definitions.specs.Join.{join}
 use Rattle.definitions.specs.Admits.{kind-of, missing-have-null, admits, admitted, admitted-items, admitted-members}
 use Rattle.definitions.specs.Reader.{Place, Result, Pairs, no-pairs, pair, among-pairs}
-use Rattle.definitions.specs.Checking.{field-kinds, convert-kinds, list-kinds, if-kinds, field-shape, element-shape}
+use Rattle.definitions.specs.Checking.{field-kinds, convert-kinds, list-kinds, if-kinds, gain-null, field-shape, element-shape}
 use Rattle.definitions.specs.Checking.{cut-to, taken-out, check-place, check, check-pairs, check-reader, test-kinds}
 use Rattle.definitions.specs.Running.{Ran, gives, field-value, converted, items-of, run-place, run-items, run, run-pairs, run-reader}
 use Rattle.laws.specs.Bools.{and-intro, not-true}
@@ -64,12 +65,15 @@ place-sound (Place.it at k) m env c = gave λ vs g l n. holds-bind (holds-enter 
 place-sound (Place.field at i p) m env c =
     holds-bind (place-sound p m env c) λ s f.
     holds-wants at field-kinds s λ w.
-    holds-listed at i (record-of s) λ fs u r e vs g l n.
+    holds-bind {P = λ u. (fs : Fields) × (record-of s ≡ rec-of fs) × (find i fs ≡ some u)}
+    (holds-listed at i (record-of s) λ fs u r e. (fs, r, e)) λ u (fs, r, e).
+    gave λ vs g l n.
     holds-bind (holds-enter l at n refl) λ n₁ h.
     holds-bind (f vs g l n₁) λ x h₁.
     let v = x .result in
     let k = within-kind field-kinds s v w h₁ in
-    holds-bind {P = λ y. admits u y ≡ true} (holds-unstuck at field-kinds v k (gave (field-admits i v s fs u h₁ k r e))) λ y h₂.
+    holds-bind {P = λ y. admits (gain-null (has Kind.null s) u) y ≡ true}
+    (holds-unstuck at field-kinds v k (gave (field-admits i v s fs u h₁ k r e))) λ y h₂.
     gave h₂
 
 items-sound

@@ -1,8 +1,8 @@
 -- The promises of `definitions`, each tied to its demand (document 00). Everything that a reader has to believe of the
 -- theorems stands here and in what these statements name: `definitions`, the grammars (Rfc3629, Rfc8259, TokenGrammar, FormGrammar), the
 -- causes (Causes, FormCauses, OperationCauses), the rules of checking and running (CheckRules, RunRules), trees and what fits (Tree), values of the
--- paper (Distinct, Good, Readers) and the chain of calls (Chain, AnswerWords, HostChain). They hold for every set of limits where no range is named.
--- Theorems proves them. Assumes nothing.
+-- paper (Distinct, Good, Readers), the chain of calls (Chain, AnswerWords, HostChain) and what `field` was (OldField, OldOperations).
+-- They hold for every set of limits where no range is named. Theorems proves them. Assumes nothing.
 use Prim.Native.Nat.{ℕ, _≤_, _<_}
 use mathlib.Core.Path.{_≡_}
 use mathlib.Core.Logic.{_⊎_, _↔_}
@@ -25,7 +25,7 @@ use Rattle.definitions.specs.Tokens.{Placed, tokens}
 use Rattle.definitions.specs.ShapeText.{read-shape, write-shape}
 use Rattle.definitions.specs.Reader.{Result, read-reader}
 use Rattle.definitions.specs.Checking.{check-reader}
-use Rattle.definitions.specs.Running.{Ran, run-reader}
+use Rattle.definitions.specs.Running.{Ran, field-value, run-reader}
 use Rattle.definitions.specs.Operations.{Done, Source, Judged, refusal, slices-short, prelude, Text-out, finish, say, plain-operation, infer-operation}
 use Rattle.definitions.specs.Operations.{join-operation, below-operation, admits-operation, check-operation, run-operation}
 use Rattle.definitions.specs.Calls.{Called, answer-words, answered, call, quiet, buffer-published, buffer-lent, plain-call, infer-call, join-call}
@@ -47,6 +47,9 @@ use Rattle.laws.specs.OperationCauses.{Refused-with-the-first, Plain-cau
 use Rattle.laws.specs.OperationCauses.{Check-cause, Run-cause}
 use Rattle.laws.specs.AnswerWords.{In-word, Words-of}
 use Rattle.laws.specs.HostChain.{Infer-call, handed-on, Call-ends, Demand-3-over-calls}
+use Rattle.laws.specs.OldField.{old-check-reader, Null-not-wanted, old-run-reader, Stuck-on-null}
+use Rattle.laws.specs.OldOperations.{old-check-operation, old-run-operation, old-check-call, old-run-call, Meets-null-checked, Meets-null}
+use Rattle.laws.specs.OldOperations.{Unless-met, Unless-met-called}
 
 -- ---- documents: demand 2, "Documents are read as RFC 8259 and RFC 3629 define them"
 
@@ -463,3 +466,35 @@ pub record Blank-readers-mean-none : Type 0 where
   pub by-run-call
       : (l : Limits) (reader : Bytes) → ws reader [] → length reader ≤ l .bytes → (source : Source) (document output buffer : Bytes)
       → run-call source l reader document output buffer ≡ run-call source l (bytes "(none)") document output buffer
+
+-- ---- request Q-2: reading through null
+
+-- "Every reader that passed before passes with the same result shape, and each run that ended gives its old bytes. A run that stuck here on null
+-- goes on". Before is document 01's `field` (OldField): by it the outcome of a check is what it was, unless a `field` met a place with null and
+-- refused it with 9, and that of a run what it was, unless a `field` met null and was stuck; and so every operation and every C call, whole
+pub record Reads-through-null : Type 0 where
+  pub passes : (r : Result) (s t : Shape) → old-check-reader r s ≡ ok t → check-reader r s ≡ ok t
+  pub checked : (r : Result) (s : Shape) → (check-reader r s ≡ old-check-reader r s) ⊎ ((p : ℕ) × Null-not-wanted r s p)
+  pub was-unwanted : (r : Result) (s : Shape) (p : ℕ) → Null-not-wanted r s p → old-check-reader r s ≡ refused 9 p
+  -- with its old steps too
+  pub ends : (r : Result) (l : Limits) (v : Value) (x : Ran Value) → old-run-reader r l v ≡ ok x → run-reader r l v ≡ ok x
+  pub ran : (r : Result) (l : Limits) (v : Value) → (run-reader r l v ≡ old-run-reader r l v) ⊎ ((p : ℕ) × Stuck-on-null r l v p)
+  pub was-stuck : (r : Result) (l : Limits) (v : Value) (p : ℕ) → Stuck-on-null r l v p → old-run-reader r l v ≡ refused 12 p
+  -- "On null it reads null."
+  pub on-null : (at : ℕ) (n : Bytes) → field-value at n Value.null ≡ ok Value.null
+  pub by-check
+      : (l : Limits) (reader shape output : Bytes) (published lent : List ℕ)
+      → Unless-met 9 (Meets-null-checked l reader shape) output (old-check-operation published lent l reader shape output)
+      (check-operation published lent l reader shape output)
+  pub by-run
+      : (source : Source) (l : Limits) (reader document output : Bytes) (published lent : List ℕ)
+      → Unless-met 12 (Meets-null source l reader document) output (old-run-operation source published lent l reader document output)
+      (run-operation source published lent l reader document output)
+  pub by-check-call
+      : (l : Limits) (reader shape output buffer : Bytes)
+      → Unless-met-called 9 (Meets-null-checked l reader shape) output buffer (old-check-call l reader shape output buffer)
+      (check-call l reader shape output buffer)
+  pub by-run-call
+      : (source : Source) (l : Limits) (reader document output buffer : Bytes)
+      → Unless-met-called 12 (Meets-null source l reader document) output buffer (old-run-call source l reader document output buffer)
+      (run-call source l reader document output buffer)

@@ -43,7 +43,9 @@ use Rattle.laws.specs.Statements.{Calls-are-operations, Answers-read-bac
 use Rattle.laws.specs.LargerLimits.{json-reads-on, operations-go-on, calls-go-on}
 use Rattle.laws.specs.BlankReaders.{no-token-blank, blank-reads, none-runs, none-checks, check-alike, run-alike, check-call-alike, run-call-alike}
 use Rattle.laws.specs.Statements.{Only-the-steps-run-out, Results-handed-on, Larger-sets-go-on-from-every-source, Larger-sets-go-on}
-use Rattle.laws.specs.Statements.{Blank-readers-mean-none}
+use Rattle.laws.specs.ThroughNull.{passes-again, checked-before, was-unwanted, ends-again, ran-before, was-stuck, reads-null}
+use Rattle.laws.specs.ThroughNullOperations.{check-before, run-before, check-call-before, run-call-before}
+use Rattle.laws.specs.Statements.{Blank-readers-mean-none, Reads-through-null}
 
 -- ---- reading
 
@@ -227,4 +229,22 @@ blank-readers-mean-none =
       by-run = run-alike;
       by-check-call = check-call-alike;
       by-run-call = run-call-alike;
+    }
+
+-- ---- request Q-2: reading through null
+
+pub reads-through-null : Reads-through-null
+reads-through-null =
+    record {
+      passes = passes-again;
+      checked = checked-before;
+      was-unwanted = was-unwanted;
+      ends = ends-again;
+      ran = ran-before;
+      was-stuck = was-stuck;
+      on-null = reads-null;
+      by-check = check-before;
+      by-run = run-before;
+      by-check-call = check-call-before;
+      by-run-call = run-call-before;
     }

@@ -21,7 +21,8 @@ use Rattle.running.specs.Bindings.{Bound, standing}
 use Rattle.running.specs.BindingsLaws.{bound-kind, binds-at, slot-within}
 use Rattle.running.specs.Codes.{Is-it, is-it, it-of}
 use Rattle.running.specs.Members.{Record-at, Some-record}
-use Rattle.running.specs.PlaceLaws.{place-stops, it-given, field-of, field-entered, field-refused, field-stuck, Is-rec, is-rec, rec-of-kind, field-given}
+use Rattle.running.specs.PlaceLaws.{place-stops, it-given, field-of, field-entered, field-refused, field-stuck, field-through, Is-rec, is-rec}
+use Rattle.running.specs.PlaceLaws.{rec-of-kind, field-given}
 use Rattle.running.specs.PlaceLaws.{place-stands-at}
 use Rattle.running.specs.Walk.{Meets-place, Place-ready, Seen-at, Sees, Sees-place}
 
@@ -158,16 +159,34 @@ module _ {forms nodes pool bindings : List ℕ} {limit row : ℕ} where
           subst (Sees (run-place (k .inner) l env (steps + 1)) nodes p limit (steps + 1)) e (s .told l p (k .inner) env (k .meets))
 
       pub stuck
-          : {place : ℕ} → (kind ≡ 6 → ⊥) → place ≡ getD forms row 0 / 2048 % 65536
+          : {place : ℕ} → (kind ≡ 0 → ⊥) → (kind ≡ 6 → ⊥) → place ≡ getD forms row 0 / 2048 % 65536
           → Sees-place forms nodes pool bindings limit row steps (Seen-is.Refused 12 place)
-      stuck n g =
+      stuck z n g =
           record {
             told = λ l p q env m.
                 let k = field-parts q m f in
                 let x = seen k in
                 entered k h
-                ∙ field-stuck (k .at) (k .name) (x .value) behind (x .ran) (λ z. n (kinded ∙ bound-kind (x .bound) ∙ z))
+                ∙ field-stuck (k .at) (k .name) (x .value) behind (x .ran) (λ c. z (kinded ∙ bound-kind (x .bound) ∙ c))
+                (λ c. n (kinded ∙ bound-kind (x .bound) ∙ c))
                 ∙ ap (refused 12) (sym (g ∙ k .placed));
+          }
+
+      -- null is left where it stands
+      pub through : kind ≡ 0 → Sees-place forms nodes pool bindings limit row steps (Seen-is.At at behind)
+      through z =
+          record {
+            told = λ l p q env m.
+                let k = field-parts q m f in
+                let x = seen k in
+                record {
+                  value = x .value;
+                  ran =
+                      entered k h ∙ field-through (k .at) (k .name) (x .value) behind (x .ran) (sym (kinded ∙ bound-kind (x .bound)) ∙ z);
+                  bound = x .bound;
+                  counted = omega (arith, x .counted);
+                  left = x .left;
+                };
           }
 
       pub some-record : kind ≡ 6 → Place-ready forms nodes pool bindings limit row steps → Some-record nodes pool at

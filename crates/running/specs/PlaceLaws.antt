@@ -61,12 +61,12 @@ unfolding _>>=_
 field-refused at m e = ap (field-of at m) e
 
 pub field-stuck
-    : (at : ℕ) (m : Bytes) (v : Value) (n : ℕ) {o : Outcome ℕ (Ran Value)} → o ≡ gives v n → (kind-code v ≡ 6 → ⊥)
-    → field-of at m o ≡ refused 12 at
+    : (at : ℕ) (m : Bytes) (v : Value) (n : ℕ) {o : Outcome ℕ (Ran Value)} → o ≡ gives v n → (kind-code v ≡ 0 → ⊥)
+    → (kind-code v ≡ 6 → ⊥) → field-of at m o ≡ refused 12 at
 unfolding gives _>>=_ field-value stuck-unless kind-code kind-of among rank field-kinds
-field-stuck at m Value.null n e f = ap (field-of at m) e
-field-stuck at m (Value.bool b) n e f = ap (field-of at m) e
-field-stuck at m (Value.number x) n e f = ap (field-of at m) e ∙ go (is-int x)
+field-stuck at m Value.null n e z f = absurd (z refl)
+field-stuck at m (Value.bool b) n e z f = ap (field-of at m) e
+field-stuck at m (Value.number x) n e z f = ap (field-of at m) e ∙ go (is-int x)
   where
     go : (b : Bool)
         → _>>=_ {P = ℕ} {A = Value} {B = Ran Value} (elim (among (elim b [ true ↦ Kind.int | false ↦ Kind.dec ]) field-kinds) [
@@ -76,9 +76,21 @@ field-stuck at m (Value.number x) n e f = ap (field-of at m) e ∙ go (is-int x)
         ≡ refused 12 at
     go true = refl
     go false = refl
-field-stuck at m (Value.text t) n e f = ap (field-of at m) e
-field-stuck at m (Value.list vs) n e f = ap (field-of at m) e
-field-stuck at m (Value.rec ms) n e f = absurd (f refl)
+field-stuck at m (Value.text t) n e z f = ap (field-of at m) e
+field-stuck at m (Value.list vs) n e z f = ap (field-of at m) e
+field-stuck at m (Value.rec ms) n e z f = absurd (f refl)
+
+-- "On null it reads null."
+pub field-through
+    : (at : ℕ) (m : Bytes) (v : Value) (n : ℕ) {o : Outcome ℕ (Ran Value)} → o ≡ gives v n → kind-code v ≡ 0 → field-of at m o ≡ gives v n
+unfolding gives _>>=_ field-value stuck-unless kind-code kind-of among rank field-kinds member-of members-of
+field-through at m Value.null n e z = ap (field-of at m) e
+field-through at m (Value.bool true) n e z = absurd (let y : ⊥ = omega (arith, z) in y)
+field-through at m (Value.bool false) n e z = absurd (let y : ⊥ = omega (arith, z) in y)
+field-through at m (Value.number x) n e z = absurd (let y : ⊥ = omega (arith, z) in y)
+field-through at m (Value.text t) n e z = absurd (let y : ⊥ = omega (arith, z) in y)
+field-through at m (Value.list vs) n e z = absurd (let y : ⊥ = omega (arith, z) in y)
+field-through at m (Value.rec ms) n e z = absurd (let y : ⊥ = omega (arith, z) in y)
 
 pub data Is-rec : Value → Type 0 where
   is-rec : {ms : Members} → Is-rec (Value.rec ms)

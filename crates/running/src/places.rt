@@ -61,7 +61,11 @@ pub fn run_place(
     else {
         return inner;
     };
-    if nodes::row_kind(nodes, at) != nodes::RECORD {
+    let kind = nodes::row_kind(nodes, at);
+    if kind == nodes::NULL {
+        return inner; // on null it reads null
+    }
+    if kind != nodes::RECORD {
         let place = forms::place(forms, row);
         return Seen::Refused { number: 12, place };
     }

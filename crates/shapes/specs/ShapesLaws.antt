@@ -13,8 +13,10 @@ use lib.ListN.{length, drop, getD, length-append, length-drop}
 use lib.Seq.{drop-at, drop-append-seam}
 use Rattle.definitions.specs.Bytes.{Bytes}
 use Rattle.definitions.specs.Shape.{Kind, Numeric, no-number, int-only, int-and-dec, Shape, shape, Element, no-list, list-of, Record, no-rec, rec-of}
-use Rattle.definitions.specs.Shape.{Fields, no-fields, field, has, has-int, has-dec, has-list, has-rec, forms, forms-element, forms-record, forms-fields}
-use Rattle.definitions.specs.Join.{join-numeric, join, join-element, join-record}
+use Rattle.definitions.specs.Shape.{Fields, no-fields, field, has, has-int, has-dec, has-list, has-rec, only-null}
+use Rattle.definitions.specs.Shape.{forms, forms-element, forms-record, forms-fields}
+use Rattle.definitions.specs.Join.{with-null, join-numeric, join, join-element, join-record}
+use Rattle.laws.specs.JoinLaws.{join-null}
 use Rattle.nodes.specs.Nodes.{Refers}
 use Rattle.nodes.specs.NodesLaws.{refers-grow, getD-row, drop-row}
 use Rattle.shapes.specs.Shapes.{kind-bit, bit, numeric-bits, kind-bits, has-bit, head-word, Shape-rows, shape-rows}
@@ -283,6 +285,10 @@ union-bits (shape n b m t e r) (shape n′ b′ m′ t′ e′ r′) =
     (omega arith)
     six
     (or-rec r r′)
+
+pub bits-with-null : (s : Shape) → bitOr (kind-bits s) 1 ≡ kind-bits (with-null s)
+unfolding kind-bits bit numeric-bits has-list has-rec only-null
+bits-with-null s = union-bits s only-null ∙ ap kind-bits (join-null s)
 
 -- ---- the first word
 

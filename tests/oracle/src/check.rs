@@ -14,16 +14,16 @@ fn form(part: &Form, bound: &mut Vec<Shape>) -> Result<Shape, Refusal> {
     match &part.body {
         Body::Convert(kinds, at) => {
             let given = place(at, bound)?;
-            want(part.at, given, *kinds)?;
+            want(part.at, &given, *kinds)?;
             Ok(Shape::of_kinds(*kinds))
         }
-        Body::Keep(at) => Ok(place(at, bound)?.clone()),
+        Body::Keep(at) => place(at, bound),
         Body::Count(at) => {
-            want_list(part.at, place(at, bound)?)?;
+            want_list(part.at, &place(at, bound)?)?;
             Ok(Shape::of_kinds(Kinds::INT))
         }
         Body::Each(at, result) => {
-            let given = place(at, bound)?.clone();
+            let given = place(at, bound)?;
             let element = given.element.as_deref().cloned().unwrap_or_default();
             let result = form_with(result, element, bound)?;
             // The form itself comes last, though its cause may be plain before.
@@ -31,7 +31,7 @@ fn form(part: &Form, bound: &mut Vec<Shape>) -> Result<Shape, Refusal> {
             Ok(Shape::list(result))
         }
         Body::When(case, at, first, second) => {
-            let (taken, left) = split(*case, place(at, bound)?);
+            let (taken, left) = split(*case, &place(at, bound)?);
             let first = form_with(first, taken, bound)?;
             let second = form_with(second, left, bound)?;
             Ok(join(first, second))
@@ -66,13 +66,13 @@ fn pack(pairs: &[(Vec<u8>, Form)], bound: &mut Vec<Shape>) -> Result<Shape, Refu
     Ok(Shape::record(members))
 }
 
-fn place<'a>(part: &Place, bound: &'a [Shape]) -> Result<&'a Shape, Refusal> {
+fn place(part: &Place, bound: &[Shape]) -> Result<Shape, Refusal> {
     match &part.spot {
-        Spot::It(outward) => Ok(&bound[bound.len() - 1 - outward]),
+        Spot::It(outward) => Ok(bound[bound.len() - 1 - outward].clone()),
         Spot::Field(name, inner) => {
             let given = place(inner, bound)?;
-            want(part.at, given, Kinds::REC)?;
-            match given.member(name) {
+            want(part.at, &given, Kinds::FIELD)?;
+            match given.field(name) {
                 Some(member) => Ok(member),
                 None => refuse(10, part.at),
             }

@@ -103,6 +103,7 @@ impl Machine {
                     let member = found.map(|(_, value)| Rc::clone(value));
                     Ok(member.unwrap_or(Rc::new(Value::Null)))
                 }
+                Value::Null => Ok(Rc::new(Value::Null)),
                 _ => refuse(12, part.at),
             },
         }

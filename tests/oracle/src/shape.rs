@@ -19,6 +19,8 @@ impl Kinds {
     pub const REC: Kinds = Kinds(64);
     /// int and dec, the kinds of a decimal's shape
     pub const NUM: Kinds = Kinds(12);
+    /// rec and null, the kinds that `field` wants
+    pub const FIELD: Kinds = Kinds(65);
 
     /// The words of the kinds in the order in which they are written.
     pub const WORDS: [(&'static str, Kinds); 7] = [
@@ -99,6 +101,15 @@ impl Shape {
         let order = |member: &Member| member.name.as_slice().cmp(name);
         let at = self.members.binary_search_by(order).ok()?;
         Some(&self.members[at].shape)
+    }
+
+    /// What `field` gives: the shape of the member, with null where this one has it.
+    pub fn field(&self, name: &[u8]) -> Option<Shape> {
+        let member = self.member(name)?.clone();
+        match self.has_null() {
+            true => Some(member.with_null()),
+            false => Some(member),
+        }
     }
 
     /// Cuts the shape to some kinds; the element goes with list, the members

@@ -59,9 +59,17 @@ fn nothing_passes_every_conversion_and_has_no_member() {
 }
 
 #[test]
-fn field_wants_a_record_before_it_wants_the_name() {
+fn field_wants_a_record_or_null_before_it_wants_the_name() {
     let reader = b"(keep (field \"a\" (it 0)))";
-    refuses(Check, reader, b"(shape null rec)", (9, 1, 6));
+    refuses(Check, reader, b"(shape int rec)", (9, 1, 6));
+    refuses(
+        Check,
+        reader,
+        b"(shape null text rec (member \"a\" (shape)))",
+        (9, 1, 6),
+    );
+    refuses(Check, reader, b"(shape null rec)", (10, 1, 6));
+    refuses(Check, reader, b"(shape null)", (10, 1, 6));
     refuses(Check, reader, b"(shape rec)", (10, 1, 6));
     checks(
         reader,
@@ -131,8 +139,41 @@ fn a_missing_member_reads_as_null() {
 }
 
 #[test]
+fn a_member_gains_null_where_its_place_has_null() {
+    let reader = b"(keep (field \"b\" (field \"a\" (it 0))))";
+    let a = |inner: &str| format!("(shape rec (member \"a\" {inner}))").into_bytes();
+    checks(
+        reader,
+        &a("(shape null rec (member \"b\" (shape int)))"),
+        b"(shape null int)\n",
+    );
+    checks(
+        reader,
+        &a("(shape null rec (member \"b\" (shape)))"),
+        b"(shape null)\n",
+    );
+    checks(
+        reader,
+        &a("(shape rec (member \"b\" (shape int)))"),
+        b"(shape int)\n",
+    );
+    refuses(Check, reader, &a("(shape null)"), (10, 1, 6));
+}
+
+#[test]
+fn field_reads_null_through_null() {
+    let reader = b"(keep (field \"b\" (field \"a\" (it 0))))";
+    for document in [b"{}".as_slice(), b"null", b"{\"a\":null}", b"{\"a\":{}}"] {
+        runs(reader, document, b"null", 4);
+    }
+    runs(reader, b"{\"a\":{\"b\":[]}}", b"[]", 4);
+    refuses(Run, reader, b"{\"a\":[]}", (12, 1, 6));
+    refuses(Run, reader, b"0", (12, 1, 17));
+}
+
+#[test]
 fn run_is_stuck_at_the_form_that_does_not_take_the_value() {
-    refuses(Run, b"(keep (field \"a\" (it 0)))", b"null", (12, 1, 6));
+    refuses(Run, b"(keep (field \"a\" (it 0)))", b"\"\"", (12, 1, 6));
     refuses(Run, b"(int (it 0))", b"1.0", (12, 1, 0));
     refuses(Run, b"(bool (it 0))", b"null", (12, 1, 0));
     refuses(Run, b"(text (it 0))", b"1", (12, 1, 0));

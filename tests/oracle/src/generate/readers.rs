@@ -208,12 +208,12 @@ impl Source {
         let mut shape = bound[bound.len() - 1 - outward].clone();
         let mut path = Vec::new();
         while path.len() + 1 < nesting_left {
-            let records = shape.kinds == Kinds::REC && !shape.members.is_empty();
+            let records = shape.kinds.within(Kinds::FIELD) && !shape.members.is_empty();
             let (name, inner) = match self.random.below(40) {
                 0..=2 if !around.careful => (self.name(), Shape::default()),
                 3..=30 if records => {
-                    let member = &shape.members[self.random.below(shape.members.len())];
-                    (member.name.clone(), member.shape.clone())
+                    let name = &shape.members[self.random.below(shape.members.len())].name;
+                    (name.clone(), shape.field(name).unwrap_or_default())
                 }
                 _ => break,
             };

@@ -17,7 +17,7 @@ use Prim.Native.Nat.{_-_}
 use native.Mathlib.Omega.{arith}
 use lib.ListN.{length}
 use mathlib.Core.Path.{sym, _∙_}
-use Rattle.running.proofs.PlaceRuns.{stopped, it-within, it-seen, inner-ready, inner-within, inner-refused, stuck, some-record, found}
+use Rattle.running.proofs.PlaceRuns.{stopped, it-within, it-seen, inner-ready, inner-within, inner-refused, stuck, through, some-record, found}
 
 abbrev μ-run-place : Measures 4 run-place-kinds.ps ℕ
 μ-run-place κs a = length (a .0 .now) - a .1 .0
@@ -93,26 +93,36 @@ run-place-returns-3 t c =
 
 run-place-returns-4 : (t : ℕ) → run-place-lts.Need-returns-4 (run-place-claims t) (run-place-at t) run-place.Post
 run-place-returns-4 t c =
-    let after-inner = c .before .before .before .before in
+    let after-inner = c .before .before .before in
     let after-code = after-inner .before .before .before .before in
-    stuck (λ e. after-inner .before .before .before .if2 .left (after-code .code .ensures ∙ e)) (after-code .before .before .if1 .left)
-    (after-inner .before .before .run-place .ensures) (after-inner .inner .given .1) (c .before .before .row-kind .ensures)
-    (c .before .if3 .taken) (c .place2 .ensures)
-
-run-place-find-member-requires : (t : ℕ) → run-place-lts.Need-find-member-requires (run-place-claims t) (run-place-at t) run-place.Post
-run-place-find-member-requires t c κs =
-    let after-run-place = c .before .before .before .before .before in
-    let else1 = after-run-place .before .before .before .before in
-    let at-start = else1 .before .before .before .before .before in
-    some-record (λ e. after-run-place .before .if2 .left (after-run-place .before .before .code .ensures ∙ e)) (else1 .if1 .left)
-    (after-run-place .run-place .ensures) (c .before .before .before .inner .given .1) (c .before .row-kind .ensures) (c .if3 .left) (at-start .pre .1)
+    through (λ e. after-inner .before .before .before .if2 .left (after-code .code .ensures ∙ e)) (after-code .before .before .if1 .left)
+    (after-inner .before .before .run-place .ensures) (after-inner .inner .given .1) (c .before .row-kind .ensures) (c .if3 .taken)
 
 run-place-returns-5 : (t : ℕ) → run-place-lts.Need-returns-5 (run-place-claims t) (run-place-at t) run-place.Post
 run-place-returns-5 t c =
-    let after-inner = c .before .before .before .before in
+    let after-kind = c .before .before .before in
+    let after-inner = after-kind .before .before in
+    let after-code = after-inner .before .before .before .before in
+    stuck (λ e. after-inner .before .before .before .if2 .left (after-code .code .ensures ∙ e)) (after-code .before .before .if1 .left)
+    (after-inner .before .before .run-place .ensures) (after-inner .inner .given .1) (after-kind .row-kind .ensures)
+    (c .before .before .if3 .left) (c .before .if4 .taken) (c .place2 .ensures)
+
+run-place-find-member-requires : (t : ℕ) → run-place-lts.Need-find-member-requires (run-place-claims t) (run-place-at t) run-place.Post
+run-place-find-member-requires t c κs =
+    let after-kind = c .before .before in
+    let after-run-place = after-kind .before .before .before .before in
+    let else1 = after-run-place .before .before .before .before in
+    let at-start = else1 .before .before .before .before .before in
+    some-record (λ e. after-run-place .before .if2 .left (after-run-place .before .before .code .ensures ∙ e)) (else1 .if1 .left)
+    (after-run-place .run-place .ensures) (after-kind .before .before .inner .given .1) (after-kind .row-kind .ensures) (c .if4 .left) (at-start .pre .1)
+
+run-place-returns-6 : (t : ℕ) → run-place-lts.Need-returns-6 (run-place-claims t) (run-place-at t) run-place.Post
+run-place-returns-6 t c =
+    let after-kind = c .before .before .before in
+    let after-inner = after-kind .before .before in
     let after-code = after-inner .before .before .before .before in
     found (λ e. after-inner .before .before .before .if2 .left (after-code .code .ensures ∙ e)) (after-code .before .before .if1 .left)
-    (after-inner .before .before .run-place .ensures) (after-inner .inner .given .1) (c .before .before .row-kind .ensures) (c .before .if3 .left)
+    (after-inner .before .before .run-place .ensures) (after-inner .inner .given .1) (after-kind .row-kind .ensures) (c .before .if4 .left)
     (after-code .before .payload .ensures)
     (c .find-member .ensures)
 
@@ -132,7 +142,9 @@ pub +run-place-spec : {M : Type 1} → statement M
     (run-place-run-place-requires t)
     (λ c. search needs) (λ c. search needs)
     (run-place-returns-3 t)
-    (λ c κs. search needs) (λ c κs. search needs)
+    (λ c κs. search needs)
     (run-place-returns-4 t)
-    (run-place-find-member-requires t)
+    (λ c κs. search needs)
     (run-place-returns-5 t)
+    (run-place-find-member-requires t)
+    (run-place-returns-6 t)
