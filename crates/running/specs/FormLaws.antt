@@ -14,10 +14,11 @@ use Rattle.definitions.specs.Bytes.{Bytes}
 use Rattle.definitions.specs.Reader.{Place, Conversion, Test, Result, Pairs, no-pairs, pair}
 use Rattle.definitions.specs.Checking.{convert-kinds, list-kinds, test-kinds}
 use Rattle.definitions.specs.Running.{Ran, gives, stuck-unless, converted, items-of, int-value, truth, run-place, run-items, run, run-pairs}
+use Rattle.laws.specs.SoundSteps.{enter-within}
+use Rattle.laws.specs.RunRulesKinds.{not-entered}
 use Rattle.nodes.specs.Nodes.{kind-code}
 use Rattle.forms.specs.Forms.{form-at}
 use Rattle.running.specs.Kinds.{wanted}
-use Rattle.running.specs.PlaceLaws.{enter-stops, enter-goes}
 use Rattle.running.specs.Walk.{operand, follow}
 
 -- ---- outcomes
@@ -56,14 +57,14 @@ place-stuck (refused n a) at ks f = refl
 
 pub form-stops : (r : Result) (l : Limits) (env : List Value) (n : ℕ) → l .steps ≤ n → run r l env n ≡ refused 13 (form-at r)
 unfolding run form-at _>>=_
-form-stops (Result.convert at c p) l env n h = rw (enter-stops l at n h) refl
-form-stops (Result.keep at p) l env n h = rw (enter-stops l at n h) refl
-form-stops (Result.count at p) l env n h = rw (enter-stops l at n h) refl
-form-stops (Result.each at p r) l env n h = rw (enter-stops l at n h) refl
-form-stops (Result.when at k p r₁ r₂) l env n h = rw (enter-stops l at n h) refl
-form-stops (Result.choose at r₁ r₂ r₃) l env n h = rw (enter-stops l at n h) refl
-form-stops (Result.literal at v) l env n h = rw (enter-stops l at n h) refl
-form-stops (Result.pack at ps) l env n h = rw (enter-stops l at n h) refl
+form-stops (Result.convert at c p) l env n h = rw (not-entered l at n h) refl
+form-stops (Result.keep at p) l env n h = rw (not-entered l at n h) refl
+form-stops (Result.count at p) l env n h = rw (not-entered l at n h) refl
+form-stops (Result.each at p r) l env n h = rw (not-entered l at n h) refl
+form-stops (Result.when at k p r₁ r₂) l env n h = rw (not-entered l at n h) refl
+form-stops (Result.choose at r₁ r₂ r₃) l env n h = rw (not-entered l at n h) refl
+form-stops (Result.literal at v) l env n h = rw (not-entered l at n h) refl
+form-stops (Result.pack at ps) l env n h = rw (not-entered l at n h) refl
 
 -- ---- forms with a place
 
@@ -81,16 +82,16 @@ pub form-split
     → run r l env n ≡ (operand r l env (suc n) >>= λ x. follow r l env (x .result) (x .steps))
 unfolding run operand follow converted _>>=_
 form-split l env n (placed-convert {at} {c} {q}) h =
-    rw (enter-goes l at n h) (place-stuck (run-place q l env (suc n)) at (convert-kinds c) (λ x. gives (x .result) (x .steps)))
-form-split l env n (placed-keep {at} {q}) h = rw (enter-goes l at n h) (gives-all (run-place q l env (suc n)))
+    rw (enter-within l at n h) (place-stuck (run-place q l env (suc n)) at (convert-kinds c) (λ x. gives (x .result) (x .steps)))
+form-split l env n (placed-keep {at} {q}) h = rw (enter-within l at n h) (gives-all (run-place q l env (suc n)))
 form-split l env n (placed-count {at} {q}) h =
-    rw (enter-goes l at n h)
+    rw (enter-within l at n h)
     (place-stuck (run-place q l env (suc n)) at list-kinds (λ x. gives (int-value (count (items-of (x .result)))) (x .steps)))
 form-split l env n (placed-each {at} {q} {r}) h =
-    rw (enter-goes l at n h)
+    rw (enter-within l at n h)
     (place-stuck (run-place q l env (suc n)) at list-kinds
     (λ x. run-items (λ v n₂. run r l (v ∷ env) n₂) (items-of (x .result)) (x .steps) >>= λ xs. gives (Value.list (xs .result)) (xs .steps)))
-form-split l env n (placed-when {at} {k} {q} {r₁} {r₂}) h = rw (enter-goes l at n h) refl
+form-split l env n (placed-when {at} {k} {q} {r₁} {r₂}) h = rw (enter-within l at n h) refl
 
 -- the place's value is judged
 abbrev pub judged : Result → Outcomes → Outcomes
@@ -160,7 +161,7 @@ pub choose-entered
     : (at : ℕ) (r₁ r₂ r₃ : Result) (l : Limits) (env : List Value) (n : ℕ) → n < l .steps
     → run (Result.choose at r₁ r₂ r₃) l env n ≡ chosen at r₂ r₃ l env (run r₁ l env (suc n))
 unfolding run _>>=_
-choose-entered at r₁ r₂ r₃ l env n h = rw (enter-goes l at n h) refl
+choose-entered at r₁ r₂ r₃ l env n h = rw (enter-within l at n h) refl
 
 module _ (at : ℕ) (r₂ r₃ : Result) (l : Limits) (env : List Value) {o : Outcomes} where
   pub choose-refused : {k a : ℕ} → o ≡ refused k a → chosen at r₂ r₃ l env o ≡ refused k a
@@ -203,7 +204,7 @@ module _ (at : ℕ) (r₂ r₃ : Result) (l : Limits) (env : List Value) {o : Ou
 pub literal-given
     : (at : ℕ) (v : Value) (l : Limits) (env : List Value) (n : ℕ) → n < l .steps → run (Result.literal at v) l env n ≡ gives v (suc n)
 unfolding run _>>=_
-literal-given at v l env n h = rw (enter-goes l at n h) refl
+literal-given at v l env n h = rw (enter-within l at n h) refl
 
 -- ---- `each`: the results made so far, the latest first
 
@@ -249,7 +250,7 @@ pub pack-entered
     : (at : ℕ) (ps : Pairs) (l : Limits) (env : List Value) (n : ℕ) → n < l .steps
     → run (Result.pack at ps) l env n ≡ members-behind no-members (run-pairs ps l env (suc n))
 unfolding run _>>=_ members-onto
-pack-entered at ps l env n h = rw (enter-goes l at n h) refl
+pack-entered at ps l env n h = rw (enter-within l at n h) refl
 
 module _ (name : Bytes) (r : Result) (ps : Pairs) (l : Limits) (env : List Value) (done : Members) (n : ℕ) where
   pub pack-refused : {k a : ℕ} → run r l env n ≡ refused k a → members-behind done (run-pairs (pair name r ps) l env n) ≡ refused k a

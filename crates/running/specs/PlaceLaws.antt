@@ -3,7 +3,6 @@ use Prim.Native.Nat.{ℕ, suc, _/_, _%_, _≤_, _<_}
 use mathlib.Core.Path.{_≡_, refl, sym, ap, _∙_}
 use mathlib.Core.Bool.{Bool, true, false}
 use mathlib.Core.List.{List, _++_}
-use borrow.Author.Tests.{lt-ltb, le-ltb}
 use native.Mathlib.Omega.{arith}
 use native.Mathlib.Nat.{add-zero}
 use lib.ListN.{drop, getD}
@@ -16,34 +15,26 @@ use Rattle.definitions.specs.Shape.{Kind, among, rank}
 use Rattle.definitions.specs.Admits.{kind-of}
 use Rattle.definitions.specs.Reader.{Place}
 use Rattle.definitions.specs.Checking.{field-kinds}
-use Rattle.definitions.specs.Running.{Ran, gives, enter, stuck-unless, member-of, members-of, field-value, run-place}
+use Rattle.definitions.specs.Running.{Ran, gives, stuck-unless, member-of, members-of, field-value, run-place}
+use Rattle.laws.specs.SoundSteps.{enter-within}
+use Rattle.laws.specs.RunRulesKinds.{not-entered}
 use Rattle.nodes.specs.Nodes.{kind-code}
 use Rattle.forms.specs.Forms.{place-at, Place-rows, it-row, field-rows, Place-stands}
 use Rattle.forms.specs.FormsLaws.{head-at, place-code-lt}
 use Rattle.nodes.specs.NodesLaws.{getD-row}
 
--- ---- steps
-
-pub enter-stops : (l : Limits) (at n : ℕ) → l .steps ≤ n → enter l at n ≡ refused 13 at
-unfolding enter
-enter-stops l at n h = rw (le-ltb n (l .steps) h, enter) refl
-
-pub enter-goes : (l : Limits) (at n : ℕ) → n < l .steps → enter l at n ≡ ok (suc n)
-unfolding enter
-enter-goes l at n h = rw (lt-ltb n (l .steps) h, enter) refl
-
 -- ---- places
 
 pub place-stops : (q : Place) (l : Limits) (env : List Value) (n : ℕ) → l .steps ≤ n → run-place q l env n ≡ refused 13 (place-at q)
 unfolding run-place place-at _>>=_
-place-stops (Place.it at k) l env n h = rw (enter-stops l at n h) refl
-place-stops (Place.field at m p) l env n h = rw (enter-stops l at n h) refl
+place-stops (Place.it at k) l env n h = rw (not-entered l at n h) refl
+place-stops (Place.field at m p) l env n h = rw (not-entered l at n h) refl
 
 pub it-given
     : (at k : ℕ) (l : Limits) (env : List Value) (n : ℕ) → n < l .steps
     → run-place (Place.it at k) l env n ≡ gives (getD env k Value.null) (suc n)
 unfolding run-place gives _>>=_
-it-given at k l env n h = rw (enter-goes l at n h) refl
+it-given at k l env n h = rw (enter-within l at n h) refl
 
 -- behind the place inside
 abbrev pub field-of : (at : ℕ) → Bytes → Outcome ℕ (Ran Value) → Outcome ℕ (Ran Value)
@@ -53,7 +44,7 @@ pub field-entered
     : (at : ℕ) (m : Bytes) (p : Place) (l : Limits) (env : List Value) (n : ℕ) → n < l .steps
     → run-place (Place.field at m p) l env n ≡ field-of at m (run-place p l env (suc n))
 unfolding run-place gives _>>=_
-field-entered at m p l env n h = rw (enter-goes l at n h) refl
+field-entered at m p l env n h = rw (enter-within l at n h) refl
 
 pub field-refused
     : (at : ℕ) (m : Bytes) {o : Outcome ℕ (Ran Value)} {k a : ℕ} → o ≡ refused k a → field-of at m o ≡ refused k a
