@@ -30,7 +30,8 @@
  *   (each (field "sessions" (it 0)) (when null (field "laps" (it 0)) (num 0) (dec (it 0))))
  * A place P is (it N), the N-th binding outward, 0 the innermost and the document the outermost; or (field "name" P).
  * A result R is one of
- *   (int P) (dec P) (bool P) (text P)   the value at P, which has to be of that kind; dec takes an int too
+ *   (int P) (dec P) (bool P) (text P)   the value at P, which has to be of that kind; dec takes an int too, and int
+ *                                       writes no fraction
  *   (keep P)                            the value at P, whatever it is
  *   (count P)                           how many elements the list at P has; null has 0
  *   (each P R)                          a list: R with each element of the list at P bound; null has none
@@ -38,9 +39,10 @@
  *   (if R R R)                          the second R where the first is true, the third where it is false
  *   (num N) (str "t") (yes) (no) (none) a number, a text, true, false, null
  *   (pack "name" R ...)                 a record of zero or more members, the decoded names distinct
- * K is null, bool, int, num, text, list or rec. A member that a record lacks reads as null, and so does any member of null.
- * White space and names are as in shapes. A reader has at most the set's bytes, its values as forms, places too, and its
- * nesting. An empty text, or one of JSON's white space only, is a reader too and means (none); it is no shape.
+ * K is null, bool, int, num, text, list or rec. A number whose fraction digits are all zero is an int, 12.0 too. A member
+ * that a record lacks reads as null, and so does any member of null. White space and names are as in shapes. A reader has
+ * at most the set's bytes, its values as forms, places too, and its nesting. An empty text, or one of JSON's white space
+ * only, is a reader too and means (none); it is no shape.
  *
  * What it does not do: it allocates nothing, opens nothing, keeps nothing from one call to the next, and touches no
  * memory of the host but what is lent to the call. It has no floating point numbers and no streams: a text is
@@ -235,9 +237,9 @@ uint64_t runvestol_plain(uint64_t bytes, uint64_t values, uint64_t nesting, uint
  * sample that is refused leaves it. In whatever order the samples come, the same bytes are reached, unless one is
  * refused.
  *
- * The shape of a value: a scalar has its kind, a number with a fraction int and dec; a list has the join of its
+ * The shape of a value: a scalar has its kind, a number that is no int both int and dec; a list has the join of its
  * elements' shapes, (shape) where it is empty; a record has its members. Where two records meet, a member of only one
- * of them gets null.
+ * of them gets null. A shape that was kept from before 12.0 was an int is to be inferred afresh: it may not be the least.
  *
  *   bytes, values, nesting, steps   the set.
  *   shape, shape_length         text 1, the shape reached so far.
@@ -313,7 +315,7 @@ uint64_t runvestol_below(uint64_t bytes, uint64_t values, uint64_t nesting, uint
                          uint8_t *answer, size_t answer_length);
 
 /*
- * Tells whether a shape admits a document: each value's kind is listed where it stands, a number with a fraction
+ * Tells whether a shape admits a document: each value's kind is listed where it stands, a number that is no int
  * needing dec; every member is listed; and every member listed that a record lacks has null.
  *
  *   bytes, values, nesting, steps   the set.

@@ -122,6 +122,9 @@ static const struct table_case cases[] = {
      WRITES("(shape list\n (shape int dec))")},
     {"check_refuses_it_past_the_document_at_its_number", "check", {"(keep (it 1))", "(shape)"}, REFUSES(FORM_SYNTAX, 1, 10)},
     {"check_refuses_it_with_a_minus_or_a_fraction", "check", {"(keep (it -0))", "(shape)"}, REFUSES(FORM_SYNTAX, 1, 10)},
+    {"check_refuses_it_with_a_fraction_of_zeros", "check", {"(keep (it 0.0))", "(shape int)"}, REFUSES(FORM_SYNTAX, 1, 10)},
+    {"check_has_int_of_a_literal_with_a_fraction_of_zeros", "check", {"(num 12.0)", "(shape)"}, WRITES("(shape int)")},
+    {"check_has_both_of_a_literal_that_is_a_decimal", "check", {"(num 12.50)", "(shape)"}, WRITES("(shape int dec)")},
     {"check_takes_it_past_no_binding_of_a_place", "check", {"(each (it 1) (yes))", "(shape)"}, REFUSES(FORM_SYNTAX, 1, 10)},
     {"check_refuses_a_number_of_too_many_digits_at_its_start", "check", {"(num 1000000000000000000)", "(shape)"}, REFUSES(FORM_SYNTAX, 1, 5)},
     {"check_refuses_a_name_of_pack_a_second_time", "check", {"(pack \"a\" (yes) \"\\u0061\" (no))", "(shape)"}, REFUSES(FORM_SYNTAX, 1, 16)},
@@ -172,7 +175,15 @@ static const struct table_case cases[] = {
     /* run: conversions */
     {"run_keeps_the_digits_of_a_decimal", "run", {"(dec (it 0))", "4.50"}, GIVES("4.50", 2)},
     {"run_gives_an_int_by_dec", "run", {"(dec (it 0))", "-0"}, GIVES("0", 2)},
-    {"run_is_stuck_at_int_of_a_decimal", "run", {"(int (it 0))", "4.0"}, REFUSES(STUCK, 1, 0)},
+    {"run_is_stuck_at_int_of_a_decimal", "run", {"(int (it 0))", "4.10"}, REFUSES(STUCK, 1, 0)},
+    {"run_gives_an_int_without_its_fraction", "run", {"(int (it 0))", "12.0"}, GIVES("12", 2)},
+    {"run_gives_the_int_of_a_negative_zero", "run", {"(int (it 0))", "-0.0"}, GIVES("0", 2)},
+    {"run_gives_an_int_with_its_sign", "run", {"(int (it 0))", "-10.000000000"}, GIVES("-10", 2)},
+    {"run_gives_the_largest_int_with_a_fraction", "run", {"(int (it 0))", "-99999999999999999.0"}, GIVES("-99999999999999999", 2)},
+    {"run_keeps_a_fraction_of_zeros_in_dec", "run", {"(dec (it 0))", "12.0"}, GIVES("12.0", 2)},
+    {"run_keeps_a_fraction_of_zeros_in_a_literal", "run", {"(num 12.0)", "null"}, GIVES("12.0", 1)},
+    {"run_packs_ints_without_their_fractions", "run", {"(pack \"w\" (int (field \"w\" (it 0))) \"k\" (keep (field \"w\" (it 0))))", "{\"w\":-12.00}"},
+     GIVES("{\"w\":-12,\"k\":-12.00}", 7)},
     {"run_gives_bools_and_texts", "run", {"(pack \"a\" (bool (field \"b\" (it 0))) \"t\" (text (field \"t\" (it 0))))", "{\"t\":\"\\u0041\",\"b\":false}"},
      GIVES("{\"a\":false,\"t\":\"A\"}", 7)},
     {"run_is_stuck_at_text_of_null", "run", {"(text (it 0))", "null"}, REFUSES(STUCK, 1, 0)},
@@ -187,7 +198,10 @@ static const struct table_case cases[] = {
 
     /* run: when and if */
     {"run_takes_a_whole_number_for_int", "run", {"(when int (it 0) (yes) (no))", "4"}, GIVES("true", 3)},
-    {"run_takes_no_decimal_for_int", "run", {"(when int (it 0) (yes) (no))", "4.0"}, GIVES("false", 3)},
+    {"run_takes_no_decimal_for_int", "run", {"(when int (it 0) (yes) (no))", "4.000000001"}, GIVES("false", 3)},
+    {"run_takes_a_fraction_of_zeros_for_int", "run", {"(when int (it 0) (keep (it 0)) (no))", "12.0"}, GIVES("12.0", 4)},
+    {"run_tells_ints_and_decimals_apart", "run", {"(each (it 0) (when int (it 0) (int (it 0)) (dec (it 0))))", "[12.0, 12.5, 12]"},
+     GIVES("[12,12.5,12]", 14)},
     {"run_takes_both_for_num", "run", {"(each (it 0) (when num (it 0) (yes) (no)))", "[4,4.0,\"4\"]"}, GIVES("[true,true,false]", 11)},
     {"run_tells_every_kind", "run",
      {"(each (it 0) (when null (it 0) (num 0) (when bool (it 0) (num 1) (when text (it 0) (num 2) (when list (it 0) (num 3)"

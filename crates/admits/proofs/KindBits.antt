@@ -3,6 +3,7 @@
 use Prim.Native.Nat.{ℕ, _%_, _<_}
 use mathlib.Core.Path.{_≡_, refl, sym, ap, _∙_}
 use mathlib.Core.Bool.{Bool, true, false}
+use mathlib.Core.List.{List}
 use native.Mathlib.Omega.{arith}
 use Rattle.definitions.specs.Number.{Number, is-int, most-scale}
 use Rattle.definitions.specs.Value.{Value}
@@ -10,6 +11,8 @@ use Rattle.definitions.specs.Shape.{Shape, shape, no-list, list-of, no-rec, rec
 use Rattle.definitions.specs.Admits.{kind-of, admits, admitted}
 use Rattle.laws.specs.Bools.{clash}
 use Rattle.nodes.specs.Nodes.{kind-code, head-word}
+use Rattle.nodes.specs.Standing.{Value-stands, Number-stands}
+use Rattle.nodes.specs.StandingLaws.{number-stands}
 use Rattle.plain.specs.Table.{Bounded-numbers}
 use Rattle.plain.specs.HeadLaws.{head-kind}
 use Rattle.shapes.specs.Shapes.{kind-bit}
@@ -56,14 +59,14 @@ int-bit x true e = rw (sym e, kind-of) refl
 int-bit x false e = rw (sym e, kind-of) refl
 
 pub number-told
-    : (v : Value) {n : ℕ} {b : Bool} → kind-code v ≡ 3
-    → ((x : Number) → n ≡ head-word (Value.number x) → x .scale < 16 → b ≡ is-int x)
-    → n ≡ head-word v → Bounded-numbers v → number-bit b ≡ kind-bit (kind-of v)
+    : {nodes p : List ℕ} {at k : ℕ} (v : Value) {b : Bool} → kind-code v ≡ 3
+    → ((x : Number) → Number-stands nodes at x → b ≡ is-int x)
+    → Value-stands nodes p at k v → Bounded-numbers v → number-bit b ≡ kind-bit (kind-of v)
 unfolding kind-code Bounded-numbers most-scale
 number-told Value.null k f e h = absurd (let z : ⊥ = omega arith in z)
 number-told (Value.bool true) k f e h = absurd (let z : ⊥ = omega arith in z)
 number-told (Value.bool false) k f e h = absurd (let z : ⊥ = omega arith in z)
-number-told (Value.number x) {b} k f e h = int-bit x b (f x e (omega (arith, h .scale)))
+number-told (Value.number x) {b} k f s h = int-bit x b (f x (number-stands s (omega (arith, h .scale))))
 number-told (Value.text t) k f e h = absurd (let z : ⊥ = omega arith in z)
 number-told (Value.list vs) k f e h = absurd (let z : ⊥ = omega arith in z)
 number-told (Value.rec ms) k f e h = absurd (let z : ⊥ = omega arith in z)

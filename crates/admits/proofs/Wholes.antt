@@ -11,7 +11,7 @@ use Rattle.definitions.specs.Shape.{Shape, shape, no-list, list-of, no-rec, rec
 use Rattle.definitions.specs.Admits.{kind-of, admits, admitted, admitted-items, admitted-members, missing-have-null}
 use Rattle.laws.specs.Bools.{not-true, clash, not-fails}
 use Rattle.laws.specs.Distinct.{distinct, distinct-items, distinct-members}
-use Rattle.nodes.specs.Nodes.{kind-code, head-word, row-size}
+use Rattle.nodes.specs.Nodes.{kind-code, row-size}
 use Rattle.nodes.specs.Standing.{Value-stands}
 use Rattle.nodes.specs.StandingLaws.{value-head, value-size, value-within, list-stands, rec-stands, size-some}
 use Rattle.plain.specs.Table.{Bounded-numbers, Holds}
@@ -43,14 +43,15 @@ module _ (shapes : List ℕ) (row : ℕ) (nodes : List ℕ) (at : ℕ) (pool : L
     pub there : (s : Shape) → Holds-shape shapes pool row s → (v : Value) → Holds nodes pool at v → r ≡ has (kind-of v) s
 
   pub seen
-      : {bit kinds : ℕ} {r : Bool} → ((v : Value) → getD nodes at 0 ≡ head-word v → Bounded-numbers v → bit ≡ kind-bit (kind-of v))
+      : {bit kinds : ℕ} {r : Bool}
+      → ((p : List ℕ) (k : ℕ) (v : Value) → Value-stands nodes p at k v → Bounded-numbers v → bit ≡ kind-bit (kind-of v))
       → kinds ≡ getD shapes row 0 % 128 → r ≡ has-bit kinds bit → Seen bit r
   seen {bit} {kinds} e f g =
       record {
-        coded = λ v h. e v (value-head (standing h)) (h .bounded);
+        coded = λ v h. e _ _ v (standing h) (h .bounded);
         there = λ s k v h.
             g
-            ∙ ap₂ (λ (x y : ℕ). has-bit x y) (f ∙ held-kinds k) (e v (value-head (standing h)) (h .bounded))
+            ∙ ap₂ (λ (x y : ℕ). has-bit x y) (f ∙ held-kinds k) (e _ _ v (standing h) (h .bounded))
             ∙ has-kind (kind-of v) s;
       }
 

@@ -1,20 +1,21 @@
 // Whether a shape of a shape table admits a value of a node table.
 ghost use mathlib.Core.Path.{_≡_};
 ghost use mathlib.Core.Bool.{true};
-ghost use lib.ListN.{getD};
+ghost use mathlib.Core.List.{List};
+ghost use Prim.Native.Nat.{ℕ};
 ghost use Rattle.definitions.specs.Value.{Value};
 ghost use Rattle.definitions.specs.Admits.{kind-of};
-ghost use Rattle.nodes.specs.Nodes.{head-word};
 ghost use Rattle.plain.specs.Table.{Bounded-numbers};
 ghost use Rattle.shapes.specs.Shapes.{kind-bit};
-ghost use Rattle.nodes.specs.Standing.{Members-held};
+ghost use Rattle.nodes.specs.Standing.{Value-stands, Members-held};
 ghost use Rattle.admits.specs.Admission.{Value-asked, Value-told, Items-asked, Items-told, Members-asked, Members-told, Nulls-told, Lacks};
 use shapes::Member;
 use shapes::Shape;
 
 // The bit of the kind of the value at a row.
 fn kind_bit(nodes: &[u64], at: usize) -> Shape
-    ensures told { λ r. ⌜ ((v : Value) → getD (now (nodes .entry)) at 0 ≡ head-word v → Bounded-numbers v → r .kinds ≡ kind-bit (kind-of v)) ⌝ }
+    ensures told { λ r. ⌜ ((p : List ℕ) (k : ℕ) (v : Value) → Value-stands (now (nodes .entry)) p at k v → Bounded-numbers v
+        → r .kinds ≡ kind-bit (kind-of v)) ⌝ }
 {
     let kind = nodes::row_kind(nodes, at);
     if kind == nodes::NULL {

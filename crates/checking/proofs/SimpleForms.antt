@@ -133,52 +133,56 @@ number-kinds x true e = ap (λ (b : Bool). kind-bits (only-numeric (elim b [ tru
 number-kinds x false e = ap (λ (b : Bool). kind-bits (only-numeric (elim b [ true ↦ int-only | false ↦ int-and-dec ]))) (sym e)
 
 number-literal
-    : (code operand : ℕ) (i : Bool) → code ≡ 12 → ((x : Number) → operand ≡ number-bits (Value.number x) → i ≡ is-int x)
-    → Tells-literal code operand (elim i [ true ↦ 4 | false ↦ 12 ])
+    : (code operand payload : ℕ) (i : Bool) → code ≡ 12
+    → ((x : Number) → operand ≡ number-bits (Value.number x) → payload ≡ x .coefficient → i ≡ is-int x)
+    → Tells-literal code operand payload (elim i [ true ↦ 4 | false ↦ 12 ])
 unfolding literal-code shape-of
-number-literal code operand i e told Value.null l f g = omega arith
-number-literal code operand i e told (Value.bool true) l f g = omega arith
-number-literal code operand i e told (Value.bool false) l f g = omega arith
-number-literal code operand i e told (Value.number x) l f g = number-kinds x i (told x g)
-number-literal code operand i e told (Value.text t) l f g = omega arith
-number-literal code operand i e told (Value.list vs) l f g = omega arith
-number-literal code operand i e told (Value.rec ms) l f g = omega arith
+number-literal code operand payload i e told p Value.null l f g k = omega arith
+number-literal code operand payload i e told p (Value.bool true) l f g k = omega arith
+number-literal code operand payload i e told p (Value.bool false) l f g k = omega arith
+number-literal code operand payload i e told p (Value.number x) l f g number-payload = number-kinds x i (told x g refl)
+number-literal code operand payload i e told p (Value.text t) l f g k = omega arith
+number-literal code operand payload i e told p (Value.list vs) l f g k = omega arith
+number-literal code operand payload i e told p (Value.rec ms) l f g k = omega arith
 
-module _ (code operand : ℕ) (e : code ≡ 12) {i : Bool} (told : (x : Number) → operand ≡ number-bits (Value.number x) → i ≡ is-int x) where
-  pub int-literal : i ≡ true → Tells-literal code operand 4
-  int-literal h = number-literal code operand true e (λ x f. sym h ∙ told x f)
+module _
+    (code operand payload : ℕ) (e : code ≡ 12) {i : Bool}
+    (told : (x : Number) → operand ≡ number-bits (Value.number x) → payload ≡ x .coefficient → i ≡ is-int x)
+  where
+    pub int-literal : i ≡ true → Tells-literal code operand payload 4
+    int-literal h = number-literal code operand payload true e (λ x f g. sym h ∙ told x f g)
 
-  pub decimal-literal : i ≡ false → Tells-literal code operand 12
-  decimal-literal h = number-literal code operand false e (λ x f. sym h ∙ told x f)
+    pub decimal-literal : i ≡ false → Tells-literal code operand payload 12
+    decimal-literal h = number-literal code operand payload false e (λ x f g. sym h ∙ told x f g)
 
-pub text-literal : (code operand : ℕ) → code ≡ 13 → Tells-literal code operand 16
+pub text-literal : (code operand payload : ℕ) → code ≡ 13 → Tells-literal code operand payload 16
 unfolding literal-code shape-of kind-bits only-text bit numeric-bits has-list has-rec
-text-literal code operand e Value.null l f g = omega arith
-text-literal code operand e (Value.bool true) l f g = omega arith
-text-literal code operand e (Value.bool false) l f g = omega arith
-text-literal code operand e (Value.number x) l f g = omega arith
-text-literal code operand e (Value.text t) l f g = refl
-text-literal code operand e (Value.list vs) l f g = omega arith
-text-literal code operand e (Value.rec ms) l f g = omega arith
+text-literal code operand payload e p Value.null l f g k = omega arith
+text-literal code operand payload e p (Value.bool true) l f g k = omega arith
+text-literal code operand payload e p (Value.bool false) l f g k = omega arith
+text-literal code operand payload e p (Value.number x) l f g k = omega arith
+text-literal code operand payload e p (Value.text t) l f g k = refl
+text-literal code operand payload e p (Value.list vs) l f g k = omega arith
+text-literal code operand payload e p (Value.rec ms) l f g k = omega arith
 
-pub null-literal : (code operand : ℕ) → code ≡ 16 → Tells-literal code operand 1
+pub null-literal : (code operand payload : ℕ) → code ≡ 16 → Tells-literal code operand payload 1
 unfolding literal-code shape-of kind-bits only-null bit numeric-bits has-list has-rec
-null-literal code operand e Value.null l f g = refl
-null-literal code operand e (Value.bool true) l f g = omega arith
-null-literal code operand e (Value.bool false) l f g = omega arith
-null-literal code operand e (Value.number x) l f g = omega arith
-null-literal code operand e (Value.text t) l f g = omega arith
-null-literal code operand e (Value.list vs) l f g = omega arith
-null-literal code operand e (Value.rec ms) l f g = omega arith
+null-literal code operand payload e p Value.null l f g k = refl
+null-literal code operand payload e p (Value.bool true) l f g k = omega arith
+null-literal code operand payload e p (Value.bool false) l f g k = omega arith
+null-literal code operand payload e p (Value.number x) l f g k = omega arith
+null-literal code operand payload e p (Value.text t) l f g k = omega arith
+null-literal code operand payload e p (Value.list vs) l f g k = omega arith
+null-literal code operand payload e p (Value.rec ms) l f g k = omega arith
 
-pub bool-literal : (code operand : ℕ) → (code ≡ 12 → ⊥) → (code ≡ 13 → ⊥) → (code ≡ 16 → ⊥) → Tells-literal code operand 2
+pub bool-literal : (code operand payload : ℕ) → (code ≡ 12 → ⊥) → (code ≡ 13 → ⊥) → (code ≡ 16 → ⊥) → Tells-literal code operand payload 2
 unfolding literal-code shape-of kind-bits only-bool bit numeric-bits has-list has-rec
-bool-literal code operand a b d Value.null l f g = absurd (d f)
-bool-literal code operand a b d (Value.bool x) l f g = refl
-bool-literal code operand a b d (Value.number x) l f g = absurd (a f)
-bool-literal code operand a b d (Value.text t) l f g = absurd (b f)
-bool-literal code operand a b d (Value.list vs) l f g = omega arith
-bool-literal code operand a b d (Value.rec ms) l f g = omega arith
+bool-literal code operand payload a b d p Value.null l f g k = absurd (d f)
+bool-literal code operand payload a b d p (Value.bool x) l f g k = refl
+bool-literal code operand payload a b d p (Value.number x) l f g k = absurd (a f)
+bool-literal code operand payload a b d p (Value.text t) l f g k = absurd (b f)
+bool-literal code operand payload a b d p (Value.list vs) l f g k = omega arith
+bool-literal code operand payload a b d p (Value.rec ms) l f g k = omega arith
 
 -- ---- a form with a place
 
@@ -333,18 +337,18 @@ module _ (forms shapes pool bindings : List ℕ) (row : ℕ) {code : ℕ} (coded
 
   -- a literal
   literal-checks
-      : {operand kinds : ℕ} → 9 ≤ code → operand ≡ getD forms row 0 / 32 % 64 → Tells-literal code operand kinds → {p : List ℕ} {d m deep : ℕ}
-      {env : List Shape} (r : Result) → Meets-simple forms shapes pool bindings p row d m deep r env → Simple r
-      → Checks (check r env) (checked.Kinds kinds)
+      : {operand payload kinds : ℕ} → 9 ≤ code → operand ≡ getD forms row 0 / 32 % 64 → payload ≡ getD forms (row + 1) 0
+      → Tells-literal code operand payload kinds → {p : List ℕ} {d m deep : ℕ} {env : List Shape} (r : Result)
+      → Meets-simple forms shapes pool bindings p row d m deep r env → Simple r → Checks (check r env) (checked.Kinds kinds)
   unfolding check form-code form-operand
-  literal-checks l f t (Result.convert at c q) h simple-convert =
+  literal-checks l f g t (Result.convert at c q) h simple-convert =
       absurd (let z : ⊥ = omega (arith, convert-coded (h .stands), conversion-code-le c) in z)
-  literal-checks l f t (Result.keep at q) h simple-keep = absurd (let z : ⊥ = omega (arith, keep-coded (h .stands)) in z)
-  literal-checks l f t (Result.count at q) h simple-count = absurd (let z : ⊥ = omega (arith, count-coded (h .stands)) in z)
-  literal-checks l f t (Result.literal at v) h simple-literal =
-      (shape-of v, refl, t v l (coded ∙ stands-code (h .stands)) (f ∙ stands-operand (h .stands)))
+  literal-checks l f g t (Result.keep at q) h simple-keep = absurd (let z : ⊥ = omega (arith, keep-coded (h .stands)) in z)
+  literal-checks l f g t (Result.count at q) h simple-count = absurd (let z : ⊥ = omega (arith, count-coded (h .stands)) in z)
+  literal-checks l f g t {p} (Result.literal at v) h simple-literal =
+      (shape-of v, refl, t p v l (coded ∙ stands-code (h .stands)) (f ∙ stands-operand (h .stands)) (rw g (literal-stands (h .stands))))
 
   pub literal-told
-      : {operand kinds : ℕ} → 9 ≤ code → operand ≡ getD forms row 0 / 32 % 64 → Tells-literal code operand kinds
-      → Gives-simple forms shapes pool bindings row (checked.Kinds kinds)
-  literal-told l f t p d m deep r env h = literal-checks l f t r h (h .simple)
+      : {operand payload kinds : ℕ} → 9 ≤ code → operand ≡ getD forms row 0 / 32 % 64 → payload ≡ getD forms (row + 1) 0
+      → Tells-literal code operand payload kinds → Gives-simple forms shapes pool bindings row (checked.Kinds kinds)
+  literal-told l f g t p d m deep r env h = literal-checks l f g t r h (h .simple)

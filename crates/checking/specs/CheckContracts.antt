@@ -15,7 +15,7 @@ use Rattle.laws.specs.FormGrammar.{result-levels}
 use Rattle.nodes.specs.Nodes.{number-bits, Refers}
 use Rattle.plain.specs.Table.{Used}
 use Rattle.shapes.specs.Shapes.{kind-bits, Stands}
-use Rattle.forms.specs.Forms.{conversion-code, literal-code, Place-stands, Form-stands}
+use Rattle.forms.specs.Forms.{conversion-code, literal-code, Literal-payload, Place-stands, Form-stands}
 use Rattle.checking.specs.declared.places.Located.{Located}
 use Rattle.checking.specs.declared.places.Located.the-variants as found
 use Rattle.checking.specs.declared.Checked.{Checked}
@@ -133,9 +133,9 @@ abbrev pub Tells-conversion : (code kinds : ℕ) → Type 0
 Tells-conversion code kinds =
     (c : Conversion) → code ≡ conversion-code c → (kinds ≡ wanted (convert-kinds c)) × (kind-bits (convert-shape c) ≡ kinds)
 
-abbrev pub Tells-literal : (code operand kinds : ℕ) → Type 0
-Tells-literal code operand kinds =
-    (v : Value) → 9 ≤ code → code ≡ literal-code v → operand ≡ number-bits v → kind-bits (shape-of v) ≡ kinds
+abbrev pub Tells-literal : (code operand payload kinds : ℕ) → Type 0
+Tells-literal code operand payload kinds =
+    (p : List ℕ) (v : Value) → 9 ≤ code → code ≡ literal-code v → operand ≡ number-bits v → Literal-payload p v payload → kind-bits (shape-of v) ≡ kinds
 
 -- the refusal of a place becomes that of a result
 abbrev pub Passes-up : Located → Checked → Type 0

@@ -46,11 +46,11 @@ pub fn conversion_kinds(code: u64) -> u64
 }
 
 // The kinds of a literal.
-pub fn literal_kinds(code: u64, operand: u64) -> u64
-    ensures told { λ r. ⌜ Tells-literal code operand r ⌝ }
+pub fn literal_kinds(code: u64, operand: u64, payload: u64) -> u64
+    ensures told { λ r. ⌜ Tells-literal code operand payload r ⌝ }
 {
     if code == forms::NUM {
-        return if nodes::is_int(operand) {
+        return if nodes::is_int(operand, payload) {
             Shape::INT.kinds
         } else {
             Shape::INT.kinds | Shape::DEC.kinds
@@ -115,6 +115,6 @@ pub fn check_simple(
         return check_place(forms, row, code, shapes, pool, bindings);
     }
     Checked::Kinds {
-        kinds: literal_kinds(code, forms::operand(forms, row)),
+        kinds: literal_kinds(code, forms::operand(forms, row), forms::payload(forms, row)),
     }
 }

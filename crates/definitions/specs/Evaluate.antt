@@ -24,7 +24,7 @@ use Rattle.definitions.specs.Calls
 unfoldable pub evaluate : Unit {0}
 unfolding Limits.standard Limits.smallest Limits.in-range Bytes.bytes Bytes.between Bytes.look Bytes.is Bytes.white-table Bytes.found Bytes.white Bytes.order
     Bytes.same Outcome._>>=_ Outcome.place Outcome.placed Utf8.head-table Utf8.encode Text.head-step Text.char-step Text.behind-tail Text.escape-table
-    Text.escape-step Text.hex-table Text.digit-fits Text.pair-of Text.unicode Text.digit-step Text.text-step Number.is-int Number.most-coefficient
+    Text.escape-step Text.hex-table Text.digit-fits Text.pair-of Text.unicode Text.digit-step Text.text-step Number.is-int Number.whole Number.most-coefficient
     Number.most-scale Number.no-digits Number.beyond Number.number-of Number.e-rows Number.int-rows Number.next Number.complete Number.shifted Number.extend
     Number.spelled Value.items-onto Value.members-onto Value.has-name Value.count Value.size Value.nesting Json.true-name Json.false-name Json.null-name
     Json.put Json.spell Json.value-rows Json.value-move Json.name-move Json.token-move Json.gap-move Json.close-move Json.text-move Json.number-end Json.move
@@ -46,12 +46,12 @@ unfolding Limits.standard Limits.smallest Limits.in-range Bytes.bytes Bytes.betw
     Reader.read-place Checking.field-kinds Checking.convert-kinds Checking.list-kinds Checking.if-kinds Checking.wants Checking.listed Checking.gain-null
     Checking.field-shape Checking.convert-shape Checking.element-shape Checking.test-kinds Checking.stay-numeric Checking.stay-element Checking.stay-record
     Checking.stay Checking.cut-to Checking.taken-out Checking.check-place Checking.check Checking.check-reader Running.gives Running.enter Running.stuck-unless
-    Running.member-of Running.members-of Running.field-value Running.converted Running.items-of Running.int-value Running.truth Running.run-place
-    Running.run-items Running.run Running.run-reader Operations.refusal Operations.output-short Operations.written Operations.said Operations._>>=_
-    Operations.source Operations.in-text Operations.judge-text Operations.judge-both Operations.slices-short Operations.judge-work Operations.judge-limits
-    Operations.prelude Operations.shape-out Operations.result-out Operations.deliver Operations.finish Operations.say Operations.plain-judged
-    Operations.infer-judged Operations.join-judged Operations.below-judged Operations.admits-judged Operations.check-judged Operations.run-judged
-    Operations.plain-operation Operations.infer-operation Operations.join-operation Operations.below-operation Operations.admits-operation
+    Running.member-of Running.members-of Running.field-value Running.whole-value Running.converted Running.items-of Running.int-value Running.truth
+    Running.run-place Running.run-items Running.run Running.run-reader Operations.refusal Operations.output-short Operations.written Operations.said
+    Operations._>>=_ Operations.source Operations.in-text Operations.judge-text Operations.judge-both Operations.slices-short Operations.judge-work
+    Operations.judge-limits Operations.prelude Operations.shape-out Operations.result-out Operations.deliver Operations.finish Operations.say
+    Operations.plain-judged Operations.infer-judged Operations.join-judged Operations.below-judged Operations.admits-judged Operations.check-judged
+    Operations.run-judged Operations.plain-operation Operations.infer-operation Operations.join-operation Operations.below-operation Operations.admits-operation
     Operations.check-operation Operations.run-operation Calls.little-endian Calls.as-word Calls.answer-words Calls.answered Calls.call Calls.quiet
     Calls.plain-call Calls.infer-call Calls.join-call Calls.below-call Calls.admits-call Calls.check-call Calls.run-call
 evaluate = tt

@@ -1,6 +1,6 @@
 -- Numbers: RFC 8259 section 6 one step a byte, the paper's coefficient, sign and scale, and what an int is.
 -- Assumes nothing.
-use Prim.Native.Nat.{ℕ, suc, _+_, _-_, _*_}
+use Prim.Native.Nat.{ℕ, suc, _+_, _-_, _*_, _/_, _%_, _^_}
 use mathlib.Core.Bool.{Bool, true, false, not, _&&_, _||_}
 use mathlib.Core.List.{List, [], _∷_}
 use mathlib.Core.Option.{Option, none, some}
@@ -15,9 +15,14 @@ pub record Number : Type 0 where
   pub coefficient : ℕ
   pub scale : ℕ
 
--- "Without a fraction it is an int; with one it is a decimal"
+-- request Q-5: "a number whose fraction digits are all zero is an int"; it has no such digit, or its last ones are zeros, as
+-- many as the scale says. Any other is a decimal
 unfoldable pub is-int : Number → Bool
-is-int x = eqb (x .scale) 0
+is-int x = eqb (x .coefficient % 10 ^ x .scale) 0
+
+-- an int "without fraction", at scale 0
+unfoldable pub whole : Number → Number
+whole x = record { negative = x .negative; coefficient = x .coefficient / 10 ^ x .scale; scale = 0 }
 
 -- "magnitude at most 999,999,999,999,999,999"
 unfoldable pub most-coefficient : ℕ

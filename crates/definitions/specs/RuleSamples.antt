@@ -1,19 +1,27 @@
--- Rows of check and run at rules that no sample of the sheet reaches, proved by evaluation. Assumes nothing.
+-- Rows of check and run at rules that no sample of the sheet reaches, and of the numbers that request Q-5 calls ints, proved
+-- by evaluation. Assumes nothing.
 use Prim.Native.Nat.{ℕ}
 use Prim.Native.String.{String}
 use mathlib.Core.Path.{_≡_, refl}
-use mathlib.Core.Bool.{false}
+use mathlib.Core.Bool.{true, false}
 use mathlib.Core.List.{[], _++_}
 use lib.ListN.{length, drop, replicate}
 use Rattle.definitions.specs.declared.Limits.{Limits}
 use Rattle.definitions.specs.Limits.{standard}
 use Rattle.definitions.specs.Bytes.{Bytes, bytes}
 use Rattle.definitions.specs.Json.{read-json}
-use Rattle.definitions.specs.Operations.{Done, refusal, written, check-operation, run-operation}
+use Rattle.definitions.specs.Operations.{Done, refusal, written, said, plain-operation, infer-operation, admits-operation}
+use Rattle.definitions.specs.Operations.{check-operation, run-operation}
 use Rattle.definitions.specs.Evaluate.{evaluate}
 
 abbrev room : Bytes
 room = replicate 300 0xA5
+
+abbrev plain : String → Done
+plain document = plain-operation read-json [] [] standard (bytes document) room
+
+abbrev infer : String → Done
+infer document = infer-operation read-json [] [] standard (bytes "(shape)") (bytes document) room
 
 abbrev check : String → String → Done
 check reader shape = check-operation [] [] standard (bytes reader) (bytes shape) room
@@ -96,11 +104,6 @@ decimal-is-a-num : run standard "(when num (it 0) (yes) (no))" "4.5" ≡ writes 
 unfolding evaluate
 decimal-is-a-num = refl
 
--- a fraction makes a decimal, a zero one too
-zero-fraction-is-no-int : run standard "(when int (it 0) (yes) (no))" "4.0" ≡ writes "false" 3
-unfolding evaluate
-zero-fraction-is-no-int = refl
-
 -- request Q-2: "On null it reads null", in the steps that a record takes
 reads-through-null : run standard "(keep (field \"rpm\" (field \"motor\" (it 0))))" "{\"motor\":null}" ≡ writes "null" 4
 unfolding evaluate
@@ -124,6 +127,90 @@ stuck-on-text = refl
 each-before-its-result : run standard "(each (it 0) (int (it 1)))" "\"t\"" ≡ refuses 12 0
 unfolding evaluate
 each-before-its-result = refl
+
+-- ---- request Q-5: "a number whose fraction digits are all zero is an int"
+
+-- "This goes for shapes": a fraction of zeros alone is no reason for dec
+ints-have-int : infer "[12.0, 12]" ≡ writes "(shape list\n (shape int))\n" 0
+unfolding evaluate
+ints-have-int = refl
+
+decimals-have-both : infer "[12.0, 12.5, 12]" ≡ writes "(shape list\n (shape int dec))\n" 0
+unfolding evaluate
+decimals-have-both = refl
+
+-- one digit that is no zero makes a decimal, wherever it stands among them
+last-digit-counts : infer "12.000000001" ≡ writes "(shape int dec)\n" 0
+unfolding evaluate
+last-digit-counts = refl
+
+first-digit-counts : infer "12.500000000" ≡ writes "(shape int dec)\n" 0
+unfolding evaluate
+first-digit-counts = refl
+
+-- "admitting"
+int-admits-zeros : admits-operation read-json [] [] standard (bytes "(shape int)") (bytes "12.0") ≡ said true
+unfolding evaluate
+int-admits-zeros = refl
+
+int-admits-no-decimal : admits-operation read-json [] [] standard (bytes "(shape int)") (bytes "12.50") ≡ said false
+unfolding evaluate
+int-admits-no-decimal = refl
+
+-- "`when int`": the value that it binds has its fraction
+when-int-takes-zeros : run standard "(when int (it 0) (keep (it 0)) (no))" "12.0" ≡ writes "12.0" 4
+unfolding evaluate
+when-int-takes-zeros = refl
+
+-- "and the int conversion, which writes it without fraction"
+int-without-fraction : run standard "(int (it 0))" "12.0" ≡ writes "12" 2
+unfolding evaluate
+int-without-fraction = refl
+
+int-of-zero : run standard "(int (it 0))" "-0.0" ≡ writes "0" 2
+unfolding evaluate
+int-of-zero = refl
+
+int-with-its-sign : run standard "(int (it 0))" "-10.00" ≡ writes "-10" 2
+unfolding evaluate
+int-with-its-sign = refl
+
+no-int-of-a-decimal : run standard "(int (it 0))" "12.50" ≡ refuses 12 0
+unfolding evaluate
+no-int-of-a-decimal = refl
+
+-- the three numbers, each by its kind
+ints-and-decimals
+    : run standard "(each (it 0) (when int (it 0) (int (it 0)) (dec (it 0))))" "[12.0, 12.5, 12]" ≡ writes "[12,12.5,12]" 14
+unfolding evaluate
+ints-and-decimals = refl
+
+-- "Plain JSON keeps its spelling", and so do the other forms
+spelling-kept : plain "[12.0, 12.5, 12]" ≡ writes "[12.0,12.5,12]" 0
+unfolding evaluate
+spelling-kept = refl
+
+dec-keeps-zeros : run standard "(dec (it 0))" "12.0" ≡ writes "12.0" 2
+unfolding evaluate
+dec-keeps-zeros = refl
+
+literal-keeps-zeros : run standard "(num 12.0)" "null" ≡ writes "12.0" 1
+unfolding evaluate
+literal-keeps-zeros = refl
+
+-- "Literals give their value's shape"
+literal-of-zeros-is-int : check "(num 12.0)" "(shape)" ≡ writes "(shape int)\n" 0
+unfolding evaluate
+literal-of-zeros-is-int = refl
+
+-- N of `it` and the digits of refusal 4 are as written
+index-as-spelled : check "(keep (it 0.0))" "(shape int)" ≡ refuses 7 10
+unfolding evaluate
+index-as-spelled = refl
+
+ten-zeros-are-too-many : plain "12.0000000000" ≡ refuses 4 0
+unfolding evaluate
+ten-zeros-are-too-many = refl
 
 -- ---- 13, at the fewest steps that request Q-6 allows
 

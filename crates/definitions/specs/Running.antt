@@ -9,10 +9,11 @@ use lib.ListN.{getD}
 use Rattle.definitions.specs.declared.Limits.{Limits}
 use Rattle.definitions.specs.Bytes.{Bytes, same}
 use Rattle.definitions.specs.Outcome.{Outcome, ok, refused, _>>=_}
+use Rattle.definitions.specs.Number.{whole}
 use Rattle.definitions.specs.Value.{Value, Items, no-items, item, Members, no-members, member, count}
 use Rattle.definitions.specs.Shape.{Kind, among}
 use Rattle.definitions.specs.Admits.{kind-of}
-use Rattle.definitions.specs.Reader.{Place, Conversion, Result, Pairs, no-pairs, pair}
+use Rattle.definitions.specs.Reader.{Place, Conversion, to-int, to-dec, to-bool, to-text, Result, Pairs, no-pairs, pair}
 use Rattle.definitions.specs.Checking.{field-kinds, convert-kinds, list-kinds, test-kinds}
 
 -- what ran, and the steps counted when it had
@@ -52,9 +53,21 @@ members-of (Value.rec ms) = ms
 unfoldable pub field-value : (at : ℕ) → Bytes → Value → Outcome ℕ Value
 field-value at n v = stuck-unless at field-kinds v (ok (member-of n (members-of v)))
 
--- "Conversions give the value they were handed."
+-- an int without its fraction; of anything but a number, itself
+unfoldable pub whole-value : Value → Value
+whole-value Value.null = Value.null
+whole-value (Value.bool b) = Value.bool b
+whole-value (Value.number x) = Value.number (whole x)
+whole-value (Value.text t) = Value.text t
+whole-value (Value.list vs) = Value.list vs
+whole-value (Value.rec ms) = Value.rec ms
+
+-- "Conversions give the value they were handed", but for request Q-5: "the int conversion, which writes it without fraction"
 unfoldable pub converted : Conversion → Value → Value
-converted c v = v
+converted to-int v = whole-value v
+converted to-dec v = v
+converted to-bool v = v
+converted to-text v = v
 
 -- "Null counts 0 and gives the empty list under `each`."
 unfoldable pub items-of : Value → Items

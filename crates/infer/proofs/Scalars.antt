@@ -9,9 +9,9 @@ use Rattle.definitions.specs.Number.{Number, is-int, most-scale}
 use Rattle.definitions.specs.Value.{Value}
 use Rattle.definitions.specs.Shape.{Numeric, int-only, int-and-dec, has-list, has-rec, only-null, only-bool, only-numeric, only-text}
 use Rattle.definitions.specs.Join.{numeric-of, shape-of}
-use Rattle.nodes.specs.Nodes.{kind-code, head-word}
-use Rattle.nodes.specs.Standing.{Value-stands}
-use Rattle.nodes.specs.StandingLaws.{value-head}
+use Rattle.nodes.specs.Nodes.{kind-code}
+use Rattle.nodes.specs.Standing.{Value-stands, Number-stands}
+use Rattle.nodes.specs.StandingLaws.{value-head, number-stands}
 use Rattle.plain.specs.Table.{Bounded-numbers}
 use Rattle.plain.specs.HeadLaws.{head-kind}
 use Rattle.shapes.specs.Shapes.{bit, numeric-bits, kind-bits}
@@ -62,7 +62,7 @@ numeric-kinds false = refl
 
 pub bits-number
     : {nodes p : List ℕ} {at k r : ℕ} {int : Bool} (v : Value) → Value-stands nodes p at k v → Bounded-numbers v → kind-code v ≡ 3
-    → ((x : Number) → getD nodes at 0 ≡ head-word (Value.number x) → x .scale < 16 → int ≡ is-int x)
+    → ((x : Number) → Number-stands nodes at x → int ≡ is-int x)
     → r ≡ elim int as (λ (x : Bool). ℕ) [ true ↦ 4 | false ↦ 12 ] → r ≡ kind-bits (shape-of v)
 unfolding kind-code shape-of Bounded-numbers most-scale numeric-of
 bits-number Value.null h b e f g = absurd (let z : ⊥ = omega arith in z)
@@ -70,7 +70,7 @@ bits-number (Value.bool true) h b e f g = absurd (let z : ⊥ = omega arith in z
 bits-number (Value.bool false) h b e f g = absurd (let z : ⊥ = omega arith in z)
 bits-number (Value.number x) h b e f g =
     g
-    ∙ ap (λ (y : Bool). elim y as (λ (z : Bool). ℕ) [ true ↦ 4 | false ↦ 12 ]) (f x (value-head h) (omega (arith, b .scale)))
+    ∙ ap (λ (y : Bool). elim y as (λ (z : Bool). ℕ) [ true ↦ 4 | false ↦ 12 ]) (f x (number-stands h (omega (arith, b .scale))))
     ∙ numeric-kinds (is-int x)
 bits-number (Value.text t) h b e f g = absurd (let z : ⊥ = omega arith in z)
 bits-number (Value.list vs) h b e f g = absurd (let z : ⊥ = omega arith in z)

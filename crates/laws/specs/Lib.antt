@@ -36,6 +36,9 @@ pub mod NumberSound
 pub mod NumberTokens
 pub mod NumberWords
 pub mod NumberRound
+pub mod ZeroDigits
+pub mod Ints
+pub mod IntDigits
 pub mod EncodeLaws
 pub mod StringRows
 pub mod StringSteps
@@ -135,6 +138,7 @@ pub mod OperationCausesParts
 pub mod OperationCausesHold
 pub mod OperationCausesReaders
 pub mod WrittenDocuments
+pub mod IntConversions
 pub mod CallLaws
 pub mod HostChain
 pub mod HostDemand3

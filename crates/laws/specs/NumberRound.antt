@@ -156,7 +156,7 @@ digit-value : (c x p e : ℕ) → (c * 10 + x) * p + e ≡ c * (10 * p) + (x * p
 digit-value c x p e = omega arith
 
 -- what digits add to a coefficient, and how many they are
-digits-value
+pub digits-value
     : {c d n : ℕ} {s r : Bytes} → Rfc.digits c s d n r
     → (e : ℕ) × (e < 10 ^ n) × (d ≡ c * 10 ^ n + e) × (length s ≡ n + length r)
 digits-value {c} Rfc.no-digits = (0, omega arith, omega arith, omega arith)
@@ -171,7 +171,7 @@ digits-value {c} (Rfc.digit {b} {d} {n} i h) =
     )
 
 -- the int of a number, from its coefficient
-frac-int : {c d n : ℕ} {s r : Bytes} → Rfc.frac c s d n r → d / 10 ^ n ≡ c
+pub frac-int : {c d n : ℕ} {s r : Bytes} → Rfc.frac c s d n r → d / 10 ^ n ≡ c
 frac-int {c} Rfc.no-frac = div-one c
 frac-int {c} {d} (Rfc.point {n} i h) =
     let k = digits-value h in

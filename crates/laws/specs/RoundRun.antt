@@ -2,7 +2,7 @@
 -- number: `count` makes an int of a list's length. Assumes nothing.
 use Prim.Native.Nat.{ℕ, zero, suc, _≤_}
 use native.Mathlib.Omega.{arith}
-use mathlib.Core.Path.{_≡_}
+use mathlib.Core.Path.{_≡_, refl}
 use mathlib.Core.Bool.{Bool, true, false, false≢true}
 use mathlib.Core.List.{List, [], _∷_}
 use mathlib.Core.Option.{Option, none, some}
@@ -11,17 +11,18 @@ use lib.ListN.{getD}
 use Rattle.definitions.specs.declared.Limits.{Limits}
 use Rattle.definitions.specs.Bytes.{Bytes, same}
 use Rattle.definitions.specs.Outcome.{Outcome, ok, refused}
-use Rattle.definitions.specs.Number.{most-coefficient}
+use Rattle.definitions.specs.Number.{Number, is-int, whole, most-coefficient}
 use Rattle.definitions.specs.Value.{Value, Items, no-items, item, Members, no-members, count, size, size-items, size-members}
 use Rattle.definitions.specs.Shape.{Kind, among}
 use Rattle.definitions.specs.Admits.{kind-of}
-use Rattle.definitions.specs.Reader.{Place, Result, Pairs}
+use Rattle.definitions.specs.Reader.{Place, Conversion, to-int, to-dec, to-bool, to-text, Result, Pairs}
 use Rattle.definitions.specs.Checking.{field-kinds, convert-kinds, list-kinds, test-kinds}
-use Rattle.definitions.specs.Running.{Ran, gives, enter, stuck-unless, member-of, members-of, field-value, converted}
+use Rattle.definitions.specs.Running.{Ran, gives, enter, stuck-unless, member-of, members-of, field-value, whole-value, converted}
 use Rattle.definitions.specs.Running.{items-of, int-value, truth, run-place, run-items, run, run-pairs, run-reader}
 use Rattle.laws.specs.Good.{Good-value, good-null, good-bool, good-number, good-text, good-list, good-rec, Good-items, good-no-items}
 use Rattle.laws.specs.Good.{good-item, Good-members, good-no-members, good-member, Good-reader, good-convert, good-keep, good-count}
 use Rattle.laws.specs.Good.{good-each, good-when, good-choose, good-literal, good-pack, Good-pairs, good-no-pairs, good-pair}
+use Rattle.laws.specs.Ints.{int-number, whole-good}
 use Rattle.laws.specs.RoundOutcome.{Gives, gives-ok, gives-refused, gives-holds, gives-then, gives-map, gives-if}
 
 -- ---- values of places
@@ -125,11 +126,20 @@ enter-gives : (l : Limits) (at n : ℕ) → Gives (λ m. Unit {0}) (enter l at n
 unfolding enter
 enter-gives l at n = gives-if (ltb n (l .steps)) (gives-ok tt) gives-refused
 
+unstuck-gives
+    : {A : Type 0} {R : A → Type 0} (at : ℕ) (ks : List Kind) (v : Value) {out : Outcome ℕ A}
+    → (among (kind-of v) ks ≡ true → Gives R out) → Gives R (stuck-unless at ks v out)
+unfolding stuck-unless
+unstuck-gives {R = R} at ks v {out} g = go (among (kind-of v) ks) g
+  where
+    go : (b : Bool) → (b ≡ true → Gives R out) → Gives {P = ℕ} R (elim b [ true ↦ out | false ↦ refused 12 at ])
+    go true h = h refl
+    go false h = gives-refused
+
 stuck-gives
     : {A : Type 0} {R : A → Type 0} (at : ℕ) (ks : List Kind) (v : Value) {out : Outcome ℕ A} → Gives R out
     → Gives R (stuck-unless at ks v out)
-unfolding stuck-unless
-stuck-gives at ks v g = gives-if (among (kind-of v) ks) g gives-refused
+stuck-gives at ks v g = unstuck-gives at ks v (λ e. g)
 
 gives-gives : {A : Type 0} (R : A → Type 0) {a : A} (n : ℕ) → R a → Gives (λ (x : Ran A). R (x .result)) (gives a n)
 unfolding gives
@@ -181,8 +191,19 @@ truth-gives at none g h = gives-refused
 truth-gives at (some true) g h = g
 truth-gives at (some false) g h = h
 
+-- what a conversion gives where it is not stuck
+converted-good : (c : Conversion) {v : Value} → among (kind-of v) (convert-kinds c) ≡ true → Good-value v → Good-value (converted c v)
+unfolding converted whole-value convert-kinds
+converted-good to-int {v} k g = int-number (λ (w : Value). Good-value w → Good-value (whole-value w)) v k int-good g
+  where
+    int-good : (x : Number) → is-int x ≡ true → Good-value (Value.number x) → Good-value (Value.number (whole x))
+    int-good x h (good-number n) = good-number (whole-good x h n)
+converted-good to-dec k g = g
+converted-good to-bool k g = g
+converted-good to-text k g = g
+
 mutual
-  unfolding run converted
+  unfolding run
 
   run-gives
       : {r : Result} → Good-reader r → (l : Limits) (env : List Value) (n : ℕ) → Fair-values env
@@ -191,7 +212,7 @@ mutual
       gives-then (enter-gives l at n)
       (λ n₁ u.
       gives-then (run-place-gives p l env n₁ h)
-      (λ x f. stuck-gives at (convert-kinds c) (x .result) (gives-gives Good-value (x .steps) (f .good))))
+      (λ x f. unstuck-gives at (convert-kinds c) (x .result) (λ k. gives-gives Good-value (x .steps) (converted-good c k (f .good)))))
   run-gives (good-keep {at} {p} g) l env n h =
       gives-then (enter-gives l at n) (λ n₁ u. gives-map (run-place-gives p l env n₁ h) (λ x f. f .good))
   run-gives (good-count {at} {p} g) l env n h =

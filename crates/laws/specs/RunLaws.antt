@@ -11,9 +11,9 @@ use Rattle.definitions.specs.Outcome.{Outcome, ok, refused}
 use Rattle.definitions.specs.Value.{Value, Items, no-items, item, Members, no-members, member, has-name}
 use Rattle.definitions.specs.Shape.{among}
 use Rattle.definitions.specs.Admits.{kind-of}
-use Rattle.definitions.specs.Reader.{Place, Result, Pairs, no-pairs, pair, among-pairs}
+use Rattle.definitions.specs.Reader.{Place, Conversion, to-int, to-dec, to-bool, to-text, Result, Pairs, no-pairs, pair, among-pairs}
 use Rattle.definitions.specs.Checking.{convert-kinds, list-kinds, test-kinds}
-use Rattle.definitions.specs.Running.{Ran, gives, member-of, members-of, converted, items-of, int-value}
+use Rattle.definitions.specs.Running.{Ran, gives, member-of, members-of, whole-value, converted, items-of, int-value}
 use Rattle.definitions.specs.Running.{truth, run-place, run-items, run, run-pairs, run-reader}
 use Rattle.laws.specs.Bools.{and-intro}
 use Rattle.laws.specs.Distinct.{distinct, distinct-items, distinct-members}
@@ -183,15 +183,27 @@ items-distinct body b (item v vs) n h =
     holds-bind (items-distinct body b vs (x .steps) (d .1)) λ xs h₂.
     gave (and-intro h₁ h₂)
 
+converted-distinct : (c : Conversion) (v : Value) → distinct v ≡ true → distinct (converted c v) ≡ true
+unfolding converted whole-value distinct
+converted-distinct to-int Value.null h = refl
+converted-distinct to-int (Value.bool b) h = refl
+converted-distinct to-int (Value.number x) h = refl
+converted-distinct to-int (Value.text t) h = refl
+converted-distinct to-int (Value.list vs) h = h
+converted-distinct to-int (Value.rec ms) h = h
+converted-distinct to-dec v h = h
+converted-distinct to-bool v h = h
+converted-distinct to-text v h = h
+
 mutual
-  unfolding run gives converted int-value distinct proper
+  unfolding run gives int-value distinct proper
 
   pub run-keeps-distinct
       : (r : Result) (l : Limits) (vs : List Value) (n : ℕ) → proper r ≡ true → Distinct vs → Holds any Fine (run r l vs n)
   run-keeps-distinct (Result.convert at c p) l vs n q d =
       holds-bind (holds-enter l at n tt) λ n₁ h.
       holds-bind (place-distinct p l vs n₁ d) λ x h₁.
-      holds-stuck at (convert-kinds c) (x .result) tt (gave h₁)
+      holds-stuck at (convert-kinds c) (x .result) tt (gave (converted-distinct c (x .result) h₁))
   run-keeps-distinct (Result.keep at p) l vs n q d = holds-bind (holds-enter l at n tt) λ n₁ h. place-distinct p l vs n₁ d
   run-keeps-distinct (Result.count at p) l vs n q d =
       holds-bind (holds-enter l at n tt) λ n₁ h.

@@ -1,17 +1,18 @@
 -- The rules of running as relations, in the words of documents 01 and 02: which value a form gives and how many steps are counted
 -- then, where it is stuck and where the steps run out. A clause is a sentence of the paper; none goes by way of the functions
 -- that run. Assumes nothing.
-use Prim.Native.Nat.{ℕ, suc, _<_, _≤_}
+use Prim.Native.Nat.{ℕ, suc, _*_, _^_, _<_, _≤_}
 use mathlib.Core.Path.{_≡_}
 use mathlib.Core.Bool.{true, false}
 use mathlib.Core.List.{List, [], _∷_}
 use lib.ListN.{getD}
 use Rattle.definitions.specs.declared.Limits.{Limits}
 use Rattle.definitions.specs.Bytes.{Bytes, same}
+use Rattle.definitions.specs.Number.{Number}
 use Rattle.definitions.specs.Value.{Value, Items, no-items, item, Members, no-members, member, count}
 use Rattle.definitions.specs.Shape.{Kind, among, Shape}
 use Rattle.definitions.specs.Admits.{kind-of}
-use Rattle.definitions.specs.Reader.{Place, Conversion, Test, Result, Pairs, no-pairs, pair}
+use Rattle.definitions.specs.Reader.{Place, Conversion, to-int, to-dec, to-bool, to-text, Test, Result, Pairs, no-pairs, pair}
 use Rattle.laws.specs.CheckRules.{Converts, Means}
 
 -- ---- what the forms read of a value
@@ -44,6 +45,17 @@ pub data Elements : Value → Items → Type 0 where
 -- an int
 abbrev pub counted : ℕ → Value
 counted n = Value.number (record { negative = false; coefficient = n; scale = 0 })
+
+-- what a conversion makes of a value
+pub data Converted : Conversion → Value → Value → Type 0 where
+  -- request Q-5: "the int conversion, which writes it without fraction": the same number, at scale 0
+  without-fraction
+      : {x : Number} {c : ℕ} → c * 10 ^ x .scale ≡ x .coefficient
+      → Converted to-int (Value.number x) (Value.number (record { negative = x .negative; coefficient = c; scale = 0 }))
+  -- "Conversions give the value they were handed."
+  dec-handed : {v : Value} → Converted to-dec v v
+  bool-handed : {v : Value} → Converted to-bool v v
+  text-handed : {v : Value} → Converted to-text v v
 
 -- the place of a form's bracket
 abbrev pub place-bracket : Place → ℕ
@@ -81,10 +93,9 @@ module _ (l : Limits) where
   -- "Parts run left to right, only the chosen branch"
   mutual
     pub data Runs : List Value → (n : ℕ) → Result → (v : Value) → (m : ℕ) → Type 0 where
-      -- "Conversions give the value they were handed."
       runs-convert
-          : {env : List Value} {n at m : ℕ} {c : Conversion} {p : Place} {ks : List Kind} {s : Shape} {v : Value} → Enters n
-          → Place-runs env (suc n) p v m → Converts c ks s → Is ks v → Runs env n (Result.convert at c p) v m
+          : {env : List Value} {n at m : ℕ} {c : Conversion} {p : Place} {ks : List Kind} {s : Shape} {v w : Value} → Enters n
+          → Place-runs env (suc n) p v m → Converts c ks s → Is ks v → Converted c v w → Runs env n (Result.convert at c p) w m
       runs-keep
           : {env : List Value} {n at m : ℕ} {p : Place} {v : Value} → Enters n → Place-runs env (suc n) p v m
           → Runs env n (Result.keep at p) v m

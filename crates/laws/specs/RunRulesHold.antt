@@ -19,15 +19,16 @@ use Rattle.laws.specs.SoundSteps.{enter-within}
 use Rattle.laws.specs.RuleTells.{Tells, gave, told, told-refused, tells-map, tells-bind, tells-either, bind-ok, bind-refused}
 use Rattle.laws.specs.CheckRules.{Converts, Means}
 use Rattle.laws.specs.CheckRulesKinds.{converts, converts-as, means, means-as}
-use Rattle.laws.specs.RunRules.{Is, Is-not, Field, Elements, counted}
+use Rattle.laws.specs.RunRules.{Is, Is-not, Field, Elements, counted, Converted}
 use Rattle.laws.specs.RunRules.{Place-runs, runs-it, runs-field, Runs, runs-convert, runs-keep, runs-count, runs-each, runs-when-first}
 use Rattle.laws.specs.RunRules.{runs-when-second, runs-if-true, runs-if-false, runs-literal, runs-pack, Items-run, runs-no-items, runs-item}
 use Rattle.laws.specs.RunRules.{Pairs-run, runs-no-pairs, runs-pair, Place-halts, place-out, field-part, field-stuck, Halts, out, convert-part}
 use Rattle.laws.specs.RunRules.{convert-stuck, keep-part, count-part, count-stuck, each-part, each-stuck, each-items, when-part, when-first}
 use Rattle.laws.specs.RunRules.{when-second, if-part, if-stuck, if-true, if-false, pack-part, Items-halt, this-item, later-item, Pairs-halt}
 use Rattle.laws.specs.RunRules.{this-pair, later-pair, Stuck, Out-of-steps}
-use Rattle.laws.specs.RunRulesKinds.{field-is, field-kind, field-as, elements-is, elements-kind, elements-as, truth-none, tells-enter}
-use Rattle.laws.specs.RunRulesKinds.{tells-stuck, tells-truth, not-entered, stuck-met, stuck-unmet}
+use Rattle.laws.specs.RunRulesKinds.{field-is, field-kind, field-as, converted-is, converted-as, elements-is, elements-kind}
+use Rattle.laws.specs.RunRulesKinds.{elements-as, truth-none, tells-enter, tells-stuck, tells-truth, not-entered, stuck-met}
+use Rattle.laws.specs.RunRulesKinds.{stuck-unmet}
 
 -- ---- what running comes to is what the rules say
 
@@ -62,14 +63,14 @@ module _ (l : Limits) where
       tells-bind (items-tell r env body vs (x .steps)) (λ m q h. later-item d h) λ xs ds. gave (runs-item d ds)
 
   mutual
-    unfolding run gives converted list-kinds int-value
+    unfolding run gives list-kinds int-value
 
     run-tells : (r : Result) (env : List Value) (n : ℕ) → Run-tells env n r (run r l env n)
     run-tells (Result.convert at c p) env n =
         tells-enter l at n _ out λ e.
         tells-bind (place-tells p env (suc n)) (λ m q h. convert-part e h) λ x d.
         tells-stuck at (convert-kinds c) (x .result) (λ s. convert-stuck e d (converts c) s) λ s.
-        gave (runs-convert e d (converts c) s)
+        gave (runs-convert e d (converts c) s (converted-is c (x .result) s))
     run-tells (Result.keep at p) env n = tells-enter l at n _ out λ e.
         tells-map (λ m q h. keep-part e h) (λ x d. runs-keep e d) (place-tells p env (suc n))
     run-tells (Result.count at p) env n =
@@ -176,13 +177,13 @@ module _ (l : Limits) where
   chosen-second x y v h s e = rw (means-as h, s) e
 
   converted-met
-      : {c : Conversion} {ks : List Kind} {s : Shape} (at m : ℕ) (v : Value) → Converts c ks s → Is ks v
-      → stuck-unless at (convert-kinds c) v (ran v m) ≡ ran v m
-  converted-met at m v h e = rw (converts-as h .0) (stuck-met at _ v _ e)
+      : {c : Conversion} {ks : List Kind} {s : Shape} (at m : ℕ) (v : Value) {w : Value} → Converts c ks s → Is ks v → Converted c v w
+      → stuck-unless at (convert-kinds c) v (ran (converted c v) m) ≡ ran w m
+  converted-met at m v h e k = rw (converts-as h .0, converted-as k) (stuck-met at _ v _ e)
 
   converted-unmet
       : {c : Conversion} {ks : List Kind} {s : Shape} (at m : ℕ) (v : Value) → Converts c ks s → Is-not ks v
-      → stuck-unless at (convert-kinds c) v (ran v m) ≡ refused 12 at
+      → stuck-unless at (convert-kinds c) v (ran (converted c v) m) ≡ refused 12 at
   converted-unmet at m v h e = rw (converts-as h .0) (stuck-unmet at _ v _ e)
 
   count-as : {v : Value} {vs : Items} (m : ℕ) → Elements v vs → ran (int-value (count (items-of v))) m ≡ ran (counted (count vs)) m
@@ -190,11 +191,11 @@ module _ (l : Limits) where
   count-as m f = ap (λ (vs : Items). ran (counted (count vs)) m) (elements-as f)
 
   mutual
-    unfolding run gives converted list-kinds truth
+    unfolding run gives list-kinds truth
 
     run-gives : (r : Result) {env : List Value} {n m : ℕ} {v : Value} → Runs l env n r v m → run r l env n ≡ ran v m
-    run-gives (Result.convert at c p) {n = n} {m} {v} (runs-convert e d h s) =
-        bind-ok _ (enter-within l at n e) ∙ bind-ok _ (place-gives p d) ∙ converted-met at m v h s
+    run-gives (Result.convert at c p) {n = n} {m} (runs-convert {v = v} e d h s k) =
+        bind-ok _ (enter-within l at n e) ∙ bind-ok _ (place-gives p d) ∙ converted-met at m v h s k
     run-gives (Result.keep at p) {n = n} (runs-keep e d) = bind-ok _ (enter-within l at n e) ∙ place-gives p d
     run-gives (Result.count at p) {n = n} {m} (runs-count {v = v} e d f) =
         bind-ok _ (enter-within l at n e)
@@ -228,7 +229,7 @@ module _ (l : Limits) where
   if-none at v x y s = ap (λ (o : Option Bool). choice at o x y) (truth-none v s)
 
   mutual
-    unfolding run gives converted list-kinds truth
+    unfolding run gives list-kinds truth
 
     run-halts : (r : Result) {env : List Value} {n m q : ℕ} → Halts l env n r m q → run r l env n ≡ refused m q
     run-halts (Result.convert at c p) {n = n} (out o) = bind-refused _ (not-entered l at n o)

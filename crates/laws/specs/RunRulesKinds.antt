@@ -1,6 +1,6 @@
 -- What the forms read of a value, as the rules say it and as running computes it, and the steps of running. Assumes nothing.
 use Prim.Native.Nat.{ℕ, suc, _<_, _≤_}
-use mathlib.Core.Path.{_≡_, refl}
+use mathlib.Core.Path.{_≡_, refl, ap}
 use mathlib.Core.Bool.{Bool, true, false, false≢true, true≢false}
 use mathlib.Core.List.{List, [], _∷_}
 use mathlib.Core.Option.{none, some}
@@ -8,15 +8,19 @@ use lib.Dec.{ltb}
 use Rattle.definitions.specs.declared.Limits.{Limits}
 use Rattle.definitions.specs.Bytes.{Bytes, same}
 use Rattle.definitions.specs.Outcome.{Outcome, ok, refused, _>>=_}
-use Rattle.definitions.specs.Number.{is-int}
+use Rattle.definitions.specs.Number.{is-int, whole}
 use Rattle.definitions.specs.Value.{Value, Items, Members, no-members, member}
 use Rattle.definitions.specs.Shape.{Kind, rank, among}
 use Rattle.definitions.specs.Admits.{kind-of}
-use Rattle.definitions.specs.Running.{enter, stuck-unless, member-of, members-of, items-of, truth}
+use Rattle.definitions.specs.Reader.{Conversion, to-int, to-dec, to-bool, to-text}
+use Rattle.definitions.specs.Checking.{convert-kinds}
+use Rattle.definitions.specs.Running.{enter, stuck-unless, member-of, members-of, whole-value, converted, items-of, truth}
 use Rattle.laws.specs.Bools.{clash}
 use Rattle.laws.specs.Tests.{ltb-lt, ltb-le, le-ltb}
+use Rattle.laws.specs.Ints.{int-number, whole-same, whole-only}
 use Rattle.laws.specs.RuleTells.{Tells, stopped, tells-either}
 use Rattle.laws.specs.RunRules.{Is, Is-not, Member, missing, this, later, Field, of-record, through-null, Elements, of-list, of-null}
+use Rattle.laws.specs.RunRules.{Converted, without-fraction, dec-handed, bool-handed, text-handed}
 
 -- ---- what the forms read of a value
 
@@ -64,6 +68,22 @@ pub field-as : {n : Bytes} {v w : Value} → Field n v w → member-of n (member
 unfolding members-of member-of
 field-as (of-record h) = member-as h
 field-as through-null = refl
+
+pub converted-is : (c : Conversion) (v : Value) → Is (convert-kinds c) v → Converted c v (converted c v)
+unfolding convert-kinds converted whole-value whole
+converted-is to-int v e =
+    int-number (λ (w : Value). Converted to-int w (whole-value w)) v e (λ x h. without-fraction (whole-same x h))
+converted-is to-dec v e = dec-handed
+converted-is to-bool v e = bool-handed
+converted-is to-text v e = text-handed
+
+pub converted-as : {c : Conversion} {v w : Value} → Converted c v w → converted c v ≡ w
+unfolding converted whole-value whole
+converted-as (without-fraction {x} {c} e) =
+    ap (λ (n : ℕ). Value.number (record { negative = x .negative; coefficient = n; scale = 0 })) (whole-only x c e)
+converted-as dec-handed = refl
+converted-as bool-handed = refl
+converted-as text-handed = refl
 
 pub elements-is : (v : Value) → Is (Kind.list ∷ Kind.null ∷ []) v → Elements v (items-of v)
 unfolding kind-of among rank items-of

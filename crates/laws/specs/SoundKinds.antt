@@ -8,7 +8,7 @@ use mathlib.Core.List.{List, [], _∷_}
 use mathlib.Core.Option.{none, some}
 use lib.Dec.{T, eqb, eqb→eq}
 use lib.ListN.{getD}
-use Rattle.definitions.specs.Number.{Number, is-int}
+use Rattle.definitions.specs.Number.{Number, is-int, whole}
 use Rattle.definitions.specs.Outcome.{Outcome, refused}
 use Rattle.definitions.specs.Value.{Value}
 use Rattle.definitions.specs.Shape.{Kind, all-kinds, rank, among, every, Numeric, no-number, int-only, int-and-dec, Shape, shape, Element}
@@ -18,8 +18,9 @@ use Rattle.definitions.specs.Admits.{kind-of, missing-have-null, admits, admitt
 use Rattle.definitions.specs.Reader.{Conversion, to-int, to-dec, to-bool, to-text, Test}
 use Rattle.definitions.specs.Checking.{convert-kinds, if-kinds, convert-shape, element-shape, test-kinds}
 use Rattle.definitions.specs.Checking.{stay-numeric, stay-element, stay-record, stay, cut-to, taken-out}
-use Rattle.definitions.specs.Running.{items-of, int-value, truth}
+use Rattle.definitions.specs.Running.{whole-value, converted, items-of, int-value, truth}
 use Rattle.laws.specs.Bools.{and-left, and-right, and-intro, or-cases, clash, implied}
+use Rattle.laws.specs.Ints.{unscaled-int, int-number, whole-int}
 use Rattle.laws.specs.SoundHolds.{Holds}
 
 -- ---- seven kinds
@@ -132,17 +133,31 @@ convert-flat to-dec = (refl, refl)
 convert-flat to-bool = (refl, refl)
 convert-flat to-text = (refl, refl)
 
+handed-admits
+    : (c : Conversion) (v : Value) → among (kind-of v) (convert-kinds c) ≡ true → admits (convert-shape c) v ≡ true
+handed-admits c v h = admits-flat v (convert-shape c) (convert-has c (kind-of v) h) (convert-flat c .0) (convert-flat c .1)
+
+-- a number that is an int is admitted by int
+pub int-admits : (x : Number) → is-int x ≡ true → admits (only-numeric int-only) (Value.number x) ≡ true
+unfolding admits admitted kind-of only-numeric has has-int
+int-admits x h = rw (h, kind-of) refl
+
 -- "`int`, `bool`, `text` want kinds within their own and give it; `dec` .. gives both"
 pub convert-admits
-    : (c : Conversion) (v : Value) → among (kind-of v) (convert-kinds c) ≡ true → admits (convert-shape c) v ≡ true
-convert-admits c v h = admits-flat v (convert-shape c) (convert-has c (kind-of v) h) (convert-flat c .0) (convert-flat c .1)
+    : (c : Conversion) (v : Value) → among (kind-of v) (convert-kinds c) ≡ true → admits (convert-shape c) (converted c v) ≡ true
+unfolding converted whole-value convert-shape convert-kinds
+convert-admits to-int v h =
+    int-number (λ (w : Value). admits (only-numeric int-only) (whole-value w) ≡ true) v h (λ x i. int-admits (whole x) (whole-int x))
+convert-admits to-dec v h = handed-admits to-dec v h
+convert-admits to-bool v h = handed-admits to-bool v h
+convert-admits to-text v h = handed-admits to-text v h
 
 -- ---- lists and conditions
 
 -- a count is an int
 pub count-admits : (n : ℕ) → admits (only-numeric int-only) (int-value n) ≡ true
-unfolding admits admitted kind-of is-int int-value only-numeric has has-int
-count-admits n = refl
+unfolding int-value
+count-admits n = int-admits (record { negative = false; coefficient = n; scale = 0 }) (unscaled-int _ refl)
 
 -- "(the element is nothing where list is absent)"; "Null .. gives the empty list under `each`"
 pub items-admitted

@@ -1,9 +1,10 @@
 -- The promises of `definitions`, each tied to its demand (document 00). Everything that a reader has to believe of the
 -- theorems stands here and in what these statements name: `definitions`, the grammars (Rfc3629, Rfc8259, TokenGrammar, FormGrammar), the
 -- causes (Causes, FormCauses, OperationCauses), the rules of checking and running (CheckRules, RunRules), trees and what fits (Tree), values of the
--- paper (Distinct, Good, Readers), the chain of calls (Chain, AnswerWords, HostChain) and what `field` was (OldField, OldOperations).
+-- paper (Distinct, Good, Readers), the chain of calls (Chain, AnswerWords, HostChain), what `field` was (OldField, OldOperations) and fractions
+-- of zeros (ZeroDigits).
 -- They hold for every set of limits where no range is named. Theorems proves them. Assumes nothing.
-use Prim.Native.Nat.{ℕ, _≤_, _<_}
+use Prim.Native.Nat.{ℕ, _*_, _^_, _≤_, _<_}
 use mathlib.Core.Path.{_≡_}
 use mathlib.Core.Logic.{_⊎_, _↔_}
 use mathlib.Core.Bool.{Bool, true, false}
@@ -14,16 +15,17 @@ use Rattle.definitions.specs.declared.Answer.{Answer}
 use Rattle.definitions.specs.Limits.{standard, in-range}
 use Rattle.definitions.specs.Bytes.{Bytes, bytes}
 use Rattle.definitions.specs.Outcome.{ok, refused}
+use Rattle.definitions.specs.Number.{Number, is-int}
 use Rattle.definitions.specs.Value.{Value, size, nesting}
 use Rattle.definitions.specs.Json.{read-json}
 use Rattle.definitions.specs.Plain.{plain}
-use Rattle.definitions.specs.Shape.{Shape, ascending, forms, levels, only-null}
+use Rattle.definitions.specs.Shape.{Kind, int-only, Shape, has, ascending, forms, levels, only-null, only-numeric}
 use Rattle.definitions.specs.Order.{below}
 use Rattle.definitions.specs.Join.{join, shape-of}
 use Rattle.definitions.specs.Admits.{admits}
 use Rattle.definitions.specs.Tokens.{Placed, tokens}
 use Rattle.definitions.specs.ShapeText.{read-shape, write-shape}
-use Rattle.definitions.specs.Reader.{Result, read-reader}
+use Rattle.definitions.specs.Reader.{Place, to-int, Result, read-reader}
 use Rattle.definitions.specs.Checking.{check-reader}
 use Rattle.definitions.specs.Running.{Ran, field-value, run-reader}
 use Rattle.definitions.specs.Operations.{Done, Source, Judged, refusal, slices-short, prelude, Text-out, finish, say, plain-operation, infer-operation}
@@ -32,7 +34,8 @@ use Rattle.definitions.specs.Calls.{Called, answer-words, answered, call, quiet
 use Rattle.definitions.specs.Calls.{below-call, admits-call, check-call, run-call}
 use Rattle.laws.specs.Distinct.{distinct}
 use Rattle.laws.specs.Tree.{Tree, meaning, Fits}
-use Rattle.laws.specs.Rfc8259.{ws, JSON-text}
+use Rattle.laws.specs.Rfc8259.{ws, frac, JSON-text}
+use Rattle.laws.specs.ZeroDigits.{Zero-frac}
 use Rattle.laws.specs.Causes.{Cause, Refused-first}
 use Rattle.laws.specs.TokenGrammar.{Tokens-of}
 use Rattle.laws.specs.FormCauses.{Shape-cause, Reader-cause}
@@ -40,7 +43,7 @@ use Rattle.laws.specs.FormGrammar.{Shape-form, Reader-within}
 use Rattle.laws.specs.Good.{Good-value, Good-shape}
 use Rattle.laws.specs.Readers.{scoped, proper, Safe}
 use Rattle.laws.specs.CheckRules.{Checks, Refuses}
-use Rattle.laws.specs.RunRules.{Runs, Stuck, Out-of-steps}
+use Rattle.laws.specs.RunRules.{Place-runs, Runs, Stuck, Out-of-steps}
 use Rattle.laws.specs.Chain.{Call, Proper-source, In-range, Demand-3}
 use Rattle.laws.specs.Larger.{Larger, Reads-on}
 use Rattle.laws.specs.OperationCauses.{Refused-with-the-first, Plain-cause, Infer-cause, Join-cause, Below-cause, Admits-cause}
@@ -498,3 +501,27 @@ pub record Reads-through-null : Type 0 where
       : (source : Source) (l : Limits) (reader document output buffer : Bytes)
       → Unless-met-called 12 (Meets-null source l reader document) output buffer (old-run-call source l reader document output buffer)
       (run-call source l reader document output buffer)
+
+-- ---- request Q-5: whole watts written 12.0
+
+-- "a number whose fraction digits are all zero is an int. This goes for shapes, admitting, `when int` and the int conversion, which writes it
+-- without fraction." Digits are those that RFC 8259's grammar derives; that `when int` goes by it too says Running-by-the-rules
+pub record Zero-fractions-are-ints : Type 0 where
+  pub by-digits
+      : (m : Bool) (c d n : ℕ) (s r : Bytes) → frac c s d n r
+      → (is-int (record { negative = m; coefficient = d; scale = n }) ≡ true) ↔ Zero-frac n s r
+  pub shaped : (x : Number) → is-int x ≡ true → shape-of (Value.number x) ≡ only-numeric int-only
+  pub admitted : (s : Shape) (x : Number) → is-int x ≡ true → admits s (Value.number x) ≡ has Kind.int s
+  -- the int conversion gives the number that its place came to, at scale 0
+  pub converted
+      : (at : ℕ) (p : Place) (l : Limits) (v : Value) (x : Ran Value) → run-reader (Result.convert at to-int p) l v ≡ ok x
+      → (y : Number) × (c : ℕ) × Place-runs l (v ∷ []) 1 p (Value.number y) (x .steps) × (is-int y ≡ true)
+      × (c * 10 ^ y .scale ≡ y .coefficient) × (x .result ≡ Value.number (record { negative = y .negative; coefficient = c; scale = 0 }))
+  -- which int admits, and which reads back
+  pub admitted-by-int
+      : (at : ℕ) (p : Place) (l : Limits) (v : Value) (x : Ran Value) → run-reader (Result.convert at to-int p) l v ≡ ok x
+      → admits (only-numeric int-only) (x .result) ≡ true
+  pub reads-back
+      : (l : Limits) → In-range l → (text s : Bytes) (at : ℕ) (p : Place) (v : Value) (x : Ran Value)
+      → read-reader l text ≡ ok (Result.convert at to-int p) → read-json l s ≡ ok v → run-reader (Result.convert at to-int p) l v ≡ ok x
+      → read-json l (plain (x .result)) ≡ ok (x .result)

@@ -45,7 +45,9 @@ use Rattle.laws.specs.BlankReaders.{no-token-blank, blank-reads, none-ru
 use Rattle.laws.specs.Statements.{Only-the-steps-run-out, Results-handed-on, Larger-sets-go-on-from-every-source, Larger-sets-go-on}
 use Rattle.laws.specs.ThroughNull.{passes-again, checked-before, was-unwanted, ends-again, ran-before, was-stuck, reads-null}
 use Rattle.laws.specs.ThroughNullOperations.{check-before, run-before, check-call-before, run-call-before}
-use Rattle.laws.specs.Statements.{Blank-readers-mean-none, Reads-through-null}
+use Rattle.laws.specs.IntDigits.{ints-by-digits}
+use Rattle.laws.specs.IntConversions.{int-shaped, int-admitted, int-given, given-admitted, given-reads-back}
+use Rattle.laws.specs.Statements.{Blank-readers-mean-none, Reads-through-null, Zero-fractions-are-ints}
 
 -- ---- reading
 
@@ -247,4 +249,17 @@ reads-through-null =
       by-run = run-before;
       by-check-call = check-call-before;
       by-run-call = run-call-before;
+    }
+
+-- ---- request Q-5: whole watts written 12.0
+
+pub zero-fractions-are-ints : Zero-fractions-are-ints
+zero-fractions-are-ints =
+    record {
+      by-digits = λ m c d n s r f. ints-by-digits m f;
+      shaped = int-shaped;
+      admitted = int-admitted;
+      converted = int-given;
+      admitted-by-int = given-admitted;
+      reads-back = given-reads-back;
     }

@@ -2,10 +2,11 @@
 use Prim.Native.Nat.{ℕ, _+_, _<_}
 use mathlib.Core.Path.{_≡_}
 use mathlib.Core.List.{List, _++_}
-use lib.ListN.{length, take, drop}
+use lib.ListN.{length, getD, take, drop}
 use Rattle.definitions.specs.Bytes.{Bytes}
+use Rattle.definitions.specs.Number.{Number}
 use Rattle.definitions.specs.Value.{Value, Items, item, Members, no-members, member}
-use Rattle.nodes.specs.Nodes.{Refers, Rows, Item-rows, Member-rows, row-size}
+use Rattle.nodes.specs.Nodes.{head-word, Refers, Rows, Item-rows, Member-rows, row-size}
 
 -- the rows of v stand in the table from a row on, under the name word m; p is the used part of the pool
 pub record Value-stands (nodes p : List ℕ) (at m : ℕ) (v : Value) : Type 0 where
@@ -13,6 +14,12 @@ pub record Value-stands (nodes p : List ℕ) (at m : ℕ) (v : Value) : Type 0 w
   pub rest : List ℕ
   pub encoded : Rows p m v rows
   pub placed : drop at nodes ≡ rows ++ rest
+
+-- of a number the first two words of its row are enough
+pub record Number-stands (nodes : List ℕ) (row : ℕ) (x : Number) : Type 0 where
+  pub head : getD nodes row 0 ≡ head-word (Value.number x)
+  pub payload : getD nodes (row + 1) 0 ≡ x .coefficient
+  pub small : x .scale < 16
 
 pub record Items-stand (nodes p : List ℕ) (at end : ℕ) (vs : Items) : Type 0 where
   pub rows : List ℕ

@@ -8,13 +8,14 @@ use native.Mathlib.Omega.{arith}
 use lib.ListN.{length, take, drop, getD, length-append, length-drop}
 use lib.Seq.{drop-drop, drop-at, getD-drop, take-length, length-take-le, take-take}
 use Rattle.definitions.specs.Bytes.{Bytes, same}
+use Rattle.definitions.specs.Number.{Number}
 use Rattle.definitions.specs.Value.{Value, Items, no-items, Members, no-members, size}
 use Rattle.pool.specs.Pool.{text-in, words}
 use Rattle.pool.specs.PoolLaws.{text-in-front, text-in-held}
-use Rattle.nodes.specs.Nodes.{head-word, Refers, refers, Rows, list-rows, rec-rows, row-size, Item-rows, reference}
+use Rattle.nodes.specs.Nodes.{head-word, Refers, refers, Rows, number-row, list-rows, rec-rows, row-size, Item-rows, reference}
 use Rattle.nodes.specs.Nodes.{no-item-rows, item-rows, Member-rows, no-member-rows, member-rows}
-use Rattle.nodes.specs.NodesLaws.{reference-word, reference-bytes, length-rows, rows-begin, row-size-is, row-name-is}
-use Rattle.nodes.specs.Standing.{Value-stands, Items-stand, Members-stand, First-item, First-member}
+use Rattle.nodes.specs.NodesLaws.{reference-word, reference-bytes, length-rows, rows-begin, getD-row, row-size-is, row-name-is}
+use Rattle.nodes.specs.Standing.{Value-stands, Number-stands, Items-stand, Members-stand, First-item, First-member}
 
 pub size-some : (v : Value) → 1 ≤ size v
 unfolding size
@@ -50,6 +51,14 @@ module _ {nodes p : List ℕ} {at m : ℕ} {v : Value} where
         length-append (s .rows) (s .rest),
         length-rows (s .encoded),
       )
+
+-- a number by its first two words
+pub number-stands
+    : {nodes p : List ℕ} {at m : ℕ} {x : Number} → Value-stands nodes p at m (Value.number x) → x .scale < 16 → Number-stands nodes at x
+number-stands {nodes} {p} {at} {m} {x} s h = record { head = value-head s; payload = go (s .encoded) (s .placed); small = h }
+  where
+    go : {rs : List ℕ} → Rows p m (Value.number x) rs → drop at nodes ≡ rs ++ s .rest → getD nodes (at + 1) 0 ≡ x .coefficient
+    go number-row e = getD-row nodes at 1 e
 
 -- behind a list's or a record's own row
 inner

@@ -9,8 +9,8 @@ ghost use Rattle.definitions.specs.Bytes.{same};
 ghost use Rattle.definitions.specs.Number.{Number, is-int};
 ghost use Rattle.definitions.specs.Value.{Value, Members, has-name};
 ghost use Rattle.pool.specs.Pool.{text-in};
-ghost use Rattle.nodes.specs.Nodes.{head-of, head-word, number-bits, reference, row-size, sign-bit};
-ghost use Rattle.nodes.specs.Standing.{Members-stand, Members-held, Some-members, member-count};
+ghost use Rattle.nodes.specs.Nodes.{head-of, number-bits, reference, row-size, sign-bit};
+ghost use Rattle.nodes.specs.Standing.{Number-stands, Members-stand, Members-held, Some-members, member-count};
 
 // The codes of the kinds.
 pub const NULL: u64 = 0;
@@ -64,18 +64,28 @@ pub fn row_scale(nodes: &[u64], row: usize) -> u64
     word(nodes, row) / 16 % 16
 }
 
-// Whether the number of this sign and scale is an int: it has no fraction.
-pub fn is_int(bits: u64) -> bool
-    ensures told { λ r. ⌜ ((x : Number) → bits ≡ number-bits (Value.number x) → r ≡ is-int x) ⌝ }
+// Whether the number of this sign and scale and this coefficient is an int: as many of its last digits as the scale says are
+// zeros. Of a decimal most often the first one asked for is none; without a fraction none is asked for.
+pub fn is_int(bits: u64, coefficient: u64) -> bool
+    ensures told { λ r. ⌜ ((x : Number) → bits ≡ number-bits (Value.number x) → coefficient ≡ x .coefficient → r ≡ is-int x) ⌝ }
 {
-    bits / 2 == 0
+    let mut left = bits / 2;
+    let mut digits = coefficient;
+    while 0 < left {
+        if digits % 10 != 0 {
+            return false;
+        }
+        digits /= 10;
+        left -= 1;
+    }
+    true
 }
 
 // Whether the number at a row is an int.
 pub fn row_is_int(nodes: &[u64], row: usize) -> bool
-    ensures told { λ r. ⌜ ((x : Number) → getD (now (nodes .entry)) row 0 ≡ head-word (Value.number x) → x .scale < 16 → r ≡ is-int x) ⌝ }
+    ensures told { λ r. ⌜ ((x : Number) → Number-stands (now (nodes .entry)) row x → r ≡ is-int x) ⌝ }
 {
-    is_int(word(nodes, row) / 8 % 32)
+    is_int(word(nodes, row) / 8 % 32, row_payload(nodes, row))
 }
 
 // How long the value at a row is as plain JSON.

@@ -1,9 +1,9 @@
 // Numbers: read from a document as RFC 8259 has them, and written as plain JSON.
 ghost use mathlib.Core.Path.{_≡_};
 ghost use mathlib.Core.Bool.{false};
-ghost use Prim.Native.Nat.{ℕ, _+_, _^_, _≤_, _<_, min};
+ghost use Prim.Native.Nat.{ℕ, _+_, _/_, _^_, _≤_, _<_, min};
 ghost use lib.ListN.{length, getD};
-ghost use Rattle.definitions.specs.Number.{Numeral};
+ghost use Rattle.definitions.specs.Number.{Numeral, most-scale};
 ghost use Rattle.definitions.specs.Plain.{plain-number};
 ghost use Rattle.number.specs.NumberRead.{Reads-number, Reads-on, numeral};
 ghost use Rattle.number.specs.NumberCode.{Answers, Stands-for, Stands-at, Quiet, Settles, Whole-end};
@@ -163,6 +163,14 @@ pub fn read_number(doc: &[u8], at: usize) -> NumberRead
     let first = point + 1;
     let coefficient = digits::digits_value(doc, first, end, whole);
     settle(negative, coefficient, end - first, end)
+}
+
+// The integer part of a number.
+pub fn whole_part(coefficient: u64, scale: u64) -> u64
+    requires { ⌜ scale ≤ most-scale ⌝ }
+    ensures { λ r. ⌜ r ≡ coefficient / 10 ^ scale ⌝ }
+{
+    coefficient / decimal::power(scale as usize)
 }
 
 // How long a number is as plain JSON.

@@ -7,6 +7,7 @@ use mathlib.Core.List.{List}
 use lib.ListN.{length}
 use Rattle.definitions.specs.Bytes.{Bytes}
 use Rattle.definitions.specs.Outcome.{ok}
+use Rattle.definitions.specs.Value.{Value}
 use Rattle.definitions.specs.Shape.{Shape, Fields, ascending, ascending-fields, forms, levels}
 use Rattle.definitions.specs.Join.{join}
 use Rattle.definitions.specs.Reader.{Result, Pairs, among-pairs}
@@ -22,7 +23,7 @@ use Rattle.join.specs.declared.Joined.{Joined}
 use Rattle.join.specs.declared.Joined.the-variants.{Grown, Full}
 use Rattle.growing.specs.Growing.{member-start, place, join-in}
 use Rattle.growing.specs.Rows.{Meets-fields, Fields-become}
-use Rattle.forms.specs.Forms.{form-code, form-operand, Form-stands, Pairs-stand}
+use Rattle.forms.specs.Forms.{form-code, form-operand, Literal-payload, Form-stands, Pairs-stand}
 use Rattle.checking.specs.Bindings.{Bound, Bindings}
 use Rattle.checking.specs.CheckContracts.{Meets-form}
 use Rattle.result_shape.specs.Results.{Bare, Given}
@@ -36,8 +37,10 @@ pub record Tables (shapes result : List ℕ) (used : ℕ) : Type 0 where
   pub few : length shapes ≤ 65536
 
 -- the kinds that a form gives, where it has no parts to give
-abbrev pub Tells-bare : (code operand kinds : ℕ) → Type 0
-Tells-bare code operand kinds = (r : Result) (t : Shape) → code ≡ form-code r → operand ≡ form-operand r → Bare r t → kinds ≡ kind-bits t
+abbrev pub Tells-bare : (code operand payload kinds : ℕ) → Type 0
+Tells-bare code operand payload kinds =
+    (p : List ℕ) (r : Result) (t : Shape) → code ≡ form-code r → operand ≡ form-operand r
+    → ((at : ℕ) (v : Value) → r ≡ Result.literal at v → Literal-payload p v payload) → Bare r t → kinds ≡ kind-bits t
 
 -- ---- a shape that is kept: what is left of one that stands in the table of shapes
 

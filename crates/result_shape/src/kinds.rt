@@ -4,8 +4,8 @@ use checking::simple;
 use shapes::Shape;
 
 // The kinds of a conversion, of `count` and of a literal.
-pub fn bare_kinds(code: u64, operand: u64) -> Shape
-    ensures told { λ r. ⌜ Tells-bare code operand (r .kinds) ⌝ }
+pub fn bare_kinds(code: u64, operand: u64, payload: u64) -> Shape
+    ensures told { λ r. ⌜ Tells-bare code operand payload (r .kinds) ⌝ }
 {
     if code == forms::COUNT {
         return Shape::INT;
@@ -16,6 +16,6 @@ pub fn bare_kinds(code: u64, operand: u64) -> Shape
         };
     }
     Shape {
-        kinds: simple::literal_kinds(code, operand),
+        kinds: simple::literal_kinds(code, operand, payload),
     }
 }

@@ -412,7 +412,7 @@ fn result_into(
     if code == forms::PACK {
         return result_pack(forms, row, shapes, pool, env, bound, into, used, dest, deep);
     }
-    let kinds = kinds::bare_kinds(code, forms::operand(forms, row));
+    let kinds = kinds::bare_kinds(code, forms::operand(forms, row), forms::payload(forms, row));
     growing::raise(into, dest, kinds, 0);
     Joined::Grown { words: 0 }
 }

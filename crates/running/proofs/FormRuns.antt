@@ -9,7 +9,7 @@ use Rattle.definitions.specs.declared.Limits.{Limits}
 use Rattle.definitions.specs.Outcome.{Outcome, refused, _>>=_}
 use Rattle.definitions.specs.Value.{Value, count}
 use Rattle.definitions.specs.Reader.{Place, to-int, to-dec, to-bool, to-text, Result}
-use Rattle.definitions.specs.Running.{Ran, gives, items-of, int-value, run}
+use Rattle.definitions.specs.Running.{Ran, gives, whole-value, converted, items-of, int-value, run}
 use Rattle.laws.specs.FormGrammar.{result-levels}
 use Rattle.laws.specs.Good.{Good-reader, good-literal}
 use Rattle.plain.specs.GoodBounded.{good-bounded}
@@ -27,10 +27,11 @@ use Rattle.running.specs.Codes.{Is-when, is-when, Is-count, is-count, Is
 use Rattle.running.specs.Codes.{when-of, count-of, same-of, literal-of}
 use Rattle.running.specs.FormLaws as laws
 use Rattle.running.specs.Rows.{Some-bound}
-use Rattle.running.specs.Singles.{Giving, Gives, Counts, Literal-at, Some-literal}
+use Rattle.running.specs.Singles.{Giving, Gives, Handed, Counts, Literal-at, Some-literal}
 use Rattle.running.specs.Walk.{operand, follow, Meets, Operand-ready, Ready, Following, branch, Seen-at, Sees, Sees-operand}
 use Rattle.running.specs.Walk.{Comes, Kept, Runs, Follows}
 use Rattle.running.proofs.Operands.{has-place}
+use Rattle.running.proofs.WholeRows.{handed-on}
 
 -- ---- answers carried on
 
@@ -249,21 +250,25 @@ module _ {forms nodes pool bindings results : List ℕ} {limit : ℕ} {c : Curso
     pub value-followed
         : {results′ : List ℕ} {r : Part} {code : ℕ} → Following forms nodes pool bindings results limit c at steps 0 10
         → code ≡ getD forms (c .row) 0 % 32 → code < 8
-        → Gives results results′ limit c steps (λ p v. Bound nodes p at v) r → Follows forms nodes pool bindings bindings results results′ limit c at steps r
-    unfolding follow
+        → Gives results results′ limit c steps (Handed nodes at code) r → Follows forms nodes pool bindings bindings results results′ limit c at steps r
+    unfolding follow form-code conversion-code converted
     value-followed {results′} {r} {code} f e k g =
         record {
           kept = record { bound-kept = refl; front = g .front };
           told = λ l p form env v m b.
-              go l p form env v m b
+              go l p form env v m b (e ∙ stands-code (m .stands))
               (same-of form (omega (arith, placed-some (has-place form m (f .early) .placed))) (omega (arith, e, k, stands-code (m .stands))));
         }
       where
         go : (l : Limits) (p : List ℕ) (form : Result) (env : List Value) (v : Value)
-            → Meets forms nodes pool bindings limit (c .row) (c .bound) l p form env → Bound nodes p at v → Is-same form
+            → Meets forms nodes pool bindings limit (c .row) (c .bound) l p form env → Bound nodes p at v → code ≡ form-code form → Is-same form
             → Comes (follow form l env v steps) limit p results results′ c r
-        go l p (Result.convert a x q) env v m b is-convert = g .told p v b
-        go l p (Result.keep a q) env v m b is-keep = g .told p v b
+        go l p (Result.convert a to-int q) env v m b i is-convert =
+            g .told p (whole-value v) (record { handed = v; bound = b; by-int = λ z. refl; by-other = λ n. absurd (n i) })
+        go l p (Result.convert a to-dec q) env v m b i is-convert = g .told p v (handed-on b (λ e. omega (arith, e, i)))
+        go l p (Result.convert a to-bool q) env v m b i is-convert = g .told p v (handed-on b (λ e. omega (arith, e, i)))
+        go l p (Result.convert a to-text q) env v m b i is-convert = g .told p v (handed-on b (λ e. omega (arith, e, i)))
+        go l p (Result.keep a q) env v m b i is-keep = g .told p v (handed-on b (λ e. omega (arith, e, i)))
 
 -- ---- `when`
 

@@ -6,6 +6,7 @@ pub mod Elements
 pub mod Named
 pub mod Closing
 pub mod SingleRows
+pub mod WholeRows
 pub mod FormRuns
 pub mod WhenRuns
 pub mod EachRuns

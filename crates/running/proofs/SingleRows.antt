@@ -1,7 +1,7 @@
 -- Results that are one value. Assumes nothing.
 use Prim.Native.Nat.{ℕ, _+_, _*_, _/_, _%_, _^_, _≤_, _<_}
 use native.Mathlib.Omega.{arith}
-use mathlib.Core.Path.{_≡_, refl, sym, ap, ap₂, _∙_, subst}
+use mathlib.Core.Path.{_≡_, refl, sym, ap, ap₂, _∙_, subst, subst₂}
 use mathlib.Core.Bool.{Bool, true, false}
 use mathlib.Core.List.{List, [], _∷_}
 use lib.Dec.{eqb}
@@ -62,6 +62,10 @@ literal-one no-payload = refl
 literal-one number-payload = refl
 literal-one (text-payload f) = refl
 
+pub count-word : {n : ℕ} → n ≤ 65536 → Number-word 0 n (record { negative = false; coefficient = n; scale = 0 })
+unfolding sign-bit most-coefficient most-scale
+count-word h = record { signed = refl; whole = refl; bounded = record { coefficient = omega arith; scale = omega arith } }
+
 -- a value that is put
 module _ {results results′ : List ℕ} {limit : ℕ} {c : Cursor} {steps : ℕ} (g : Giving limit c steps) where
   made
@@ -91,6 +95,16 @@ module _ {results results′ : List ℕ} {limit : ℕ} {c : Cursor} {steps : ℕ
         told = λ p v b. made v (k ∙ bound-kind b) (bound-bounded b) (q .puts p v b) (bound-size b (s .small));
       }
 
+  -- ---- a number that is made
+
+  pub number-given
+      : {p : List ℕ} {begun head n : ℕ} (x : Number) → Bounded x → n ≡ x .coefficient → head ≡ head-word (Value.number x)
+      → Put-row results results′ (c .begun) head n (c .name) begun → Made (gives (Value.number x) steps) limit p results results′ c 3 begun steps
+  unfolding size kind-code Bounded-numbers
+  number-given {p} {begun} {head} {n} x b e h q =
+      made (Value.number x) refl b (put-alone (subst₂ (λ (y z : ℕ). Put-row results results′ (c .begun) y z (c .name) begun) h e q) refl number-row)
+      (omega arith)
+
   -- ---- a count
 
   pub count-given
@@ -100,21 +114,15 @@ module _ {results results′ : List ℕ} {limit : ℕ} {c : Cursor} {steps : ℕ
       → Put-row results results′ (c .begun) head n (c .name) begun
       → n ≤ 65536
       → Gives results results′ limit c steps (Counts nodes at) (Part-is.Done 3 begun steps)
-  unfolding int-value size kind-code Bounded-numbers sign-bit most-coefficient most-scale
+  unfolding int-value
   count-given {nodes} {at} {begun} {head} {n} s m h q few =
       record {
         front = q .front;
         told = λ p v b.
             let e : v ≡ int-value n = b .same ∙ ap int-value (sym (m p (b .whole) (b .bound))) in
-            let bd : Bounded (record { negative = false; coefficient = n; scale = 0 }) = record { coefficient = omega arith; scale = omega arith } in
-            let w : Number-word 0 n (record { negative = false; coefficient = n; scale = 0 }) =
-            record { signed = refl; whole = refl; bounded = bd } in
+            let w = count-word few in
             subst (λ (u : Value). Made (gives u steps) limit p results results′ c 3 begun steps) (sym e)
-            (made (int-value n) refl bd
-            (put-alone
-            (subst (λ (x : ℕ). Put-row results results′ (c .begun) x n (c .name) begun) (h (record { negative = false; coefficient = n; scale = 0 }) w) q)
-            refl number-row)
-            (omega arith));
+            (number-given (record { negative = false; coefficient = n; scale = 0 }) (w .bounded) refl (h _ w) q);
       }
 
   -- ---- a literal
@@ -284,7 +292,3 @@ module _ {pool : List ℕ} {k w n : ℕ} (worded : w ≡ k % 65536) (sized : n �
   unfolding kind-code number-bits plain
   text-made e h v u (t, s, f) =
       h ∙ head-word-is (Value.text t) refl refl (e ∙ ap length (text-here u f)) ∙ ap head-word (sym s)
-
-pub count-word : {n : ℕ} → n ≤ 65536 → Number-word 0 n (record { negative = false; coefficient = n; scale = 0 })
-unfolding sign-bit most-coefficient most-scale
-count-word h = record { signed = refl; whole = refl; bounded = record { coefficient = omega arith; scale = omega arith } }

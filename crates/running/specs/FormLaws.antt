@@ -80,9 +80,9 @@ pub data Placed-form : Result → Place → Type 0 where
 pub form-split
     : {r : Result} {q : Place} (l : Limits) (env : List Value) (n : ℕ) → Placed-form r q → n < l .steps
     → run r l env n ≡ (operand r l env (suc n) >>= λ x. follow r l env (x .result) (x .steps))
-unfolding run operand follow converted _>>=_
+unfolding run operand follow _>>=_
 form-split l env n (placed-convert {at} {c} {q}) h =
-    rw (enter-within l at n h) (place-stuck (run-place q l env (suc n)) at (convert-kinds c) (λ x. gives (x .result) (x .steps)))
+    rw (enter-within l at n h) (place-stuck (run-place q l env (suc n)) at (convert-kinds c) (λ x. gives (converted c (x .result)) (x .steps)))
 form-split l env n (placed-keep {at} {q}) h = rw (enter-within l at n h) (gives-all (run-place q l env (suc n)))
 form-split l env n (placed-count {at} {q}) h =
     rw (enter-within l at n h)

@@ -5,7 +5,7 @@ use mathlib.Core.List.{List}
 use lib.ListN.{getD, take}
 use Rattle.definitions.specs.Number.{Number}
 use Rattle.definitions.specs.Value.{Value, count}
-use Rattle.definitions.specs.Running.{gives, items-of, int-value}
+use Rattle.definitions.specs.Running.{gives, whole-value, items-of, int-value}
 use Rattle.number.specs.NumberWrite.{Bounded}
 use Rattle.nodes.specs.Nodes.{sign-bit, number-bits}
 use Rattle.plain.specs.Table.{Bounded-numbers, Used}
@@ -26,6 +26,19 @@ pub record Giving (limit : ℕ) (c : Cursor) (steps : ℕ) : Type 0 where
 pub record Gives (results results′ : List ℕ) (limit : ℕ) (c : Cursor) (steps : ℕ) (Of : List ℕ → Value → Type 0) (r : Part) : Type 0 where
   pub front : take (3 * c .begun) results′ ≡ take (3 * c .begun) results
   pub told : (p : List ℕ) (v : Value) → Of p v → Comes (gives v steps) limit p results results′ c r
+
+-- what stands at a row, without its fraction
+pub record Wholes (nodes : List ℕ) (at : ℕ) (p : List ℕ) (v : Value) : Type 0 where
+  pub handed : Value
+  pub bound : Bound nodes p at handed
+  pub same : v ≡ whole-value handed
+
+-- what a conversion or `keep` makes of it: `int` has code 3
+pub record Handed (nodes : List ℕ) (at code : ℕ) (p : List ℕ) (v : Value) : Type 0 where
+  pub handed : Value
+  pub bound : Bound nodes p at handed
+  pub by-int : code ≡ 3 → v ≡ whole-value handed
+  pub by-other : (code ≡ 3 → ⊥) → v ≡ handed
 
 -- the count of what stands at a row
 pub record Counts (nodes : List ℕ) (at : ℕ) (p : List ℕ) (v : Value) : Type 0 where

@@ -11,7 +11,7 @@ use Rattle.definitions.specs.Shape.{among}
 use Rattle.definitions.specs.Admits.{kind-of}
 use Rattle.definitions.specs.Reader.{Place, Result}
 use Rattle.definitions.specs.Checking.{convert-kinds, list-kinds, test-kinds}
-use Rattle.definitions.specs.Running.{Ran, gives, stuck-unless, items-of, int-value, run-place, run-items, run}
+use Rattle.definitions.specs.Running.{Ran, gives, stuck-unless, converted, items-of, int-value, run-place, run-items, run}
 use Rattle.laws.specs.FormGrammar.{result-levels}
 use Rattle.laws.specs.Good.{Good-reader}
 use Rattle.nodes.specs.Nodes.{kind-code, Rows}
@@ -42,7 +42,7 @@ operand (Result.pack at ps) l env n = refused 0 at
 
 -- what it does with that value
 unfoldable pub follow : Result → Limits → List Value → Value → ℕ → Outcome ℕ (Ran Value)
-follow (Result.convert at c p) l env v n = gives v n
+follow (Result.convert at c p) l env v n = gives (converted c v) n
 follow (Result.keep at p) l env v n = gives v n
 follow (Result.count at p) l env v n = gives (int-value (count (items-of v))) n
 follow (Result.each at p r) l env v n =

@@ -7,7 +7,7 @@ ghost use Rattle.definitions.specs.Value.{Value};
 ghost use Rattle.nodes.specs.Nodes.{head-word};
 ghost use Rattle.running.specs.Bindings.{Bound};
 ghost use Rattle.running.specs.Rows.{Some-bound};
-ghost use Rattle.running.specs.Singles.{Giving, Gives, Counts, Number-word, Some-number, Literal-at, Some-literal};
+ghost use Rattle.running.specs.Singles.{Giving, Gives, Wholes, Handed, Counts, Number-word, Some-number, Literal-at, Some-literal};
 use crate::going::Cursor;
 use crate::going::Part;
 use crate::rows::count_items;
@@ -15,7 +15,7 @@ use crate::rows::keep;
 use crate::rows::put;
 
 // Puts the value at a row of the document.
-pub fn give_value(
+fn give_kept(
     results: &mut [u64],
     nodes: &[u64],
     at: usize,
@@ -39,6 +39,53 @@ fn number_head(bits: u64, coefficient: u64) -> u64
 {
     let written = number::number_length(bits % 2 == 1, coefficient, bits / 2);
     nodes::head_word(nodes::NUMBER, bits, written)
+}
+
+// Puts the value at a row of the document without its fraction, if it has one.
+fn give_int(
+    results: &mut [u64],
+    nodes: &[u64],
+    at: usize,
+    limit: usize,
+    c: Cursor,
+    steps: usize,
+) -> Part
+    requires { ⌜ Giving limit c steps ⌝ }
+    requires there { ⌜ Some-bound (now nodes) at 0 ⌝ }
+    ensures given { λ r. ⌜ Gives (now (results .entry)) (now (results .exit)) limit c steps (Wholes (now (nodes .entry)) at) r ⌝ }
+{
+    let scale = nodes::row_scale(nodes, at);
+    if scale == 0 {
+        return give_kept(results, nodes, at, limit, c, steps);
+    }
+    let n = number::whole_part(nodes::row_payload(nodes, at), scale);
+    let bits = nodes::number_bits(nodes::row_negative(nodes, at), 0);
+    let begun = put(results, c.begun, number_head(bits, n), n, c.name);
+    Part::Done {
+        kind: nodes::NUMBER,
+        begun,
+        steps,
+    }
+}
+
+// Puts what a form of this code makes of the value at a row of the document: `int` takes its fraction, any other keeps it.
+pub fn give_value(
+    results: &mut [u64],
+    nodes: &[u64],
+    at: usize,
+    code: u64,
+    limit: usize,
+    c: Cursor,
+    steps: usize,
+) -> Part
+    requires { ⌜ Giving limit c steps ⌝ }
+    requires there { ⌜ Some-bound (now nodes) at 0 ⌝ }
+    ensures given { λ r. ⌜ Gives (now (results .entry)) (now (results .exit)) limit c steps (Handed (now (nodes .entry)) at code) r ⌝ }
+{
+    if code == forms::INT {
+        return give_int(results, nodes, at, limit, c, steps);
+    }
+    give_kept(results, nodes, at, limit, c, steps)
 }
 
 // Puts how many elements the value at a row of the document has.

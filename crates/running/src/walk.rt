@@ -225,7 +225,7 @@ fn run_on(
     if code == forms::COUNT {
         return give_count(results, nodes, at, limit, c, steps);
     }
-    give_value(results, nodes, at, limit, c, steps)
+    give_value(results, nodes, at, code, limit, c, steps)
 }
 
 // Runs the form at a row.

@@ -10,7 +10,7 @@ use oracle::plain;
 use oracle::run::{fits, run};
 use oracle::shape::{admits, below, Kinds, Shape};
 use oracle::text_forms::{read_reader, read_shape, write_shape, Body, Case, Form};
-use oracle::value::Value;
+use oracle::value::{Number, Value};
 use std::rc::Rc;
 
 /// An infer that leaves each sample's own shape, so that a chain comes to the
@@ -36,7 +36,7 @@ pub const RUNS_TO_NULL: Callee = |o, mut lent| match right(o, &mut lent) {
 };
 
 /// What is wrong with a callee, of which operation, and the callee.
-pub const WRONG: [(&str, Operation, Callee); 56] = [
+pub const WRONG: [(&str, Operation, Callee); 59] = [
     (
         "18 is judged behind 1",
         Operation::Plain,
@@ -241,6 +241,16 @@ pub const WRONG: [(&str, Operation, Callee); 56] = [
             })
         },
     ),
+    (
+        "infer takes 12.0 for a decimal",
+        Operation::Infer,
+        |o, lent| {
+            instead(o, lent, |lent| {
+                let document = plain::document(&decimals_by_spelling(&document_in(lent)));
+                again(lent, Operation::Infer, lent.first, &document)
+            })
+        },
+    ),
     ("11 comes one form early", Operation::Infer, |o, lent| {
         instead(o, lent, one_form_early)
     }),
@@ -381,6 +391,17 @@ pub const WRONG: [(&str, Operation, Callee); 56] = [
             })
         },
     ),
+    (
+        "admits takes 12.0 for a decimal",
+        Operation::Admits,
+        |o, lent| {
+            instead(o, lent, |lent| {
+                say_of_document(lent, |shape, value| {
+                    admits(&shape, &decimals_by_spelling(value))
+                })
+            })
+        },
+    ),
     ("check passes no reader", Operation::Check, |o, lent| {
         instead(o, lent, |lent| answer(lent, &refused(9, 0)))
     }),
@@ -506,6 +527,16 @@ pub const WRONG: [(&str, Operation, Callee); 56] = [
             lent,
             |body| match body {
                 Body::When(Case::Int, at, a, b) => Body::When(Case::Num, at, a, b),
+                other => other,
+            },
+            |values| values,
+        )
+    }),
+    ("int keeps a fraction", Operation::Run, |_, lent| {
+        run_otherwise(
+            lent,
+            |body| match body {
+                Body::Convert(Kinds::INT, at) => Body::Convert(Kinds::NUM, at),
                 other => other,
             },
             |values| values,
@@ -710,9 +741,29 @@ fn say_of_shapes(lent: &mut Lent, holds: fn(Shape, Shape) -> bool) -> u64 {
 
 /// Answers whether a right shape and document stand so.
 fn say_of_document(lent: &mut Lent, holds: fn(Shape, &Value) -> bool) -> u64 {
-    let document = json::read(lent.second, &Limits::LARGEST).unwrap_or(Value::Null);
-    lent.answer[32] = u8::from(holds(shape_in(lent.first), &document));
+    lent.answer[32] = u8::from(holds(shape_in(lent.first), &document_in(lent)));
     0
+}
+
+fn document_in(lent: &Lent) -> Value {
+    json::read(lent.second, &Limits::LARGEST).unwrap_or(Value::Null)
+}
+
+/// The value with a decimal for every number that is written with a point.
+fn decimals_by_spelling(value: &Value) -> Value {
+    let inner = |part: &Rc<Value>| Rc::new(decimals_by_spelling(part));
+    match value {
+        Value::Number(number) if number.has_fraction() => Value::Number(Number {
+            coefficient: 1,
+            scale: 1,
+        }),
+        Value::List(parts) => Value::List(parts.iter().map(inner).collect()),
+        Value::Record(members) => {
+            let members = members.iter();
+            Value::Record(members.map(|(n, v)| (n.clone(), inner(v))).collect())
+        }
+        other => other.clone(),
+    }
 }
 
 /// Changes every shape within a shape, the innermost first.

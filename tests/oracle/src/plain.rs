@@ -49,7 +49,7 @@ pub fn spelled(number: &Number) -> String {
     let width = number.scale + 1;
     let digits = format!("{:0width$}", number.coefficient.unsigned_abs());
     let (whole, fraction) = digits.split_at(digits.len() - number.scale);
-    let point = if number.is_int() { "" } else { "." };
+    let point = if number.has_fraction() { "." } else { "" };
     format!("{sign}{whole}{point}{fraction}")
 }
 

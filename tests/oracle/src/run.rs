@@ -39,7 +39,7 @@ impl Machine {
             Body::Convert(kinds, at) => {
                 let value = self.place(at)?;
                 match kind(&value).within(*kinds) {
-                    true => Ok(value),
+                    true => Ok(converted(*kinds, value)),
                     false => refuse(12, part.at),
                 }
             }
@@ -112,6 +112,16 @@ impl Machine {
 
 fn count(length: usize) -> Rc<Value> {
     Rc::new(Value::Number(Number::int(length as i64)))
+}
+
+/// What a conversion of these kinds gives: `int` writes no fraction.
+fn converted(kinds: Kinds, value: Rc<Value>) -> Rc<Value> {
+    match &*value {
+        Value::Number(number) if kinds == Kinds::INT => {
+            Rc::new(Value::Number(number.without_fraction()))
+        }
+        _ => value,
+    }
 }
 
 /// The one kind of a value; a decimal is dec alone here.

@@ -125,8 +125,7 @@ fn when_cuts_the_shape_in_its_first_result_and_takes_the_kinds_out_in_its_second
 fn pack_writes_its_members_in_its_own_order_and_its_shape_in_byte_order() {
     let reader = b"(pack \"b\" (num 1.0) \"a\" (str \"\\u0061\"))";
     runs(reader, b"null", b"{\"b\":1.0,\"a\":\"a\"}", 3);
-    let shape =
-        b"(shape rec\n (member \"a\"\n  (shape text))\n (member \"b\"\n  (shape int dec)))\n";
+    let shape = b"(shape rec\n (member \"a\"\n  (shape text))\n (member \"b\"\n  (shape int)))\n";
     checks(reader, b"(shape)", shape);
     runs(b"(pack)", b"null", b"{}", 1);
 }
@@ -174,7 +173,7 @@ fn field_reads_null_through_null() {
 #[test]
 fn run_is_stuck_at_the_form_that_does_not_take_the_value() {
     refuses(Run, b"(keep (field \"a\" (it 0)))", b"\"\"", (12, 1, 6));
-    refuses(Run, b"(int (it 0))", b"1.0", (12, 1, 0));
+    refuses(Run, b"(int (it 0))", b"1.01", (12, 1, 0));
     refuses(Run, b"(bool (it 0))", b"null", (12, 1, 0));
     refuses(Run, b"(text (it 0))", b"1", (12, 1, 0));
     refuses(Run, b"(count (it 0))", b"{}", (12, 1, 0));
@@ -192,8 +191,8 @@ fn run_is_stuck_at_the_form_that_does_not_take_the_value() {
 fn only_the_chosen_branch_runs() {
     runs(b"(if (yes) (num 1) (int (it 0)))", b"null", b"1", 3);
     runs(b"(if (no) (int (it 0)) (num 2))", b"null", b"2", 3);
-    runs(b"(when int (it 0) (num 1) (num 2))", b"1.0", b"2", 3);
-    runs(b"(when num (it 0) (num 1) (num 2))", b"1.0", b"1", 3);
+    runs(b"(when int (it 0) (num 1) (num 2))", b"1.5", b"2", 3);
+    runs(b"(when num (it 0) (num 1) (num 2))", b"1.5", b"1", 3);
 }
 
 /// Two steps, and for each of the elements two more and one for each.
@@ -256,4 +255,29 @@ fn what_json_does_not_call_white_space_is_a_word_and_a_long_blank_is_too_long() 
     refuses(Run, b"\xEF\xBB\xBF", b"1", (7, 1, 0));
     refuses(Run, b" \x0B", b"1", (7, 1, 1));
     refuses(Run, &[b' '; 16385], b"1", (2, 1, 0));
+}
+
+#[test]
+fn a_number_whose_fraction_digits_are_all_zero_is_an_int() {
+    for zeros in [b"12.0".as_slice(), b"12.000000000"] {
+        runs(b"(int (it 0))", zeros, b"12", 2);
+        runs(b"(when int (it 0) (yes) (no))", zeros, b"true", 3);
+        runs(b"(when int (it 0) (keep (it 0)) (no))", zeros, zeros, 4);
+        runs(b"(dec (it 0))", zeros, zeros, 2);
+        runs(b"(keep (it 0))", zeros, zeros, 2);
+        says(Admits, b"(shape int)", zeros, true);
+        writes(Infer, b"(shape)", zeros, b"(shape int)\n");
+    }
+    for decimal in [b"12.50".as_slice(), b"12.000000001", b"-0.1"] {
+        refuses(Run, b"(int (it 0))", decimal, (12, 1, 0));
+        runs(b"(when int (it 0) (yes) (no))", decimal, b"false", 3);
+        says(Admits, b"(shape int)", decimal, false);
+        writes(Infer, b"(shape)", decimal, b"(shape int dec)\n");
+    }
+    runs(b"(int (it 0))", b"-0.0", b"0", 2);
+    runs(b"(int (it 0))", b"-10.00", b"-10", 2);
+    runs(b"(num 12.0)", b"null", b"12.0", 1);
+    checks(b"(num 12.0)", b"(shape)", b"(shape int)\n");
+    checks(b"(num 12.5)", b"(shape)", b"(shape int dec)\n");
+    refuses(Run, b"(keep (it 0.0))", b"[1]", (7, 1, 10));
 }

@@ -1,4 +1,4 @@
--- `nodes::row_is_int` meets its contract: the scale of a number is 0. Assumes nothing.
+-- `nodes::row_is_int` meets its contract. Assumes nothing.
 use borrow.Author.Needs.{needs}
 use Prim.Native.Nat.{ℕ, _/_, _%_, _<_}
 use mathlib.Core.Path.{_≡_, ap, _∙_}
@@ -20,7 +20,9 @@ unfolding head-word kind-code number-bits
 bits-of x n h e = omega (arith, sign-le (x .negative))
 
 returns : tie.Need-returns
-returns c x e h = c .is-int .ensures x (ap (λ (n : ℕ). n / 8 % 32) (c .before .word .ensures) ∙ bits-of x _ h e)
+returns c x h =
+    let at-word = c .before .before in
+    c .is-int .ensures x (ap (λ (n : ℕ). n / 8 % 32) (at-word .word .ensures) ∙ bits-of x _ (h .small) (h .head)) (c .before .row-payload .ensures ∙ h .payload)
 
 pub row-is-int-spec : {M : Type 1} → statement M
-row-is-int-spec = tie.close (tie.spec (λ c κs. search needs) (λ c κs. search needs) returns)
+row-is-int-spec = tie.close (tie.spec (λ c κs. search needs) (λ c κs. search needs) (λ c κs. search needs) returns)

@@ -60,6 +60,7 @@ use Rattle.checking.proofs.places.locate.Reads as locate-reads
 use Rattle.forms.proofs.code.Reads as code-reads
 use Rattle.forms.proofs.name.Reads as name-reads
 use Rattle.forms.proofs.operand.Reads as operand-reads
+use Rattle.forms.proofs.payload.Reads as payload-reads
 use Rattle.forms.proofs.size.Reads as size-reads
 use Rattle.growing.proofs.find_place.Reads as find-place-reads
 use Rattle.growing.proofs.open_row.Reads as open-row-reads
@@ -206,6 +207,8 @@ result-into-claims t = (
   result-pack.Post,
   operand-reads.Asked,
   operand-reads.Learnt,
+  payload-reads.Asked,
+  payload-reads.Learnt,
   bare-kinds-reads.Asked,
   bare-kinds-reads.Learnt,
   raise-reads.Asked,
@@ -721,20 +724,22 @@ result-into-returns-5 t c =
 
 result-into-raise-requires : (t : ℕ) → result-into-lts.Need-raise-requires (result-into-claims t) (result-into-at t) result-into.Post
 result-into-raise-requires t c κs =
-    let else4 = c .before .before .before .before in
+    let at-operand = c .before .before .before in
+    let else4 = at-operand .before .before in
     let after-code = else4 .before .before .before .before in
     let at-start = after-code .before .before .before .before .before .before in
-    bare-fits (at-start .pre .1 .1) (after-code .code .ensures) (c .before .before .operand .ensures) (else4 .before .before .before .if1 .left)
-    (else4 .before .before .if2 .left) (else4 .before .if3 .left) (else4 .if4 .left) (c .before .before .before .if5 .left)
+    bare-fits (at-start .pre .1 .1) (after-code .code .ensures) (at-operand .operand .ensures) (c .before .before .payload .ensures)
+    (else4 .before .before .before .if1 .left) (else4 .before .before .if2 .left) (else4 .before .if3 .left) (else4 .if4 .left) (at-operand .before .if5 .left)
     (c .before .bare-kinds .ensures) (at-start .pre .1 .0)
 
 result-into-returns-6 : (t : ℕ) → result-into-lts.Need-returns-6 (result-into-claims t) (result-into-at t) result-into.Post
 result-into-returns-6 t c =
     let after-raise = c .before .before in
-    let else5 = after-raise .before .before .before .before in
+    let at-payload = after-raise .before .before .before in
+    let else5 = at-payload .before .before in
     let else1 = else5 .before .before .before .before in
     let at-start = else1 .before .before .before .before .before .before .before in (
-      bare-answer (at-start .pre .1 .1) (else1 .before .code .ensures) (after-raise .before .before .before .operand .ensures) (else1 .if1 .left)
+      bare-answer (at-start .pre .1 .1) (else1 .before .code .ensures) (at-payload .before .operand .ensures) (at-payload .payload .ensures) (else1 .if1 .left)
           (else5 .before .before .before .if2 .left) (else5 .before .before .if3 .left) (else5 .before .if4 .left) (else5 .if5 .left)
           (after-raise .before .before .bare-kinds .ensures) (after-raise .raise .ensures) (after-raise .raise .kept .0),
       record { front = refl; same = refl },
@@ -1481,7 +1486,7 @@ pub +result-choose+result-each+result-into+result-pack+result-pair+result-pairs+
     (result-into-result-pack-requires t)
     (λ c. search needs) (λ c. search needs)
     (result-into-returns-5 t)
-    (λ c κs. search needs) (λ c κs. search needs)
+    (λ c κs. search needs) (λ c κs. search needs) (λ c κs. search needs)
     (result-into-raise-requires t)
     (λ c. search needs)
     (result-into-returns-6 t))

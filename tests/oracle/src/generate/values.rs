@@ -124,12 +124,27 @@ impl Source {
         match kind {
             0 => Value::Null,
             1 => Value::Bool(self.random.once_in(2)),
-            2 => Value::Number(self.number(0)),
+            2 => Value::Number(self.whole()),
             3 => {
                 let scale = self.random.between(1, 9);
                 Value::Number(self.number(scale))
             }
             _ => Value::Text(self.text()),
+        }
+    }
+
+    /// An int, now and then with a fraction of zeros.
+    fn whole(&mut self) -> Number {
+        let int = self.number(0);
+        let scale = self.random.between(1, 9);
+        let shifted = int.coefficient.checked_mul(10_i64.pow(scale as u32));
+        match shifted {
+            Some(coefficient)
+                if self.random.once_in(4) && coefficient.unsigned_abs() <= MOST_COEFFICIENT =>
+            {
+                Number { coefficient, scale }
+            }
+            _ => int,
         }
     }
 

@@ -196,7 +196,7 @@ fn place(forms: &mut Forms, nesting: usize, bound: usize) -> Result<Place, Refus
 fn binding(forms: &mut Forms, bound: usize) -> Result<usize, Refusal> {
     let outward = |number: &Number| usize::try_from(number.coefficient).unwrap_or(usize::MAX);
     let number = forms.number(|number, spelled| {
-        number.is_int() && spelled[0] != b'-' && outward(number) < bound
+        !number.has_fraction() && spelled[0] != b'-' && outward(number) < bound
     })?;
     Ok(outward(&number))
 }

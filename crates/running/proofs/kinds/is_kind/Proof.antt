@@ -11,7 +11,7 @@ use Rattle.running.proofs.kinds.is_kind.Tie as tie
 returns : tie.Need-returns
 returns c p v k b e =
     says-int v k (sym (c .before .before .before .row-kind .ensures ∙ bound-kind b) ∙ c .before .before .if1 .taken) (e ∙ c .before .if2 .taken)
-    (λ x f. c .row-is-int .ensures x (bound-number x b f .0) (bound-number x b f .1))
+    (λ x f. c .row-is-int .ensures x (bound-number x b f))
 
 returns-2 : tie.Need-returns-2
 returns-2 c p v k b e =
