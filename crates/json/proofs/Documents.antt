@@ -26,7 +26,7 @@ pub start-ready
     : {doc nodes pool : List ℕ} {values : ℕ} (top : ℕ) → Tables doc nodes pool top values → Ready doc nodes pool values (start top)
 start-ready top t =
     record {
-      placed = record { rows = t .rows; short = t .short; few = t .few; within = omega arith; limit = omega arith };
+      placed = record { rows = t .rows; short = t .short; few = t .few; within = omega arith; limit = omega arith; small = omega (arith, t .low) };
       base = top;
       low = t .low;
       texts = t .texts;
@@ -81,7 +81,7 @@ module _ (l : Limits) {doc nodes pool nodes′ pool′ : List ℕ} (top : ℕ) w
       }
 
   module _
-      {written end : ℕ} (to : Cursor) (d : Reads Gap.value 0 (l .nesting) (l .values) doc nodes pool nodes′ pool′ 0 (start top) (Done to written))
+      {end : ℕ} (to : Cursor) (d : Reads Gap.value 0 (l .nesting) (l .values) doc nodes pool nodes′ pool′ 0 (start top) (Done to))
       (s : Skips doc (to .at) end) where
     run-to-end
         : scan l 0 doc (gap (Gap.value root)) doc ≡ scan l (to .begun) doc (gap (Gap.whole (d .answer .value))) (drop end doc)

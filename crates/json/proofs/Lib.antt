@@ -2,6 +2,7 @@ pub mod Scan
 pub mod Kept
 pub mod White
 pub mod Spelling
+pub mod Words
 pub mod Answers
 pub mod Scalars
 pub mod NumberLengths

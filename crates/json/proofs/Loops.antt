@@ -1,9 +1,9 @@
 -- A turn of the list reader's and of the record reader's loop. Assumes nothing.
-use Prim.Native.Nat.{ℕ, suc, _+_, _-_, _*_, _^_, _≤_, _<_}
+use Prim.Native.Nat.{ℕ, suc, _+_, _-_, _*_, _/_, _^_, _≤_, _<_}
 use mathlib.Core.Path.{_≡_, sym, ap, _∙_, subst}
 use mathlib.Core.List.{List, _++_, append-assoc}
 use native.Mathlib.Omega.{arith}
-use lib.ListN.{length, take, drop}
+use lib.ListN.{length, take, drop, getD}
 use lib.Seq.{take-take, length-take-le, drop-at}
 use Rattle.definitions.specs.declared.Limits.{Limits}
 use Rattle.definitions.specs.Bytes.{Bytes}
@@ -44,6 +44,16 @@ pub inside-record
 unfolding depth
 inside-record ms n a = record { most = a .most; nests = omega (arith, a .nests) }
 
+-- what is written and what is used of the pool stay small
+module _
+    (k : Bracket) {here : Parts k → Open → Gap} {seen spare left values total : ℕ} {doc : Bytes} {nodes₀ pool₀ nodes pool : List ℕ} (c to : Cursor)
+    (r : Ready doc nodes₀ pool₀ values c) (op : Open-parts k seen here spare left values doc nodes₀ pool₀ nodes pool c to total) where
+  pub total-small : total ≤ 2 ^ 40
+  total-small = omega (arith, op .moves .short, op .moves .within, op .moves .limit, r .placed .short, r .placed .few)
+
+  pub top-small : to .top < 65536
+  top-small = omega (arith, r .room, r .low, op .moves .room, op .moves .within, op .moves .limit, r .placed .short, r .placed .few)
+
 -- where the next part may begin
 unfoldable pub part-ready
     : (k : Bracket) {seen left values written : ℕ} {doc : Bytes} {nodes₀ pool₀ nodes pool : List ℕ} (c from : Cursor)
@@ -58,6 +68,7 @@ part-ready k c from r op =
             few = r .placed .few;
             within = op .moves .within;
             limit = op .moves .limit;
+            small = top-small k c from r op;
           };
       base = r .base;
       low = r .low;
@@ -94,10 +105,11 @@ module _
       })
 
   pub element-read
-      : {to : Cursor} {n : ℕ} → Reads Gap.value (from .begun) left values doc nodes pool nodes′ pool′ 0 from (Done to n)
+      : {to : Cursor} {n : ℕ} → Reads Gap.value (from .begun) left values doc nodes pool nodes′ pool′ 0 from (Done to)
+      → n ≡ getD nodes′ (3 * from .begun) 0 / 256
       → Open-parts square seen (behind-of square) 0 left values doc nodes₀ pool₀ nodes′ pool′ c to (written + n + 1)
   unfolding put size items-length
-  element-read {to} {n} d =
+  element-read {to} {n} d e =
       let v = d .answer in
       record {
         parts = item (v .value) (op .parts);
@@ -110,7 +122,7 @@ module _
             ∙ ap (λ (s : List ℕ). s ++ v .rows) (op .table)
             ∙ append-assoc (take (3 * suc (c .begun)) nodes₀) (op .rows) (v .rows);
         counted = omega (arith, v .counted, op .counted);
-        wrote = omega (arith, v .wrote, op .wrote);
+        wrote = omega (arith, e, v .wrote, op .wrote);
         front =
             sym (take-take (c .top) (from .top) pool′ (op .moves .grows))
             ∙ ap (λ (s : List ℕ). take (c .top) s) (v .front)
@@ -123,7 +135,7 @@ module _
               limit = v .moves .limit;
               grows = omega (arith, op .moves .grows, v .moves .grows);
               room = omega (arith, op .moves .room, v .moves .room);
-              short = omega (arith, op .moves .short, v .moves .short);
+              short = omega (arith, e, v .wrote, op .moves .short, v .moves .short);
             };
         nodes-kept = d .nodes-kept ∙ op .nodes-kept;
         pool-kept = d .pool-kept ∙ op .pool-kept;
@@ -137,21 +149,22 @@ module _
 
 -- behind a part
 pub behind-ready
-    : {left values kind closing n name : ℕ} {doc : Bytes} {nodes₀ pool₀ nodes₁ pool₁ nodes′ pool′ : List ℕ} {total : ℕ} (c from to : Cursor)
-    {g : Open → Gap} {m : ℕ}
+    : (k : Bracket) {seen left values kind closing name : ℕ} {doc : Bytes} {nodes₀ pool₀ nodes₁ pool₁ nodes′ pool′ : List ℕ} {total : ℕ}
+    (c from to : Cursor) {g : Open → Gap} {m : ℕ}
     → Ready doc nodes₀ pool₀ values c → kind < 8 → closing < 256
     → suc (c .begun) ≤ from .begun
-    → length nodes′ ≡ length nodes₀
-    → Value-done g m left values doc nodes₁ pool₁ nodes′ pool′ name from to n
-    → total ≤ 2 ^ 40
+    → Value-done g m left values doc nodes₁ pool₁ nodes′ pool′ name from to
+    → Open-parts k seen (behind-of k) 0 left values doc nodes₀ pool₀ nodes′ pool′ c to total
     → Behind-ready doc nodes′ c kind closing to total
-behind-ready c from to r h i e same v short =
+behind-ready k c from to r h i e v op =
     record {
       within = v .moves .within;
-      rows = omega (arith, v .moves .limit, r .placed .rows, same);
+      brief = r .placed .short;
+      small = top-small k c to r op;
+      rows = omega (arith, v .moves .limit, r .placed .rows, op .nodes-kept);
       more = omega (arith, v .counted, size-some (v .value));
       few = omega (arith, v .moves .limit, r .placed .few);
-      short = short;
+      short = total-small k c to r op;
       coded = h;
       closes = i;
     }
@@ -213,6 +226,8 @@ module _
                   few = q .placed .few;
                   within = m .within;
                   limit = omega (arith, q .placed .limit, m .begun);
+                  small =
+                      omega (arith, op .moves .room, r .room, r .low, m .room, m .begun, m .within, op .moves .limit, r .placed .short, r .placed .few);
                 };
             base = r .base;
             low = r .low;
@@ -252,10 +267,11 @@ module _
 
         pub member-read
             : {to : Cursor} {n : ℕ} → at .top ≤ length pool₁
-            → Reads Gap.value (at .begun) left values doc nodes pool₁ nodes′ pool′ word at (Done to n)
+            → Reads Gap.value (at .begun) left values doc nodes pool₁ nodes′ pool′ word at (Done to)
+            → n ≡ getD nodes′ (3 * at .begun) 0 / 256
             → Open-parts curly seen′ (behind-of curly) 0 left values doc nodes₀ pool₀ nodes′ pool′ c to (written + named + n + 2)
         unfolding put size members-length
-        member-read {to} {n} room-then u =
+        member-read {to} {n} room-then u e =
             let v = u .answer in
             let m = d .answer .moves in
             record {
@@ -272,7 +288,7 @@ module _
                   ∙ ap (λ (s : List ℕ). s ++ v .rows) (op .table)
                   ∙ append-assoc (take (3 * suc (c .begun)) nodes₀) (op .rows) (v .rows);
               counted = omega (arith, v .counted, op .counted, m .begun);
-              wrote = omega (arith, v .wrote, op .wrote, d .answer .wrote);
+              wrote = omega (arith, e, v .wrote, op .wrote, d .answer .wrote);
               front =
                   sym (take-take (c .top) (at .top) pool′ (omega (arith, op .moves .grows, m .grows)))
                   ∙ ap (λ (s : List ℕ). take (c .top) s) (v .front)
@@ -288,7 +304,7 @@ module _
                     limit = v .moves .limit;
                     grows = omega (arith, op .moves .grows, m .grows, v .moves .grows);
                     room = omega (arith, op .moves .room, m .room, m .begun, v .moves .room);
-                    short = omega (arith, op .moves .short, m .short, m .begun, v .moves .short);
+                    short = omega (arith, e, v .wrote, op .moves .short, m .short, m .begun, v .moves .short);
                   };
               nodes-kept = u .nodes-kept ∙ op .nodes-kept;
               pool-kept = u .pool-kept ∙ d .pool-kept ∙ op .pool-kept;
@@ -310,9 +326,3 @@ module _
 
             named-then : Refers (take (to .top) pool′) (d .answer .name) word
             named-then = rw behind-value (refers-grow (take (to .top - at .top) (drop (at .top) pool′)) (d .answer .refers))
-
--- what is written stays small
-pub total-small
-    : (k : Bracket) {here : Parts k → Open → Gap} {seen spare left values total : ℕ} {doc : Bytes} {nodes₀ pool₀ nodes pool : List ℕ} (c to : Cursor)
-    → Ready doc nodes₀ pool₀ values c → Open-parts k seen here spare left values doc nodes₀ pool₀ nodes pool c to total → total ≤ 2 ^ 40
-total-small k c to r op = omega (arith, op .moves .short, op .moves .within, op .moves .limit, r .placed .short, r .placed .few)

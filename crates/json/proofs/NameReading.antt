@@ -82,9 +82,7 @@ members-named {nodes} {pool} {pool′} {first} c {ms} h few front m =
 
 module _ {doc nodes pool : List ℕ} {values first : ℕ} (c : Cursor) (p : Name-ready doc nodes pool values first c) where
   pub few-used : c .top < 65536
-  few-used =
-      let r = p .ready in
-      omega (arith, r .room, r .low, r .placed .within, r .placed .short, r .placed .limit, r .placed .few)
+  few-used = p .ready .placed .small
 
   pub used-within : c .top ≤ length pool
   used-within = p .ready .used
@@ -112,6 +110,7 @@ module _ {doc nodes pool : List ℕ} {values first at : ℕ} (c : Cursor) (p : N
                   let miss = name-missing ms o (getD doc at 256) h in
                   s .run l n kept (Gap.next-name ms o) ∙ scan-broken l n kept doc at (Gap.next-name ms o) (miss .0) (s .stops) (miss .1);
               within = s .within;
+              numbered = omega arith;
             };
         pool-kept = refl;
       }
@@ -138,6 +137,7 @@ module _ {doc nodes pool : List ℕ} {values first at : ℕ} (c : Cursor) (p : N
                     begins e ms l n kept o
                     ∙ scan-broke l n (drop at doc) (as-name ms o) Inside.chars [] (drop (at + 1) doc) (drop place doc) (t .run);
                 within = t .within;
+                numbered = omega arith;
               };
           pool-kept = same;
         }
@@ -169,7 +169,7 @@ module _ {doc nodes pool : List ℕ} {values first at : ℕ} (c : Cursor) (p : N
       pub name-twice : found-now ≡ true → Reads-name doc nodes pool pool′ first seen c (Name-is.Refused 5 at)
       name-twice g =
           record {
-            answer = record { run = λ ms m covered l n kept o. judged ms m covered l n kept o ∙ rw g; within = s .within };
+            answer = record { run = λ ms m covered l n kept o. judged ms m covered l n kept o ∙ rw g; within = s .within; numbered = omega arith };
             pool-kept = same;
           }
 
@@ -187,6 +187,7 @@ module _ {doc nodes pool : List ℕ} {values first at : ℕ} (c : Cursor) (p : N
                       (q .skips .run l n (drop at doc) (Gap.colon ms (text-in pool′ (c .top) k) o)
                       ∙ scan-broken l n (drop at doc) doc place (Gap.colon ms (text-in pool′ (c .top) k) o) (miss .0) (q .skips .stops) (miss .1));
                   within = q .skips .within;
+                  numbered = omega arith;
                 };
             pool-kept = same;
           }

@@ -11,13 +11,13 @@ use Rattle.definitions.specs.declared.Limits.{Limits}
 use Rattle.definitions.specs.Bytes.{Bytes, look, white, white-table, found, between}
 use Rattle.definitions.specs.Outcome.{refused}
 use Rattle.definitions.specs.Text.{Inside}
-use Rattle.definitions.specs.Number.{Number, Phase, begin, next, int-rows, no-digits, extend, beyond, number-of}
+use Rattle.definitions.specs.Number.{Number, Phase, begin, next, int-rows, no-digits, extend, beyond, number-of, most-scale}
 use Rattle.definitions.specs.Value.{Value, size}
 use Rattle.definitions.specs.Plain.{plain}
 use Rattle.definitions.specs.Json.{Open, Gap, as-value, State, gap, in-text, in-number, spell, put, value-rows, gap-end, close-move, full, judge, scan}
 use Rattle.pool.specs.Pool.{words, text-in}
 use Rattle.pool.specs.PoolLaws.{bytes-words}
-use Rattle.nodes.specs.Nodes.{sign-bit, kind-code, number-bits, head-of, reference, Refers, text-row, number-row}
+use Rattle.nodes.specs.Nodes.{sign-bit, kind-code, number-bits, head-word, head-of, reference, Refers, text-row, number-row}
 use Rattle.nodes.specs.NodesLaws.{head-word-is}
 use Rattle.nodes.specs.StandingLaws.{text-refers}
 use Rattle.number.specs.declared.NumberRead.{NumberRead}
@@ -28,15 +28,14 @@ use Rattle.number.specs.NumberWrite.{Bounded}
 use Rattle.text.specs.TextLaws.{scan-broke, scan-ended}
 use Rattle.text.specs.TextRead.{Text-closed, Text-broken}
 use Rattle.json.specs.declared.reading.Cursor.{Cursor}
-use Rattle.json.specs.declared.reading.ValueRead.{ValueRead}
 use Rattle.json.specs.declared.reading.ValueRead.the-variants.{Done, Refused}
-use Rattle.json.specs.JsonParts.{Open-limited, Judges-full, Matches, Literal, Table-placed, Ready, Reads, Puts-number, No-row}
+use Rattle.json.specs.JsonParts.{answer-of, Open-limited, Judges-full, Matches, Literal, Table-placed, Ready, Reads, Puts-number, No-row}
 use Rattle.json.proofs.Kept.{scan-kept}
 use Rattle.json.proofs.Scan as Scan
 use Rattle.json.proofs.Scan.{byte-inside, byte-here, here, at-end, at-byte, value-begins}
 use Rattle.json.proofs.Scan.{value-full, number-begins, no-value, spell-on, spell-off, spell-end}
 use Rattle.nodes.specs.RowLaws.{with-row}
-use Rattle.json.proofs.Answers.{refuses, one-row}
+use Rattle.json.proofs.Answers.{as-word, refuses, one-row}
 
 -- ---- refusal 6
 
@@ -62,6 +61,19 @@ begins-here doc at b q {begun = n} e h w f j l o a kept =
     ∙ value-begins l n kept o b (drop (at + 1) doc) w (f o) (sym (j .judged l o a))
 
 -- ---- literal names
+
+code-small : (v : Value) → kind-code v < 8
+unfolding kind-code
+code-small Value.null = omega arith
+code-small (Value.bool true) = omega arith
+code-small (Value.bool false) = omega arith
+code-small (Value.number x) = omega arith
+code-small (Value.text t) = omega arith
+code-small (Value.list vs) = omega arith
+code-small (Value.rec ms) = omega arith
+
+pub literal-code : {name : Bytes} {kind : ℕ} → Literal name kind → kind < 8
+literal-code li = omega (arith, li .code, code-small (li .value))
 
 module _ {doc name : Bytes} {kind values left : ℕ} (c : Cursor) (li : Literal name kind) (e : getD doc (c .at) 256 ≡ getD name 0 256) where
   literal-run
@@ -95,24 +107,25 @@ module _ {doc name : Bytes} {kind values left : ℕ} (c : Cursor) (li : Literal 
         : {k : ℕ} {nodes′ : List ℕ} → Judges-full values left (c .begun) false → Matches doc (c .at) name k → length name ≤ k
         → nodes′ ≡ with-row nodes (c .begun) (head-of kind 0 k) 0 m
         → Reads Gap.value (c .begun) left values doc nodes pool nodes′ pool m c
-        (Done (record { at = c .at + k; begun = c .begun + 1; top = c .top }) k)
+        (Done (record { at = c .at + k; begun = c .begun + 1; top = c .top }))
     literal-read {k} {nodes′} j ms h row =
         let whole : k ≡ length (plain (li .value)) = (let f : k ≡ length name = omega (arith, ms .most) in f) ∙ ap length (li .wrote) in
         let free = j .within refl in
         let size-name : 1 ≤ length name = omega (arith, ap length (li .spelled)) in
+        let same-head = head-word-is (li .value) (li .code) (sym (li .bits)) whole in
         one-row (li .value) (li .single) refl (omega (arith, p .rows, free .0))
-        (row ∙ ap (λ (w : ℕ). with-row nodes (c .begun) w 0 m) (head-word-is (li .value) (li .code) (sym (li .bits)) whole))
+        (row ∙ ap (λ (w : ℕ). with-row nodes (c .begun) w 0 m) same-head)
         (li .row (take (c .top) pool) m)
         refl
         refl
-        whole
+        (omega (arith, same-head, whole, literal-code li))
         (record {
           ahead = omega arith;
           within = ms .within;
           limit = omega (arith, free .0);
           grows = omega arith;
           room = omega arith;
-          short = omega arith;
+          short = omega (arith, whole);
         })
         (λ l o a kept. literal-run ms j l o a kept ∙ end l o kept)
       where
@@ -170,23 +183,24 @@ module _ {doc nodes pool : List ℕ} {values left : ℕ} (c : Cursor) (p : Ready
         → Text-closed doc (c .at + 1) pool′ (c .top) end n k
         → nodes′ ≡ with-row nodes (c .begun) (head-of 4 0 k) (reference (c .top) n) m
         → Reads Gap.value (c .begun) left values doc nodes pool nodes′ pool′ m c
-        (Done (record { at = end; begun = c .begun + 1; top = c .top + (n + 7) / 8 }) k)
+        (Done (record { at = end; begun = c .begun + 1; top = c .top + (n + 7) / 8 }))
     unfolding words size plain kind-code number-bits
     text-read {end} {n} {k} {m} {nodes′} front j t row =
         let free = j .within refl in
+        let same-head = head-word-is (Value.text text) refl refl (t .written) in
         one-row (Value.text text) refl refl (omega (arith, p .placed .rows, free .0))
-        (row ∙ ap (λ (w : ℕ). with-row nodes (c .begun) w (reference (c .top) n) m) (head-word-is (Value.text text) refl refl (t .written)))
+        (row ∙ ap (λ (w : ℕ). with-row nodes (c .begun) w (reference (c .top) n) m) same-head)
         (text-row refers-here)
         same
         front
-        (t .written)
+        (omega (arith, same-head, t .written))
         (record {
           ahead = omega (arith, t .shorter);
           within = t .within;
           limit = omega (arith, free .0);
           grows = omega arith;
           room = omega (arith, t .shorter);
-          short = omega (arith, t .bounded);
+          short = omega (arith, t .bounded, t .written);
         })
         (λ l o a kept.
         text-begins j l o a kept
@@ -200,6 +214,20 @@ module _ {doc nodes pool : List ℕ} {values left : ℕ} (c : Cursor) (p : Ready
         refers-here = text-refers pool′ (c .top) n (t .size) (t .room)
 
 -- ---- numbers
+
+-- a number that can be put
+pub number-bounded : {doc : Bytes} {at : ℕ} {x : NumberRead} → Reads-number doc at x → x .beyond ≡ false → Bounded (number-in x)
+number-bounded r f = subst Bounded (sym (r .meaning f)) (not-beyond _ (sym (r .over) ∙ f))
+
+pub sign-small : (b : Bool) → sign-bit b ≤ 1
+unfolding sign-bit
+sign-small true = omega arith
+sign-small false = omega arith
+
+-- of the first word, one byte is the kind, the sign and the scale
+number-head : (x : Number) → Bounded x → head-word (Value.number x) / 256 ≡ length (plain (Value.number x))
+unfolding head-word kind-code number-bits most-scale
+number-head x b = omega (arith, b .scale, sign-small (x .negative))
 
 -- whether a number begins
 data First (doc : Bytes) (at end : ℕ) : Type 0 where
@@ -357,17 +385,17 @@ module _ {doc nodes : List ℕ} {values : ℕ} (c : Cursor) {x : NumberRead} (p 
           (λ l o a kept. whole-run l o kept e ∙ rw (sym (r .over) ∙ f) (rw (sym (j .judged l o a) ∙ g)))
 
       pub number-read
-          : {nodes′ : List ℕ} {v : ValueRead} → x .complete ≡ true → x .beyond ≡ false → full-now ≡ false → Puts-number nodes nodes′ c m x v
-          → Reads Gap.value (c .begun) left values doc nodes pool nodes′ pool m c v
+          : {nodes′ : List ℕ} {v : ℕ} → x .complete ≡ true → x .beyond ≡ false → full-now ≡ false → Puts-number nodes nodes′ c m x v
+          → Reads Gap.value (c .begun) left values doc nodes pool nodes′ pool m c (answer-of v)
       unfolding size plain
       number-read {nodes′} {v} e f g u =
-          subst (λ (z : ValueRead). Reads Gap.value (c .begun) left values doc nodes pool nodes′ pool m c z) (sym (u .answer))
+          as-word (u .answer)
           (one-row (Value.number (number-in x)) refl refl (omega (arith, p .rows, free .0))
           (u .row)
           number-row
           refl
           refl
-          refl
+          (number-head (number-in x) (number-bounded r f))
           (record {
             ahead = ahead (first-of r);
             within = r .within;
@@ -388,28 +416,6 @@ module _ {doc nodes : List ℕ} {values : ℕ} (c : Cursor) {x : NumberRead} (p 
           ahead : First doc (c .at) (x .end) → c .at < x .end
           ahead (no-first n z) = absurd (h z)
           ahead (first q n z k) = k
-
--- a number that can be put
-pub number-bounded : {doc : Bytes} {at : ℕ} {x : NumberRead} → Reads-number doc at x → x .beyond ≡ false → Bounded (number-in x)
-number-bounded r f = subst Bounded (sym (r .meaning f)) (not-beyond _ (sym (r .over) ∙ f))
-
-pub sign-small : (b : Bool) → sign-bit b ≤ 1
-unfolding sign-bit
-sign-small true = omega arith
-sign-small false = omega arith
-
-code-small : (v : Value) → kind-code v < 8
-unfolding kind-code
-code-small Value.null = omega arith
-code-small (Value.bool true) = omega arith
-code-small (Value.bool false) = omega arith
-code-small (Value.number x) = omega arith
-code-small (Value.text t) = omega arith
-code-small (Value.list vs) = omega arith
-code-small (Value.rec ms) = omega arith
-
-pub literal-code : {name : Bytes} {kind : ℕ} → Literal name kind → kind < 8
-literal-code li = omega (arith, li .code, code-small (li .value))
 
 -- the pool has room for a text that begins here
 pub text-room

@@ -1,6 +1,6 @@
 -- Answers behind an opening bracket and behind a part, for lists and records alike. Assumes nothing.
-use Prim.Native.Nat.{ℕ, suc, _+_, _-_, _*_, _≤_, _<_}
-use mathlib.Core.Path.{_≡_, refl, sym, ap, ap₂, _∙_, subst}
+use Prim.Native.Nat.{ℕ, suc, _+_, _-_, _*_, _/_, _≤_, _<_}
+use mathlib.Core.Path.{_≡_, refl, sym, ap, ap₂, _∙_}
 use mathlib.Core.List.{List, [], _∷_, _++_, append-nil}
 use native.Mathlib.Omega.{arith}
 use lib.ListN.{length, take, drop, getD}
@@ -12,20 +12,25 @@ use Rattle.definitions.specs.Json.{Open, gap, put, scan}
 use Rattle.nodes.specs.Nodes.{head-word, head-of}
 use Rattle.nodes.specs.NodesLaws.{head-word-is}
 use Rattle.json.specs.declared.reading.Cursor.{Cursor}
-use Rattle.json.specs.declared.reading.ValueRead.{ValueRead}
 use Rattle.json.specs.declared.reading.ValueRead.the-variants.{Refused}
-use Rattle.json.specs.JsonParts.{Skips, Token, Neither, Open-limited, Table-placed, Moves, Reads, Bracket, Parts, no-parts, code-of, closing-of}
+use Rattle.json.specs.JsonParts.{answer-of, Skips, Token, Neither, Open-limited, Table-placed}
+use Rattle.json.specs.JsonParts.{Moves, Reads, Bracket, Parts, no-parts, code-of, closing-of}
 use Rattle.json.specs.JsonParts.{square, curly, start-of, next-of, behind-of, Before, count-of, whole-of, Marked, covers-none}
 use Rattle.json.specs.JsonParts.{Open-parts, Closes, Behind-ready}
 use Rattle.json.proofs.Scan.{scan-broken}
 use Rattle.nodes.specs.RowLaws.{length-with-row, row-put}
+use Rattle.json.proofs.Answers.{as-word, row-first}
 use Rattle.json.proofs.Bracketed.{comma, closes, closes-empty, first-part, behind-end, behind-broken, no-rows, whole-rows}
 use Rattle.json.proofs.Bracketed.{count-none, size-whole, code-whole, bits-whole, length-whole, length-none, parts-none}
 
 -- ---- a list or record that is whole
 
+code-small : (k : Bracket) → code-of k < 8
+code-small square = omega arith
+code-small curly = omega arith
+
 module _
-    (k : Bracket) {left values : ℕ} {doc : Bytes} {nodes₀ pool₀ nodes nodes′ pool : List ℕ} {kind name written : ℕ} {c to : Cursor} {r : ValueRead}
+    (k : Bracket) {left values : ℕ} {doc : Bytes} {nodes₀ pool₀ nodes nodes′ pool : List ℕ} {kind name written r : ℕ} {c to : Cursor}
     (s : Parts k) (rs : List ℕ) where
   -- its row is put before those of its parts
   whole-read
@@ -39,12 +44,12 @@ module _
       → to .begun ≡ suc (c .begun) + count-of k s
       → written ≡ length (plain (whole-of k s))
       → take (c .top) pool ≡ take (c .top) pool₀
-      → Moves doc values c to written
+      → Moves doc values c to (length (plain (whole-of k s)))
       → ((l : Limits) (o : Open) → Open-limited l o values (suc left) → (kept : Bytes)
       → scan l (suc (c .begun)) kept (gap (start-of k o)) (drop (c .at) doc) ≡ scan l (to .begun) kept (gap (put (whole-of k s) o)) (drop (to .at) doc))
-      → Reads (start-of k) (suc (c .begun)) (suc left) values doc nodes₀ pool₀ nodes′ pool name c r
+      → Reads (start-of k) (suc (c .begun)) (suc left) values doc nodes₀ pool₀ nodes′ pool name c (answer-of r)
   whole-read code u room same-nodes same-pool held table counted wrote front moves run =
-      subst (λ (z : ValueRead). Reads (start-of k) (suc (c .begun)) (suc left) values doc nodes₀ pool₀ nodes′ pool name c z) (sym (u .answer))
+      as-word (u .answer)
       (record {
         answer =
             record {
@@ -60,7 +65,10 @@ module _
                   (head-word-is (whole-of k s) (code ∙ code-whole k s) (sym (bits-whole k s)) wrote)
                   (let e : 3 * (to .begun - c .begun) ≡ 3 * size (whole-of k s) = omega (arith, counted, size-whole k s) in e);
               counted = omega (arith, counted, size-whole k s);
-              wrote = wrote;
+              wrote =
+                  ap (λ (w : ℕ). w / 256)
+                  (row-first nodes (c .begun) (head-of kind 0 written) (3 * (to .begun - c .begun)) name room (u .row))
+                  ∙ omega (arith, wrote, code, code-small k);
               front = front;
               moves = moves;
             };
@@ -81,9 +89,9 @@ module _
     {left values : ℕ} {doc : Bytes} {nodes pool : List ℕ} {kind closing : ℕ} (c : Cursor) {at : ℕ} (p : Table-placed doc nodes values c)
     (free : c .begun < values) (k : Bracket) (code : kind ≡ code-of k) (shut : closing ≡ closing-of k) (s : Skips doc (c .at) at) where
   pub first-part-stop
-      : {name : ℕ} {nodes′ : List ℕ} {r : ValueRead} → Token doc (c .at) closing (at + 1)
+      : {name r : ℕ} {nodes′ : List ℕ} → Token doc (c .at) closing (at + 1)
       → Closes nodes nodes′ (c .begun) kind name (record { at = at + 1; begun = c .begun + 1; top = c .top }) 2 r
-      → Reads (start-of k) (suc (c .begun)) (suc left) values doc nodes pool nodes′ pool name c r
+      → Reads (start-of k) (suc (c .begun)) (suc left) values doc nodes pool nodes′ pool name c (answer-of r)
   first-part-stop t u =
       whole-read k (no-parts k) [] code u (omega (arith, p .rows)) refl refl (no-rows k (take (c .top) pool))
       (ap (λ (i : ℕ). take (3 * i) nodes) (let e : c .begun + 1 ≡ suc (c .begun) = omega arith in e) ∙ sym (append-nil (take (3 * suc (c .begun)) nodes)))
@@ -96,7 +104,7 @@ module _
         limit = omega arith;
         grows = omega arith;
         room = omega (arith, t .ahead);
-        short = omega (arith, t .ahead);
+        short = omega (arith, t .ahead, length-none k);
       })
       (λ l o a kept.
       t .run l (suc (c .begun)) kept (start-of k o)
@@ -175,13 +183,14 @@ module _
       }
 
   pub next-part-stop
-      : {at name : ℕ} {nodes′ : List ℕ} {r : ValueRead} → Token doc (to .at) closing at
+      : {at name r : ℕ} {nodes′ : List ℕ} → Token doc (to .at) closing at
       → Closes nodes nodes′ (c .begun) kind name (record { at = at; begun = to .begun; top = to .top }) written r
-      → Reads (start-of k) (suc (c .begun)) (suc left) values doc nodes₀ pool₀ nodes′ pool name c r
+      → Reads (start-of k) (suc (c .begun)) (suc left) values doc nodes₀ pool₀ nodes′ pool name c (answer-of r)
   next-part-stop {at} t u =
+      let whole = op .wrote ∙ length-whole k (op .parts) (omega (arith, op .counted, b .more)) in
       whole-read k (op .parts) (op .rows) code u (omega (arith, b .rows, b .more)) (op .nodes-kept) (op .pool-kept) (op .held) (op .table)
       (op .counted)
-      (op .wrote ∙ length-whole k (op .parts) (omega (arith, op .counted, b .more)))
+      whole
       (op .front)
       (record {
         ahead = omega (arith, op .moves .ahead, t .ahead);
@@ -189,7 +198,7 @@ module _
         limit = op .moves .limit;
         grows = op .moves .grows;
         room = omega (arith, op .moves .room, t .ahead);
-        short = omega (arith, op .moves .short, t .ahead);
+        short = omega (arith, op .moves .short, t .ahead, whole);
       })
       (λ l o a kept.
       op .run l o a kept

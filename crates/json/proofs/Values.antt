@@ -52,7 +52,7 @@ pub from-there
 from-there c at (Refused number place) e run around d =
     refuses (d .nodes-kept) (d .pool-kept) (d .answer .within)
     (λ l o a kept. run l o a kept ∙ d .answer .run l o (around l o a) kept)
-from-there c at (Done to written) e run around d =
+from-there c at (Done to) e run around d =
     let v = d .answer in
     record {
       answer =
@@ -103,6 +103,7 @@ module _
                 few = p .placed .few;
                 within = omega arith;
                 limit = p .placed .limit;
+                small = p .placed .small;
               };
           base = p .base;
           low = p .low;
@@ -138,6 +139,7 @@ module _
               few = p .placed .few;
               within = s .within;
               limit = p .placed .limit;
+              small = p .placed .small;
             };
         base = p .base;
         low = p .low;

@@ -2,9 +2,10 @@
 -- of what is open around it, and what it put into the tables. Assumes nothing.
 use Prim.Native.Nat.{ℕ, suc, _+_, _-_, _*_, _/_, _%_, _^_, _≤_, _<_}
 use mathlib.Core.Path.{_≡_}
-use mathlib.Core.Bool.{Bool, false}
+use mathlib.Core.Bool.{Bool, true, false}
 use mathlib.Core.List.{List, [], _∷_, _++_}
 use mathlib.Core.Option.{none, some}
+use lib.Dec.{ltb}
 use lib.ListN.{length, take, drop, getD}
 use Rattle.definitions.specs.declared.Limits.{Limits}
 use Rattle.definitions.specs.Bytes.{Bytes, look, white}
@@ -24,6 +25,20 @@ use Rattle.json.specs.declared.name.Colon.{Colon}
 use Rattle.json.specs.declared.name.Colon.the-variants.{At, Missing}
 use Rattle.json.specs.declared.parts.Turn.{Turn}
 use Rattle.json.specs.declared.parts.Turn.the-variants.{More, Stop}
+
+-- ---- answers as words
+
+-- what a word stands for; the highest bit tells
+unfoldable pub answer-of : ℕ → ValueRead
+answer-of r =
+    elim (ltb r (2 ^ 63)) [
+      | true ↦ Done (record { at = r % 2 ^ 17; begun = r / 2 ^ 17 % 2 ^ 16; top = r / 2 ^ 33 })
+      | false ↦ Refused (r / 2 ^ 32 % 2 ^ 31) (r % 2 ^ 32)
+    ]
+
+-- a word has room for where reading stands
+abbrev pub Packs : Cursor → Type 0
+Packs c = (c .at < 2 ^ 17) × (c .begun < 2 ^ 16) × (c .top < 2 ^ 30)
 
 -- ---- between tokens
 
@@ -95,6 +110,8 @@ pub record Table-placed (doc : Bytes) (nodes : List ℕ) (values : ℕ) (c : Cur
   pub few : values ≤ 32768
   pub within : c .at ≤ length doc
   pub limit : c .begun ≤ values
+  -- a reference has 16 bits for a text's first word, and an answer some more
+  pub small : c .top < 65536
 
 -- the same, and the pool has room for its text: what is used of it behind another text's is paid for
 pub record Ready (doc : Bytes) (nodes pool : List ℕ) (values : ℕ) (c : Cursor) : Type 0 where
@@ -118,7 +135,7 @@ pub record Moves (doc : Bytes) (values : ℕ) (from to : Cursor) (written : ℕ)
 
 -- a value has been read that stood where g says, where n values were begun; its rows follow those of the values before it
 pub record Value-done
-    (g : Open → Gap) (n left values : ℕ) (doc : Bytes) (nodes pool nodes′ pool′ : List ℕ) (name : ℕ) (from to : Cursor) (written : ℕ)
+    (g : Open → Gap) (n left values : ℕ) (doc : Bytes) (nodes pool nodes′ pool′ : List ℕ) (name : ℕ) (from to : Cursor)
     : Type 0 where
   pub value : Value
   pub run
@@ -128,9 +145,10 @@ pub record Value-done
   pub held : Rows (take (to .top) pool′) name value rows
   pub table : take (3 * to .begun) nodes′ ≡ take (3 * from .begun) nodes ++ rows
   pub counted : to .begun ≡ from .begun + size value
-  pub wrote : written ≡ length (plain value)
+  -- the first word of its row tells how long it is in plain JSON
+  pub wrote : getD nodes′ (3 * from .begun) 0 / 256 ≡ length (plain value)
   pub front : take (from .top) pool′ ≡ take (from .top) pool
-  pub moves : Moves doc values from to written
+  pub moves : Moves doc values from to (length (plain value))
 
 -- reading is refused
 pub record Value-refused (g : Open → Gap) (n left values : ℕ) (doc : Bytes) (at number place : ℕ) : Type 0 where
@@ -141,8 +159,8 @@ pub record Value-refused (g : Open → Gap) (n left values : ℕ) (doc : Bytes) 
 
 abbrev pub Value-answer
     : (g : Open → Gap) (n left values : ℕ) (doc : Bytes) (nodes pool nodes′ pool′ : List ℕ) (name : ℕ) (from : Cursor) → ValueRead → Type 0
-Value-answer g n left values doc nodes pool nodes′ pool′ name from (Done to written) =
-    Value-done g n left values doc nodes pool nodes′ pool′ name from to written
+Value-answer g n left values doc nodes pool nodes′ pool′ name from (Done to) =
+    Value-done g n left values doc nodes pool nodes′ pool′ name from to
 Value-answer g n left values doc nodes pool nodes′ pool′ name from (Refused number place) =
     Value-refused g n left values doc (from .at) number place
 
@@ -173,13 +191,11 @@ pub record As-read (at : ℕ) (x : NumberRead) : Type 0 where
   pub long : (x .coefficient ≡ 0 → ⊥) → length (plain-number (number-in x)) ≡ x .end - at
 
 -- the row of a number is put, and reading goes on behind it
-pub record Puts-number (nodes nodes′ : List ℕ) (c : Cursor) (name : ℕ) (x : NumberRead) (r : ValueRead) : Type 0 where
+pub record Puts-number (nodes nodes′ : List ℕ) (c : Cursor) (name : ℕ) (x : NumberRead) (r : ℕ) : Type 0 where
   pub row
       : nodes′
       ≡ take (3 * c .begun) nodes ++ head-word (Value.number (number-in x)) ∷ x .coefficient ∷ name ∷ drop (3 * c .begun + 3) nodes
-  pub answer
-      : r
-      ≡ Done (record { at = x .end; begun = c .begun + 1; top = c .top }) (length (plain-number (number-in x)))
+  pub answer : answer-of r ≡ Done (record { at = x .end; begun = c .begun + 1; top = c .top })
   pub short : length (plain-number (number-in x)) ≤ 20
 
 -- ---- names
@@ -250,6 +266,7 @@ pub record Name-refused (doc : Bytes) (nodes pool : List ℕ) (first seen : ℕ)
       : (ms : Members) → Members-at nodes pool first from ms → Covers seen ms → (l : Limits) (n : ℕ) (kept : Bytes) (o : Open)
       → scan l n kept (gap (Gap.next-name ms o)) (drop (from .at) doc) ≡ refused number (drop place doc)
   pub within : place ≤ length doc
+  pub numbered : number < 256
 
 abbrev pub Name-answer : (doc : Bytes) (nodes pool pool′ : List ℕ) (first seen : ℕ) (from : Cursor) → NameRead → Type 0
 Name-answer doc nodes pool pool′ first seen from (Name-is.Done to word written seen′) =
@@ -370,18 +387,20 @@ abbrev pub Turn-answer
 Turn-answer k seen left values doc nodes pool nodes′ pool′ name c (More from written) =
     Open-parts k seen (next-of k) 1 left values doc nodes pool nodes′ pool′ c from written
 Turn-answer k seen left values doc nodes pool nodes′ pool′ name c (Stop r) =
-    Reads (start-of k) (suc (c .begun)) (suc left) values doc nodes pool nodes′ pool′ name c r
+    Reads (start-of k) (suc (c .begun)) (suc left) values doc nodes pool nodes′ pool′ name c (answer-of r)
 
 -- the row of a list or record at value `begun` is put
-pub record Closes (nodes nodes′ : List ℕ) (begun kind name : ℕ) (to : Cursor) (written : ℕ) (r : ValueRead) : Type 0 where
+pub record Closes (nodes nodes′ : List ℕ) (begun kind name : ℕ) (to : Cursor) (written r : ℕ) : Type 0 where
   pub row
       : nodes′
       ≡ take (3 * begun) nodes ++ head-of kind 0 written ∷ 3 * (to .begun - begun) ∷ name ∷ drop (3 * begun + 3) nodes
-  pub answer : r ≡ Done to written
+  pub answer : answer-of r ≡ Done to
 
 -- behind a part
 pub record Behind-ready (doc : Bytes) (nodes : List ℕ) (c : Cursor) (kind closing : ℕ) (to : Cursor) (written : ℕ) : Type 0 where
   pub within : to .at ≤ length doc
+  pub brief : length doc ≤ 65536
+  pub small : to .top < 65536
   pub rows : 3 * to .begun ≤ length nodes
   pub more : suc (c .begun) < to .begun
   pub few : to .begun ≤ 32768

@@ -37,8 +37,9 @@ pub fn read_document(
         begun: 0,
         top, // behind the other text's
     };
-    match value::read_value(doc, nodes, pool, limits.values, limits.nesting, start, 0) {
-        ValueRead::Done { to, written: _ } => {
+    let r = value::read_value(doc, nodes, pool, limits.values, limits.nesting, start, 0);
+    match reading::opened(r) {
+        ValueRead::Done { to } => {
             let end = space::skip_white(doc, to.at);
             if end < doc.len() {
                 return DocumentRead::Refused {

@@ -4,9 +4,10 @@ ghost use Prim.Native.Nat.{ℕ, _+_, _*_, _^_, _≤_, _<_};
 ghost use mathlib.Core.List.{List};
 ghost use lib.ListN.{length};
 ghost use Rattle.nodes.specs.Nodes.{head-of};
-ghost use Rattle.json.specs.JsonParts.{Table-placed, Bracket, code-of, closing-of, Turn-answer, Closes, Behind-ready, Goes-on};
+ghost use Rattle.json.specs.JsonParts.{Packs, Table-placed, Bracket, code-of, closing-of, Turn-answer, Closes, Behind-ready, Goes-on};
 use crate::reading::Cursor;
-use crate::reading::ValueRead;
+use crate::reading::done;
+use crate::reading::refused;
 use crate::space::COMMA;
 use crate::space::peek;
 use crate::space::skip_white;
@@ -14,7 +15,7 @@ use crate::space::skip_white;
 // What comes next: a part at a place, where what stands before is so long in plain JSON; or the answer.
 pub enum Turn {
     More { from: Cursor, written: usize },
-    Stop { answer: ValueRead },
+    Stop { answer: u64 },
 }
 
 // Puts the row of the list or record whose parts have been read up to `to`; it is that of value `begun`.
@@ -25,15 +26,16 @@ fn put_row_of(
     name: u64,
     to: Cursor,
     written: usize,
-) -> ValueRead
+) -> u64
     requires rows { ⌜ (begun ≤ to .begun) × (3 * begun + 3 ≤ length (now nodes)) × (3 * to .begun < 2 ^ 60) ⌝ }
     requires head { ⌜ head-of kind 0 written < 2 ^ 64 ⌝ }
+    requires packed { ⌜ Packs to ⌝ }
     ensures closed { λ r. ⌜ Closes (now (nodes .entry)) (now (nodes .exit)) begun kind name to written r ⌝ }
 {
     let head = nodes::head_word(kind, 0, written);
     let size = 3 * (to.begun - begun);
     nodes::put_row(nodes, 3 * begun, head, size as u64, name);
-    ValueRead::Done { to, written }
+    done(to)
 }
 
 // Goes on behind an opening bracket, which stands before c and of which `closing` is the other; its row is the next one.
@@ -114,9 +116,6 @@ pub fn next_part(
         };
     }
     Turn::Stop {
-        answer: ValueRead::Refused {
-            number: 3,
-            place: i,
-        },
+        answer: refused(3, i),
     }
 }

@@ -1,15 +1,16 @@
 // Values that hold no others: texts, literal names and numbers.
 ghost use mathlib.Core.Path.{_≡_};
-ghost use Prim.Native.Nat.{ℕ, _+_, _*_, _^_, _≤_, _<_};
+ghost use Prim.Native.Nat.{ℕ, _+_, _*_, _≤_, _<_};
 ghost use mathlib.Core.List.{List};
 ghost use lib.ListN.{length, getD};
 ghost use Rattle.definitions.specs.Json.{Gap};
 ghost use Rattle.definitions.specs.Plain.{plain-number};
-ghost use Rattle.json.specs.JsonParts.{Judges-full, Matches, Literal, Table-placed, Ready, Reads, As-read, Puts-number, No-row, Scalar-byte};
+ghost use Rattle.json.specs.JsonParts.{Judges-full, Matches, Literal, Table-placed, Ready, Reads, answer-of, As-read, Puts-number, No-row, Scalar-byte};
 ghost use Rattle.number.specs.NumberRead.{number-in};
 ghost use Rattle.number.specs.NumberWrite.{Bounded};
 use crate::reading::Cursor;
-use crate::reading::ValueRead;
+use crate::reading::done;
+use crate::reading::refused;
 use crate::space::peek;
 use nodes::FALSE_NAME;
 use nodes::NULL_NAME;
@@ -49,23 +50,17 @@ fn read_literal(
     name: u64,
     literal: &[u8],
     kind: u64,
-) -> ValueRead
+) -> u64
     requires { ⌜ Table-placed (now doc) (now nodes) values c × Literal (now literal) kind × (getD (now doc) (c .at) 256 ≡ getD (now literal) 0 256) ⌝ }
     ensures read { λ r. ⌜ ((pool : List ℕ)
-        → Reads Gap.value (c .begun) left values (now (doc .entry)) (now (nodes .entry)) pool (now (nodes .exit)) pool name c r) ⌝ }
+        → Reads Gap.value (c .begun) left values (now (doc .entry)) (now (nodes .entry)) pool (now (nodes .exit)) pool name c (answer-of r)) ⌝ }
 {
     if is_full(values, left, c.begun) {
-        return ValueRead::Refused {
-            number: 6,
-            place: c.at,
-        };
+        return refused(6, c.at);
     }
     let k = matching(doc, c.at, literal);
     if k < literal.len() {
-        return ValueRead::Refused {
-            number: 3,
-            place: c.at + k,
-        };
+        return refused(3, c.at + k);
     }
     nodes::put_row(nodes, 3 * c.begun, nodes::head_word(kind, 0, k), 0, name);
     let to = Cursor {
@@ -73,7 +68,7 @@ fn read_literal(
         begun: c.begun + 1,
         top: c.top,
     };
-    ValueRead::Done { to, written: k }
+    done(to)
 }
 
 // Reads a text, whose opening quote stands here.
@@ -85,16 +80,13 @@ fn read_text_value(
     left: usize,
     c: Cursor,
     name: u64,
-) -> ValueRead
+) -> u64
     requires { ⌜ Ready (now doc) (now nodes) (now pool) values c × (getD (now doc) (c .at) 256 ≡ 0x22) ⌝ }
     ensures read { λ r. ⌜ Reads Gap.value (c .begun) left values (now (doc .entry)) (now (nodes .entry)) (now (pool .entry)) (now (nodes .exit))
-        (now (pool .exit)) name c r ⌝ }
+        (now (pool .exit)) name c (answer-of r) ⌝ }
 {
     if is_full(values, left, c.begun) {
-        return ValueRead::Refused {
-            number: 6,
-            place: c.at,
-        };
+        return refused(6, c.at);
     }
     match text::read_text(doc, c.at + 1, pool, c.top) {
         TextRead::Closed {
@@ -110,9 +102,9 @@ fn read_text_value(
                 begun: c.begun + 1,
                 top: c.top + (length + 7) / 8,
             };
-            ValueRead::Done { to, written }
+            done(to)
         }
-        TextRead::Broken { place } => ValueRead::Refused { number: 3, place },
+        TextRead::Broken { place } => refused(3, place),
     }
 }
 
@@ -128,8 +120,9 @@ fn written_length(at: usize, x: NumberRead) -> usize
 }
 
 // Puts the row of a number that refusals 4 and 6 are not for.
-fn put_number(nodes: &mut [u64], c: Cursor, name: u64, x: NumberRead) -> ValueRead
-    requires { ⌜ (3 * c .begun + 3 ≤ length (now nodes)) × (c .begun < 2 ^ 60) × Bounded (number-in x) × As-read (c .at) x ⌝ }
+fn put_number(nodes: &mut [u64], c: Cursor, name: u64, x: NumberRead) -> u64
+    requires row { ⌜ (3 * c .begun + 3 ≤ length (now nodes)) × (c .begun < 32768) × Bounded (number-in x) × As-read (c .at) x ⌝ }
+    requires packed { ⌜ (x .end ≤ 65536) × (c .top < 65536) ⌝ }
     ensures put { λ r. ⌜ Puts-number (now (nodes .entry)) (now (nodes .exit)) c name x r ⌝ }
 {
     let bits = nodes::number_bits(x.negative, x.scale);
@@ -141,7 +134,7 @@ fn put_number(nodes: &mut [u64], c: Cursor, name: u64, x: NumberRead) -> ValueRe
         begun: c.begun + 1,
         top: c.top,
     };
-    ValueRead::Done { to, written }
+    done(to)
 }
 
 // Reads a number, or refuses where no value begins.
@@ -152,44 +145,29 @@ fn read_number_value(
     left: usize,
     c: Cursor,
     name: u64,
-) -> ValueRead
+) -> u64
     requires { ⌜ Table-placed (now doc) (now nodes) values c × No-row (getD (now doc) (c .at) 256) ⌝ }
     ensures read { λ r. ⌜ ((pool : List ℕ)
-        → Reads Gap.value (c .begun) left values (now (doc .entry)) (now (nodes .entry)) pool (now (nodes .exit)) pool name c r) ⌝ }
+        → Reads Gap.value (c .begun) left values (now (doc .entry)) (now (nodes .entry)) pool (now (nodes .exit)) pool name c (answer-of r)) ⌝ }
 {
     let x = number::read_number(doc, c.at);
     if x.end == c.at {
-        return ValueRead::Refused {
-            number: 3,
-            place: c.at,
-        };
+        return refused(3, c.at);
     }
     let full = is_full(values, left, c.begun);
     if x.complete {
         if x.beyond {
-            return ValueRead::Refused {
-                number: 4,
-                place: c.at,
-            };
+            return refused(4, c.at);
         }
         if full {
-            return ValueRead::Refused {
-                number: 6,
-                place: c.at,
-            };
+            return refused(6, c.at);
         }
         return put_number(nodes, c, name, x);
     }
     if full {
-        return ValueRead::Refused {
-            number: 6,
-            place: c.at,
-        };
+        return refused(6, c.at);
     }
-    ValueRead::Refused {
-        number: 3,
-        place: x.end,
-    }
+    refused(3, x.end)
 }
 
 // Reads a value that is no list and no record, from its first byte on.
@@ -201,10 +179,10 @@ pub fn read_scalar(
     left: usize,
     c: Cursor,
     name: u64,
-) -> ValueRead
+) -> u64
     requires { ⌜ Ready (now doc) (now nodes) (now pool) values c × Scalar-byte (getD (now doc) (c .at) 256) ⌝ }
     ensures read { λ r. ⌜ Reads Gap.value (c .begun) left values (now (doc .entry)) (now (nodes .entry)) (now (pool .entry)) (now (nodes .exit))
-        (now (pool .exit)) name c r ⌝ }
+        (now (pool .exit)) name c (answer-of r) ⌝ }
 {
     let b = peek(doc, c.at);
     if b == 0x22 {

@@ -1,7 +1,7 @@
 // Values, lists and records: the value reader calls the list and the record reader, which call it back; the nesting left falls.
 ghost use Prim.Native.Nat.{suc, _<_};
 ghost use Rattle.definitions.specs.Json.{Gap};
-ghost use Rattle.json.specs.JsonParts.{Ready, Reads};
+ghost use Rattle.json.specs.JsonParts.{Ready, Reads, answer-of};
 use crate::name::NameRead;
 use crate::name::read_name;
 use crate::parts::Turn;
@@ -9,6 +9,8 @@ use crate::parts::first_part;
 use crate::parts::next_part;
 use crate::reading::Cursor;
 use crate::reading::ValueRead;
+use crate::reading::opened;
+use crate::reading::refused;
 use crate::scalar::is_full;
 use crate::scalar::read_scalar;
 use crate::space::peek;
@@ -23,23 +25,20 @@ fn read_list(
     left: usize,
     c: Cursor,
     name: u64,
-) -> ValueRead
+) -> u64
     requires { ⌜ Ready (now doc) (now nodes) (now pool) values c × (c .begun < values) ⌝ }
     ensures read { λ r. ⌜ Reads Gap.first-item (suc (c .begun)) (suc left) values (now (doc .entry)) (now (nodes .entry)) (now (pool .entry))
-        (now (nodes .exit)) (now (pool .exit)) name c r ⌝ }
+        (now (nodes .exit)) (now (pool .exit)) name c (answer-of r) ⌝ }
 {
     let mut turn = first_part(doc, nodes, values, c, nodes::LIST, 0x5D, name);
     loop {
         match turn {
             Turn::More { from, written } => {
                 let r = read_value(doc, nodes, pool, values, left, from, 0);
-                let ValueRead::Done {
-                    to,
-                    written: length,
-                } = r
-                else {
+                let ValueRead::Done { to } = opened(r) else {
                     return r;
                 };
+                let length = nodes::row_written(nodes, 3 * from.begun);
                 let total = written + length + 1;
                 turn = next_part(doc, nodes, c, nodes::LIST, 0x5D, name, to, total);
             }
@@ -59,10 +58,10 @@ fn read_record(
     left: usize,
     c: Cursor,
     name: u64,
-) -> ValueRead
+) -> u64
     requires { ⌜ Ready (now doc) (now nodes) (now pool) values c × (c .begun < values) ⌝ }
     ensures read { λ r. ⌜ Reads Gap.first-name (suc (c .begun)) (suc left) values (now (doc .entry)) (now (nodes .entry)) (now (pool .entry))
-        (now (nodes .exit)) (now (pool .exit)) name c r ⌝ }
+        (now (nodes .exit)) (now (pool .exit)) name c (answer-of r) ⌝ }
 {
     let mut turn = first_part(doc, nodes, values, c, nodes::RECORD, 0x7D, name);
     let mut seen: u64 = 0;
@@ -85,18 +84,15 @@ fn read_record(
                 } => {
                     seen = more;
                     let r = read_value(doc, nodes, pool, values, left, at, word);
-                    let ValueRead::Done {
-                        to,
-                        written: length,
-                    } = r
-                    else {
+                    let ValueRead::Done { to } = opened(r) else {
                         return r;
                     };
+                    let length = nodes::row_written(nodes, 3 * at.begun);
                     let total = written + named + length + 2;
                     turn = next_part(doc, nodes, c, nodes::RECORD, 0x7D, name, to, total);
                 }
                 NameRead::Refused { number, place } => {
-                    return ValueRead::Refused { number, place };
+                    return refused(number, place);
                 }
             },
             Turn::Stop { answer } => return answer,
@@ -113,19 +109,16 @@ pub fn read_value(
     left: usize,
     c: Cursor,
     name: u64,
-) -> ValueRead
+) -> u64
     requires { ⌜ Ready (now doc) (now nodes) (now pool) values c ⌝ }
     ensures read { λ r. ⌜ Reads Gap.value (c .begun) left values (now (doc .entry)) (now (nodes .entry)) (now (pool .entry)) (now (nodes .exit))
-        (now (pool .exit)) name c r ⌝ }
+        (now (pool .exit)) name c (answer-of r) ⌝ }
 {
     let at = skip_white(doc, c.at);
     let b = peek(doc, at);
     if b == 0x5B {
         if is_full(values, left, c.begun) {
-            return ValueRead::Refused {
-                number: 6,
-                place: at,
-            };
+            return refused(6, at);
         }
         let inner = Cursor {
             at: at + 1,
@@ -136,10 +129,7 @@ pub fn read_value(
     }
     if b == 0x7B {
         if is_full(values, left, c.begun) {
-            return ValueRead::Refused {
-                number: 6,
-                place: at,
-            };
+            return refused(6, at);
         }
         let inner = Cursor {
             at: at + 1,

@@ -3,6 +3,7 @@ use borrow.Author.Needs.{needs}
 use mathlib.Core.Path.{sym, _∙_}
 use native.Mathlib.Omega.{arith}
 use Rattle.json.proofs.White.{token-here, token}
+use Rattle.json.proofs.Answers.{as-word}
 use Rattle.json.proofs.Turns.{next-part-more, next-part-stop, next-part-broken}
 use Rattle.json.proofs.parts.next_part.Statement.{statement}
 use Rattle.json.proofs.parts.next_part.Tie as tie
@@ -42,16 +43,17 @@ returns-3 c =
 
 returns-4 : tie.Need-returns-4
 returns-4 c =
-    let byte = c .before .before in
+    let byte = c .before .before .before in
     let start = byte .before .before .before .before .before .before in
     record {
       answer = λ k e f seen left values nodes₀ pool₀ pool op.
-          next-part-broken (start .args .c) (start .args .to) (start .pre) k e f op
+          as-word (c .refused .ensures)
+          (next-part-broken (start .args .c) (start .args .to) (start .pre) k e f op
           (record {
             skips = byte .before .skip-white .ensures;
-            first = λ q. c .before .if2 .left (byte .peek2 .ensures ∙ q);
-            second = λ q. c .if3 .left (byte .peek2 .ensures ∙ q);
-          });
+            first = λ q. c .before .before .if2 .left (byte .peek2 .ensures ∙ q);
+            second = λ q. c .before .if3 .left (byte .peek2 .ensures ∙ q);
+          }));
       ahead = tt;
     }
 
@@ -65,4 +67,5 @@ next-part-spec =
     returns-2
     (λ c. search needs) (λ c κs. search needs) (λ c. search needs)
     returns-3
+    (λ c κs. search needs)
     returns-4)

@@ -5,9 +5,10 @@ use mathlib.Core.Bool.{Bool}
 use mathlib.Core.Path.{ap₂, _∙_, subst}
 use native.Mathlib.Omega.{arith}
 use Rattle.nodes.specs.Nodes.{reference}
-use Rattle.text.specs.TextRead.{Text-answer, Text-closed}
+use Rattle.text.specs.TextRead.{Text-answer, Text-closed, Text-broken}
 use Rattle.text.specs.declared.TextRead.{TextRead}
 use Rattle.json.specs.JsonParts.{Judges-full}
+use Rattle.json.proofs.Answers.{as-word}
 use Rattle.json.proofs.Scalars.{text-full, text-broken, text-read, text-room}
 use Rattle.nodes.specs.RowLaws.{with-row}
 use Rattle.json.proofs.scalar.read_text_value.Statement.{statement}
@@ -15,10 +16,11 @@ use Rattle.json.proofs.scalar.read_text_value.Tie as tie
 
 returns : tie.Need-returns
 returns c =
-    let at-start = c .before .before .before .before .before in
-    text-full (at-start .args .c) (at-start .pre .0) (at-start .pre .1)
-    (subst (λ (b : Bool). Judges-full (at-start .args .values) (at-start .args .left) (at-start .args .c .begun) b) (c .if1 .taken)
-    (c .before .is-full .ensures))
+    let at-start = c .before .before .before .before .before .before in
+    as-word (c .refused .ensures)
+    (text-full (at-start .args .c) (at-start .pre .0) (at-start .pre .1)
+    (subst (λ (b : Bool). Judges-full (at-start .args .values) (at-start .args .left) (at-start .args .c .begun) b) (c .before .if1 .taken)
+    (c .before .before .is-full .ensures)))
 
 read-text-requires : tie.Need-read-text-requires
 read-text-requires c κs =
@@ -49,15 +51,7 @@ small
 small c =
     let after-read-text-arg = c .before .before .before .before .before .before in
     let at-start = after-read-text-arg .before .before .before .before .before .before .before in (
-      omega (
-        arith,
-        at-start .pre .0 .room,
-        at-start .pre .0 .low,
-        at-start .pre .0 .placed .within,
-        at-start .pre .0 .placed .short,
-        at-start .pre .0 .placed .limit,
-        at-start .pre .0 .placed .few,
-      ),
+      at-start .pre .0 .placed .small,
       omega (arith, closed c .shorter, closed c .within, at-start .pre .0 .placed .short),
       omega (arith, closed c .bounded, closed c .within, at-start .pre .0 .placed .short),
     )
@@ -94,38 +88,68 @@ add-t27 c =
     let after-known-told = c .before .before .before .before .before .before .before .before .before in
     omega (arith, small after-known-told .0, small after-known-told .1)
 
+done-requires : tie.Need-done-requires
+done-requires c κs =
+    let after-known-told = c .before .before .before .before .before .before .before .before .before in
+    let after-read-text-arg = after-known-told .before .before .before .before .before .before in
+    let at-start = after-read-text-arg .before .before .before .before .before .before .before in (
+      omega (arith, closed after-known-told .within, at-start .pre .0 .placed .short),
+      omega (arith, at-start .pre .0 .placed .few, at-start .pre .0 .placed .limit),
+      omega (arith, small after-known-told .0, small after-known-told .1),
+    )
+
+-- the text that was broken off
+broken
+    : (c : tie.After-known-told2)
+    → let after-read-text = c .before .before .before .before .before in
+    let at-start = after-read-text .before .before .before .before .before .before .before .before in
+    Text-broken (at-start .args .doc .now) (at-start .args .c .at + 1) (c .before .place .given .0 .0)
+broken c =
+    let after-read-text = c .before .before .before .before .before in
+    let at-start = after-read-text .before .before .before .before .before .before .before .before in
+    subst (λ (r : TextRead).
+    Text-answer (at-start .args .doc .now) (at-start .args .c .at + 1) (after-read-text .read-text .last .1 .1 .0) (at-start .args .c .top) r)
+    (c .before .place .given .1) (after-read-text .read-text .ensures .answer)
+
+refused-requires-2 : tie.Need-refused-requires-2
+refused-requires-2 c κs =
+    let after-read-text-arg = c .before .before .before .before .before .before in
+    let at-start = after-read-text-arg .before .before .before .before .before .before .before in
+    (omega arith, omega (arith, broken c .within, at-start .pre .0 .placed .short))
+
 returns-2 : tie.Need-returns-2
 returns-2 c =
-    let after-put-row = c .before .before .before .before in
+    let after-put-row = c .before .before .before .before .before in
     let after-text-reference = after-put-row .before .before .before .before in
     let after-read-text = after-text-reference .before .before .before .before .before .before in
     let after-is-full = after-read-text .before .before .before .before in
     let at-start = after-is-full .before .before .before .before in
-    text-read (at-start .args .c) (at-start .pre .0) (at-start .pre .1) (after-read-text .read-text .ensures .kept) (after-read-text .read-text .ensures .front)
+    as-word (c .done .ensures)
+    (text-read (at-start .args .c) (at-start .pre .0) (at-start .pre .1) (after-read-text .read-text .ensures .kept)
+    (after-read-text .read-text .ensures .front)
     (subst (λ (b : Bool). Judges-full (at-start .args .values) (at-start .args .left) (at-start .args .c .begun) b)
     (after-read-text .before .before .before .if1 .left) (after-is-full .is-full .ensures))
     (closed (after-text-reference .before))
     (after-put-row .put-row .ensures
     ∙ ap₂ (λ (h x : ℕ). with-row (at-start .args .nodes .now) (at-start .args .c .begun) h x (at-start .args .name))
-    (after-put-row .before .before .before .head-word .ensures) (after-text-reference .text-reference .ensures))
+    (after-put-row .before .before .before .head-word .ensures) (after-text-reference .text-reference .ensures)))
 
 returns-3 : tie.Need-returns-3
 returns-3 c =
-    let after-read-text = c .before .before .before .before .before in
+    let after-read-text = c .before .before .before .before .before .before in
     let after-is-full = after-read-text .before .before .before .before in
     let at-start = after-is-full .before .before .before .before in
-    text-broken (at-start .args .c) (at-start .pre .0) (at-start .pre .1) (after-read-text .read-text .ensures .kept)
+    as-word (c .refused2 .ensures)
+    (text-broken (at-start .args .c) (at-start .pre .0) (at-start .pre .1) (after-read-text .read-text .ensures .kept)
     (subst (λ (b : Bool). Judges-full (at-start .args .values) (at-start .args .left) (at-start .args .c .begun) b)
     (after-read-text .before .before .before .if1 .left) (after-is-full .is-full .ensures))
-    (subst (λ (r : TextRead).
-    Text-answer (at-start .args .doc .now) (at-start .args .c .at + 1) (after-read-text .read-text .last .1 .1 .0) (at-start .args .c .top) r)
-    (c .before .place .given .1) (after-read-text .read-text .ensures .answer))
+    (broken (c .before)))
 
 pub read-text-value-spec : {M : Type 1} → statement M
 read-text-value-spec =
     tie.close
     (tie.spec
-    (λ c κs. search needs)
+    (λ c κs. search needs) (λ c κs. search needs)
     returns
     (λ c. search needs)
     read-text-requires
@@ -137,7 +161,10 @@ read-text-value-spec =
     add-t24
     add-t25
     add-t27
-    (λ c. search needs) (λ c. search needs) (λ c. search needs)
+    done-requires
+    (λ c. search needs)
+    refused-requires-2
+    (λ c. search needs) (λ c. search needs)
     returns-2
     (λ c. search needs)
     returns-3)

@@ -1,7 +1,7 @@
 -- The proof of the cycle of calls {read_list, read_record, read_value}. The nesting left falls: a value's measure is twice what is
 -- left, a list's or record's, whose parts have one less, lies between. A loop's invariant says what has been read of the list or
 -- record, whatever the tables were before: `Turn-answer`. Assumes nothing.
-use Prim.Native.Nat.{ℕ, _+_, _*_, _≤_, _<_}
+use Prim.Native.Nat.{ℕ, _+_, _*_, _^_, _≤_, _<_}
 use lib.ListN.{length}
 use mathlib.Core.Bool.{Bool}
 use mathlib.Core.List.{List}
@@ -9,12 +9,12 @@ use mathlib.Core.Path.{refl, sym, _∙_, subst}
 use native.Mathlib.Omega.{arith}
 use borrow.Author.Needs.{needs}
 use Rattle.definitions.specs.Json.{Gap}
-use Rattle.json.specs.declared.reading.ValueRead.{ValueRead}
 use Rattle.json.specs.declared.reading.ValueRead.the-variants.{Done}
 use Rattle.json.specs.declared.name.NameRead.{NameRead}
 use Rattle.json.specs.declared.name.NameRead.the-variants as Name-is
 use Rattle.json.specs.declared.parts.Turn.{Turn}
 use Rattle.json.specs.JsonParts.{Judges-full, Ready, Reads, Reads-name, square, curly, next-of, behind-of, Open-parts, Turn-answer}
+use Rattle.json.proofs.Answers.{as-word}
 use Rattle.json.proofs.Loops.{to-read, reads-less, part-ready, used-within, element-refused, element-read, behind-ready}
 use Rattle.json.proofs.Loops.{name-ready, name-refused, value-ready, member-refused, member-read, total-small}
 use Rattle.json.proofs.Values.{bracket-full, bracket-ready, bracket-value, scalar-byte, scalar-ready, scalar-value}
@@ -32,10 +32,13 @@ use Rattle.json.proofs.value.+read_list+read_record+read_value.Lts-read
 use Rattle.json.proofs.name.read_name.Reads as read-name-reads
 use Rattle.json.proofs.parts.first_part.Reads as first-part-reads
 use Rattle.json.proofs.parts.next_part.Reads as next-part-reads
+use Rattle.json.proofs.reading.opened.Reads as opened-reads
+use Rattle.json.proofs.reading.refused.Reads as refused-reads
 use Rattle.json.proofs.scalar.is_full.Reads as is-full-reads
 use Rattle.json.proofs.scalar.read_scalar.Reads as read-scalar-reads
 use Rattle.json.proofs.space.peek.Reads as peek-reads
 use Rattle.json.proofs.space.skip_white.Reads as skip-white-reads
+use Rattle.nodes.proofs.row_written.Reads as row-written-reads
 use Rattle.json.proofs.value.+read_list+read_record+read_value.{statement}
 use Rattle.json.proofs.value.+read_list+read_record+read_value.Tie.{close}
 
@@ -88,7 +91,18 @@ abbrev read-record-μ-loop : read-record-lts.MeasureT-loop
 read-record-μ-loop doc nodes₀ pool₀ values left c name turn₀ seen₀ nodes pool turn seen = to-read doc turn
 
 abbrev list-claims : ℕ → read-list-lts.Claims
-list-claims t = (first-part-reads.Asked, first-part-reads.Learnt, read-value-below t, read-value.Post, next-part-reads.Asked, next-part-reads.Learnt)
+list-claims t = (
+  first-part-reads.Asked,
+  first-part-reads.Learnt,
+  read-value-below t,
+  read-value.Post,
+  opened-reads.Asked,
+  opened-reads.Learnt,
+  row-written-reads.Asked,
+  row-written-reads.Learnt,
+  next-part-reads.Asked,
+  next-part-reads.Learnt,
+)
 
 abbrev record-claims : ℕ → read-record-lts.Claims
 record-claims t = (
@@ -98,8 +112,14 @@ record-claims t = (
   read-name-reads.Learnt,
   read-value-below t,
   read-value.Post,
+  opened-reads.Asked,
+  opened-reads.Learnt,
+  row-written-reads.Asked,
+  row-written-reads.Learnt,
   next-part-reads.Asked,
   next-part-reads.Learnt,
+  refused-reads.Asked,
+  refused-reads.Learnt,
 )
 
 abbrev value-claims : ℕ → read-value-lts.Claims
@@ -110,6 +130,8 @@ value-claims t = (
   peek-reads.Learnt,
   is-full-reads.Asked,
   is-full-reads.Learnt,
+  refused-reads.Asked,
+  refused-reads.Learnt,
   read-list-below t,
   read-list.Post,
   read-record-below t,
@@ -162,38 +184,47 @@ list-used t c =
 -- the element that was read
 list-read
     : (t : ℕ) (c : read-list-lts.After-known-told2 (list-claims t) (read-list-at t) read-list.Post read-list-Inv-loop read-list-μ-loop)
-    → let after-read-value = c .before .before .before .before .before .before .before in
+    → let after-read-value = c .before .before .before .before .before .before .before .before in
     let after-turn = after-read-value .before .before .before .before in
     let at-loop = after-turn .before .before in
     let at-start = at-loop .before .before .before .before .before .before .before .before in
     Reads Gap.value (after-turn .turn .given .0 .0 .begun) (at-start .args .left) (at-start .args .values) (at-start .args .doc .now) (at-loop .loop .nodes)
     (at-loop .loop .pool) (after-read-value .read-value .last .1 .0) (after-read-value .read-value .last .1 .1 .0) 0 (after-turn .turn .given .0 .0)
-    (Done (c .before .r .given .0 .0) (c .before .r .given .0 .1 .0))
+    (Done (c .before .to .given .0 .0))
 list-read t c =
-    let after-read-value = c .before .before .before .before .before .before .before in
-    let after-turn = after-read-value .before .before .before .before in
-    let at-loop = after-turn .before .before in
-    let at-start = at-loop .before .before .before .before .before .before .before .before in
-    subst (λ (z : ValueRead).
-    Reads Gap.value (after-turn .turn .given .0 .0 .begun) (at-start .args .left) (at-start .args .values) (at-start .args .doc .now) (at-loop .loop .nodes)
-    (at-loop .loop .pool) (after-read-value .read-value .last .1 .0) (after-read-value .read-value .last .1 .1 .0) 0 (after-turn .turn .given .0 .0) z)
-    (c .before .r .given .1) (after-read-value .read-value .ensures)
+    let after-read-value = c .before .before .before .before .before .before .before .before in
+    as-word (sym (c .before .to .given .1) ∙ c .before .before .before .opened .ensures) (after-read-value .read-value .ensures)
 
 list-behind
-    : (t : ℕ) (c : read-list-lts.After-known-told2 (list-claims t) (read-list-at t) read-list.Post read-list-Inv-loop read-list-μ-loop)
-    → let after-read-value = c .before .before .before .before .before .before .before in
+    : (t : ℕ) (c : read-list-lts.After-row-written (list-claims t) (read-list-at t) read-list.Post read-list-Inv-loop read-list-μ-loop)
+    → let after-known-told2 = c .before .before .before in
+    let after-read-value = after-known-told2 .before .before .before .before .before .before .before .before in
     let after-turn = after-read-value .before .before .before .before in
     let at-loop = after-turn .before .before in
     let at-start = at-loop .before .before .before .before .before .before .before .before in
     Open-parts square 0 (behind-of square) 0 (at-start .args .left) (at-start .args .values) (at-start .args .doc .now) (at-start .args .nodes .now)
     (at-start .args .pool .now) (after-read-value .read-value .last .1 .0) (after-read-value .read-value .last .1 .1 .0) (at-start .args .c)
-    (c .before .r .given .0 .0) (after-turn .turn .given .0 .1 .0 + c .before .r .given .0 .1 .0 + 1)
+    (after-known-told2 .before .to .given .0 .0) (after-turn .turn .given .0 .1 .0 + c .row-written .result + 1)
 list-behind t c =
-    let after-pool = c .before .before .before .before in
-    let after-known-told = after-pool .before .before .before .before .before .before in
+    let after-known-told2 = c .before .before .before in
+    let after-read-value = after-known-told2 .before .before .before .before .before .before .before .before in
+    let after-known-told = after-read-value .before .before .before in
     let at-loop = after-known-told .before .before .before in
     let at-start = at-loop .before .before .before .before .before .before .before .before in
-    element-read (at-start .args .c) (after-known-told .before .turn .given .0 .0) (list-used t after-known-told) (list-here t after-known-told) (list-read t c)
+    element-read (at-start .args .c) (after-known-told .before .turn .given .0 .0) (list-used t after-known-told) (list-here t after-known-told)
+    (list-read t after-known-told2) (c .row-written .ensures)
+
+list-small
+    : (t : ℕ) (c : read-list-lts.After-row-written (list-claims t) (read-list-at t) read-list.Post read-list-Inv-loop read-list-μ-loop)
+    → let after-pool = c .before .before .before .before .before .before .before .before in
+    let after-turn = after-pool .before .before .before .before .before .before .before in
+    after-turn .turn .given .0 .1 .0 + c .row-written .result + 1 ≤ 2 ^ 40
+list-small t c =
+    let after-to = c .before .before .before .before in
+    let after-read-value = after-to .before .before .before .before .before .before .before in
+    let at-loop = after-read-value .before .before .before .before .before .before in
+    let at-start = at-loop .before .before .before .before .before .before .before .before in
+    total-small square (at-start .args .c) (after-to .to .given .0 .0) (at-start .pre .1 .0) (list-behind t c)
 
 -- what has been read of the record, whatever the tables were before
 record-open
@@ -288,29 +319,22 @@ member-ready t c =
 -- the member's value
 record-read
     : (t : ℕ) (c : read-record-lts.After-known-told3 (record-claims t) (read-record-at t) read-record.Post read-record-Inv-loop read-record-μ-loop)
-    → let after-read-value = c .before .before .before .before .before .before .before in
+    → let after-read-value = c .before .before .before .before .before .before .before .before in
     let after-at = after-read-value .before .before .before .before in
     let after-read-name = after-at .before .before .before .before in
     let at-loop = after-read-name .before .before .before .before .before .before .before in
     let at-start = at-loop .before .before .before .before .before .before .before .before in
     Reads Gap.value (after-at .at .given .0 .0 .begun) (at-start .args .left) (at-start .args .values) (at-start .args .doc .now) (at-loop .loop .nodes)
     (after-read-name .read-name .last .1 .1 .0) (after-read-value .read-value .last .1 .0) (after-read-value .read-value .last .1 .1 .0)
-    (after-at .at .given .0 .1 .0) (after-at .at .given .0 .0) (Done (c .before .r .given .0 .0) (c .before .r .given .0 .1 .0))
+    (after-at .at .given .0 .1 .0) (after-at .at .given .0 .0) (Done (c .before .to .given .0 .0))
 record-read t c =
-    let after-read-value = c .before .before .before .before .before .before .before in
-    let after-at = after-read-value .before .before .before .before in
-    let after-read-name = after-at .before .before .before .before in
-    let at-loop = after-read-name .before .before .before .before .before .before .before in
-    let at-start = at-loop .before .before .before .before .before .before .before .before in
-    subst (λ (z : ValueRead).
-    Reads Gap.value (after-at .at .given .0 .0 .begun) (at-start .args .left) (at-start .args .values) (at-start .args .doc .now) (at-loop .loop .nodes)
-    (after-read-name .read-name .last .1 .1 .0) (after-read-value .read-value .last .1 .0) (after-read-value .read-value .last .1 .1 .0)
-    (after-at .at .given .0 .1 .0) (after-at .at .given .0 .0) z)
-    (c .before .r .given .1) (after-read-value .read-value .ensures)
+    let after-read-value = c .before .before .before .before .before .before .before .before in
+    as-word (sym (c .before .to .given .1) ∙ c .before .before .before .opened .ensures) (after-read-value .read-value .ensures)
 
 record-behind
-    : (t : ℕ) (c : read-record-lts.After-known-told3 (record-claims t) (read-record-at t) read-record.Post read-record-Inv-loop read-record-μ-loop)
-    → let after-read-value = c .before .before .before .before .before .before .before in
+    : (t : ℕ) (c : read-record-lts.After-row-written (record-claims t) (read-record-at t) read-record.Post read-record-Inv-loop read-record-μ-loop)
+    → let after-known-told3 = c .before .before .before in
+    let after-read-value = after-known-told3 .before .before .before .before .before .before .before .before in
     let after-at = after-read-value .before .before .before .before in
     let after-turn = after-at .before .before .before .before .before .before .before .before .before in
     let at-loop = after-turn .before .before in
@@ -318,16 +342,51 @@ record-behind
     Open-parts curly (after-at .at .given .0 .1 .1 .1 .0) (behind-of curly) 0 (at-start .args .left) (at-start .args .values) (at-start .args .doc .now)
     (at-start .args .nodes .now)
     (at-start .args .pool .now) (after-read-value .read-value .last .1 .0) (after-read-value .read-value .last .1 .1 .0) (at-start .args .c)
-    (c .before .r .given .0 .0) (after-turn .turn .given .0 .1 .0 + after-at .at .given .0 .1 .1 .0 + c .before .r .given .0 .1 .0 + 2)
+    (after-known-told3 .before .to .given .0 .0) (after-turn .turn .given .0 .1 .0 + after-at .at .given .0 .1 .1 .0 + c .row-written .result + 2)
 record-behind t c =
-    let after-pool2 = c .before .before .before .before in
-    let after-known-told2 = after-pool2 .before .before .before .before .before .before in
+    let after-known-told3 = c .before .before .before in
+    let after-read-value = after-known-told3 .before .before .before .before .before .before .before .before in
+    let after-known-told2 = after-read-value .before .before .before in
     let after-known-told = after-known-told2 .before .before .before .before .before .before .before .before .before in
     let at-loop = after-known-told .before .before .before in
     let at-start = at-loop .before .before .before .before .before .before .before .before in
     member-read (at-start .args .c) (after-known-told .before .turn .given .0 .0) (record-room t after-known-told) (record-used t after-known-told)
     (record-here t after-known-told) (after-known-told2 .before .at .given .0 .0) (name-here t after-known-told2)
-    (used-within (after-known-told2 .before .at .given .0 .0) (member-ready t after-known-told2)) (record-read t c)
+    (used-within (after-known-told2 .before .at .given .0 .0) (member-ready t after-known-told2)) (record-read t after-known-told3) (c .row-written .ensures)
+
+record-small
+    : (t : ℕ) (c : read-record-lts.After-row-written (record-claims t) (read-record-at t) read-record.Post read-record-Inv-loop read-record-μ-loop)
+    → let after-pool2 = c .before .before .before .before .before .before .before .before in
+    let after-at = after-pool2 .before .before .before .before .before .before .before in
+    let after-turn = after-at .before .before .before .before .before .before .before .before .before in
+    after-turn .turn .given .0 .1 .0 + after-at .at .given .0 .1 .1 .0 + c .row-written .result + 2 ≤ 2 ^ 40
+record-small t c =
+    let after-to = c .before .before .before .before in
+    let after-read-value = after-to .before .before .before .before .before .before .before in
+    let after-read-name = after-read-value .before .before .before .before .before .before .before .before in
+    let at-loop = after-read-name .before .before .before .before .before .before .before in
+    let at-start = at-loop .before .before .before .before .before .before .before .before in
+    total-small curly (at-start .args .c) (after-to .to .given .0 .0) (at-start .pre .1 .0) (record-behind t c)
+
+-- the name that was refused
+name-wrong
+    : (t : ℕ) (c : read-record-lts.After-known-told4 (record-claims t) (read-record-at t) read-record.Post read-record-Inv-loop read-record-μ-loop)
+    → let after-read-name = c .before .before .before .before .before in
+    let after-turn = after-read-name .before .before .before .before .before in
+    let at-loop = after-turn .before .before in
+    let at-start = at-loop .before .before .before .before .before .before .before .before in
+    Reads-name (at-start .args .doc .now) (at-loop .loop .nodes) (at-loop .loop .pool) (after-read-name .read-name .last .1 .1 .0)
+    (at-start .args .c .begun + 1) (at-loop .loop .seen) (after-turn .turn .given .0 .0)
+    (Name-is.Refused (c .before .number .given .0 .0) (c .before .number .given .0 .1 .0))
+name-wrong t c =
+    let after-read-name = c .before .before .before .before .before in
+    let after-turn = after-read-name .before .before .before .before .before in
+    let at-loop = after-turn .before .before in
+    let at-start = at-loop .before .before .before .before .before .before .before .before in
+    subst (λ (z : NameRead).
+    Reads-name (at-start .args .doc .now) (at-loop .loop .nodes) (at-loop .loop .pool) (after-read-name .read-name .last .1 .1 .0)
+    (at-start .args .c .begun + 1) (at-loop .loop .seen) (after-turn .turn .given .0 .0) z)
+    (c .before .number .given .1) (after-read-name .read-name .ensures)
 
 read-list-first-part-requires
     : (t : ℕ) → read-list-lts.Need-first-part-requires (list-claims t) (read-list-at t) read-list.Post read-list-Inv-loop read-list-μ-loop
@@ -349,58 +408,65 @@ read-list-read-value-requires t c κs =
 
 read-list-returns : (t : ℕ) → read-list-lts.Need-returns (list-claims t) (read-list-at t) read-list.Post read-list-Inv-loop read-list-μ-loop
 read-list-returns t c =
-    let after-read-value = c .before .before .before .before .before .before in
+    let after-read-value = c .before .before .before .before .before .before .before in
     let after-known-told = after-read-value .before .before .before in
     let at-loop = after-known-told .before .before .before in
     let at-start = at-loop .before .before .before .before .before .before .before .before in
     element-refused (at-start .args .c) (after-known-told .before .turn .given .0 .0) (list-used t after-known-told) (list-here t after-known-told)
-    (c .enum-told .given .1)
+    (sym (c .before .before .opened .ensures) ∙ c .enum-told .given .1)
     (after-read-value .read-value .ensures)
+
+read-list-mul-row-written
+    : (t : ℕ) → read-list-lts.Need-mul-row-written (list-claims t) (read-list-at t) read-list.Post read-list-Inv-loop read-list-μ-loop
+read-list-mul-row-written t c =
+    let after-opened = c .before .before .before .before .before in
+    let after-read-value = after-opened .before .before .before .before .before in
+    let after-known-told = after-read-value .before .before .before in
+    let at-loop = after-known-told .before .before .before in
+    let at-start = at-loop .before .before .before .before .before .before .before .before in
+    omega (arith, list-here t after-known-told .moves .limit, at-start .pre .1 .0 .placed .few)
 
 read-list-add-total : (t : ℕ) → read-list-lts.Need-add-total (list-claims t) (read-list-at t) read-list.Post read-list-Inv-loop read-list-μ-loop
 read-list-add-total t c =
-    let after-read-value-arg = c .before .before .before .before .before .before .before .before .before in
-    let at-loop = after-read-value-arg .before .before .before .before in
-    let at-start = at-loop .before .before .before .before .before .before .before .before in
-    omega (arith, total-small square (at-start .args .c) (c .before .r .given .0 .0) (at-start .pre .1 .0) (list-behind t c))
+    omega (arith, list-small t c)
 
 read-list-add-total-2 : (t : ℕ) → read-list-lts.Need-add-total-2 (list-claims t) (read-list-at t) read-list.Post read-list-Inv-loop read-list-μ-loop
 read-list-add-total-2 t c =
-    let after-read-value-arg = c .before .before .before .before .before .before .before .before .before in
-    let at-loop = after-read-value-arg .before .before .before .before in
-    let at-start = at-loop .before .before .before .before .before .before .before .before in
-    omega (arith, total-small square (at-start .args .c) (c .before .r .given .0 .0) (at-start .pre .1 .0) (list-behind t c))
+    omega (arith, list-small t c)
 
 read-list-next-part-requires
     : (t : ℕ) → read-list-lts.Need-next-part-requires (list-claims t) (read-list-at t) read-list.Post read-list-Inv-loop read-list-μ-loop
 read-list-next-part-requires t c κs =
-    let after-r = c .before .before in
-    let after-known-told = after-r .before .before .before .before .before .before .before .before .before in
+    let after-known-told2 = c .before .before .before .before in
+    let after-read-value = after-known-told2 .before .before .before .before .before .before .before .before in
+    let after-known-told = after-read-value .before .before .before in
     let at-loop = after-known-told .before .before .before in
     let at-start = at-loop .before .before .before .before .before .before .before .before in
-    behind-ready (at-start .args .c) (after-known-told .before .turn .given .0 .0) (after-r .r .given .0 .0) (at-start .pre .1 .0) (omega arith) (omega arith)
+    behind-ready square (at-start .args .c) (after-known-told .before .turn .given .0 .0) (after-known-told2 .before .to .given .0 .0) (at-start .pre .1 .0)
+    (omega arith) (omega arith)
     (omega (arith, list-here t after-known-told .counted))
-    (list-behind t (c .before) .nodes-kept)
-    (list-read t (c .before) .answer)
-    (total-small square (at-start .args .c) (after-r .r .given .0 .0) (at-start .pre .1 .0) (list-behind t (c .before)))
+    (list-read t after-known-told2 .answer)
+    (list-behind t (c .before))
 
 read-list-loop-less : (t : ℕ) → read-list-lts.Need-loop-less (list-claims t) (read-list-at t) read-list.Post read-list-Inv-loop read-list-μ-loop
 read-list-loop-less t c =
     let after-next-part = c .before .before in
-    let after-pool = after-next-part .before .before .before .before .before .before in
-    let after-turn = after-pool .before .before .before .before .before .before .before in
+    let after-known-told2 = after-next-part .before .before .before .before .before in
+    let after-read-value = after-known-told2 .before .before .before .before .before .before .before .before in
+    let after-turn = after-read-value .before .before .before .before in
     let at-loop = after-turn .before .before in
     let at-start = at-loop .before .before .before .before .before .before .before .before in
     subst (λ (u : Turn). to-read (at-start .args .doc .now) (after-next-part .next-part .result) < to-read (at-start .args .doc .now) u)
     (sym (after-turn .turn .given .1))
-    (let m = list-read t (after-next-part .before .before) .answer .moves in
-    reads-less (at-start .args .doc .now) (after-turn .turn .given .0 .0) (after-next-part .before .before .before .r .given .0 .0)
+    (let m = list-read t after-known-told2 .answer .moves in
+    reads-less (at-start .args .doc .now) (after-turn .turn .given .0 .0) (after-known-told2 .before .to .given .0 .0)
     (after-turn .turn .given .0 .1 .0) (after-next-part .next-part .result) (m .ahead) (m .within) (after-next-part .next-part .ensures .ahead))
 
 read-list-loop-again : (t : ℕ) → read-list-lts.Need-loop-again (list-claims t) (read-list-at t) read-list.Post read-list-Inv-loop read-list-μ-loop
 read-list-loop-again t c =
-    let after-known-told2 = c .before .before .before .before in
-    let after-read-value = after-known-told2 .before .before .before .before .before .before .before in
+    let after-row-written = c .before .before .before .before in
+    let after-known-told2 = after-row-written .before .before .before in
+    let after-read-value = after-known-told2 .before .before .before .before .before .before .before .before in
     let after-known-told = after-read-value .before .before .before in
     let at-loop = after-known-told .before .before .before in
     let at-start = at-loop .before .before .before .before .before .before .before .before in
@@ -408,7 +474,7 @@ read-list-loop-again t c =
     c .before .before .next-part .ensures .answer square refl refl 0 (at-start .args .left) (at-start .args .values) ns ps
     (after-read-value .read-value .last .1 .1 .0)
     (element-read (at-start .args .c) (after-known-told .before .turn .given .0 .0) (list-used t after-known-told) (list-open t after-known-told ns ps h)
-    (list-read t after-known-told2))
+    (list-read t after-known-told2) (after-row-written .row-written .ensures))
 
 read-list-returns-2 : (t : ℕ) → read-list-lts.Need-returns-2 (list-claims t) (read-list-at t) read-list.Post read-list-Inv-loop read-list-μ-loop
 read-list-returns-2 t c =
@@ -456,76 +522,75 @@ read-record-read-value-requires t c κs =
 
 read-record-returns : (t : ℕ) → read-record-lts.Need-returns (record-claims t) (read-record-at t) read-record.Post read-record-Inv-loop read-record-μ-loop
 read-record-returns t c =
-    let after-read-value = c .before .before .before .before .before .before in
+    let after-read-value = c .before .before .before .before .before .before .before in
     let after-at = after-read-value .before .before .before .before in
     let after-known-told = after-at .before .before .before .before .before .before .before .before in
     let at-loop = after-known-told .before .before .before in
     let at-start = at-loop .before .before .before .before .before .before .before .before in
     member-refused (at-start .args .c) (after-known-told .before .turn .given .0 .0) (record-room t after-known-told) (record-used t after-known-told)
-    (record-here t after-known-told) (after-at .at .given .0 .0) (name-here t (after-read-value .before .before .before)) (c .enum-told .given .1)
+    (record-here t after-known-told) (after-at .at .given .0 .0) (name-here t (after-read-value .before .before .before))
+    (sym (c .before .before .opened .ensures) ∙ c .enum-told .given .1)
     (after-read-value .read-value .ensures)
+
+read-record-mul-row-written
+    : (t : ℕ) → read-record-lts.Need-mul-row-written (record-claims t) (read-record-at t) read-record.Post read-record-Inv-loop read-record-μ-loop
+read-record-mul-row-written t c =
+    let after-pool2 = c .before .before .before .before .before .before .before in
+    let after-known-told2 = after-pool2 .before .before .before .before .before .before in
+    let ready = member-ready t after-known-told2 .placed in omega (arith, ready .limit, ready .few)
 
 read-record-add-total : (t : ℕ) → read-record-lts.Need-add-total (record-claims t) (read-record-at t) read-record.Post read-record-Inv-loop read-record-μ-loop
 read-record-add-total t c =
-    let after-read-value-arg = c .before .before .before .before .before .before .before .before .before in
-    let after-read-name-arg = after-read-value-arg .before .before .before .before .before .before .before .before .before in
-    let at-loop = after-read-name-arg .before .before .before .before in
-    let at-start = at-loop .before .before .before .before .before .before .before .before in
-    omega (arith, total-small curly (at-start .args .c) (c .before .r .given .0 .0) (at-start .pre .1 .0) (record-behind t c))
+    omega (arith, record-small t c)
 
 read-record-add-total-2
     : (t : ℕ) → read-record-lts.Need-add-total-2 (record-claims t) (read-record-at t) read-record.Post read-record-Inv-loop read-record-μ-loop
 read-record-add-total-2 t c =
-    let after-read-value-arg = c .before .before .before .before .before .before .before .before .before in
-    let after-read-name-arg = after-read-value-arg .before .before .before .before .before .before .before .before .before in
-    let at-loop = after-read-name-arg .before .before .before .before in
-    let at-start = at-loop .before .before .before .before .before .before .before .before in
-    omega (arith, total-small curly (at-start .args .c) (c .before .r .given .0 .0) (at-start .pre .1 .0) (record-behind t c))
+    omega (arith, record-small t c)
 
 read-record-add-total-3
     : (t : ℕ) → read-record-lts.Need-add-total-3 (record-claims t) (read-record-at t) read-record.Post read-record-Inv-loop read-record-μ-loop
 read-record-add-total-3 t c =
-    let after-read-value-arg = c .before .before .before .before .before .before .before .before .before in
-    let after-read-name-arg = after-read-value-arg .before .before .before .before .before .before .before .before .before in
-    let at-loop = after-read-name-arg .before .before .before .before in
-    let at-start = at-loop .before .before .before .before .before .before .before .before in
-    omega (arith, total-small curly (at-start .args .c) (c .before .r .given .0 .0) (at-start .pre .1 .0) (record-behind t c))
+    omega (arith, record-small t c)
 
 read-record-next-part-requires
     : (t : ℕ) → read-record-lts.Need-next-part-requires (record-claims t) (read-record-at t) read-record.Post read-record-Inv-loop read-record-μ-loop
 read-record-next-part-requires t c κs =
-    let after-r = c .before .before in
-    let after-known-told2 = after-r .before .before .before .before .before .before .before .before .before in
+    let after-known-told3 = c .before .before .before .before in
+    let after-read-value = after-known-told3 .before .before .before .before .before .before .before .before in
+    let after-known-told2 = after-read-value .before .before .before in
     let after-known-told = after-known-told2 .before .before .before .before .before .before .before .before .before in
     let at-loop = after-known-told .before .before .before in
     let at-start = at-loop .before .before .before .before .before .before .before .before in
-    behind-ready (at-start .args .c) (after-known-told2 .before .at .given .0 .0) (after-r .r .given .0 .0) (at-start .pre .1 .0) (omega arith) (omega arith)
+    behind-ready curly (at-start .args .c) (after-known-told2 .before .at .given .0 .0) (after-known-told3 .before .to .given .0 .0) (at-start .pre .1 .0)
+    (omega arith) (omega arith)
     (omega (arith, record-here t after-known-told .counted, name-here t after-known-told2 .answer .moves .begun))
-    (record-behind t (c .before) .nodes-kept)
-    (record-read t (c .before) .answer)
-    (total-small curly (at-start .args .c) (after-r .r .given .0 .0) (at-start .pre .1 .0) (record-behind t (c .before)))
+    (record-read t after-known-told3 .answer)
+    (record-behind t (c .before))
 
 read-record-loop-less : (t : ℕ) → read-record-lts.Need-loop-less (record-claims t) (read-record-at t) read-record.Post read-record-Inv-loop read-record-μ-loop
 read-record-loop-less t c =
     let after-next-part = c .before .before in
-    let after-pool2 = after-next-part .before .before .before .before .before .before in
-    let after-known-told2 = after-pool2 .before .before .before .before .before .before in
+    let after-known-told3 = after-next-part .before .before .before .before .before in
+    let after-read-value = after-known-told3 .before .before .before .before .before .before .before .before in
+    let after-known-told2 = after-read-value .before .before .before in
     let after-read-name = after-known-told2 .before .before .before .before .before in
     let after-turn = after-read-name .before .before .before .before .before in
     let at-loop = after-turn .before .before in
     let at-start = at-loop .before .before .before .before .before .before .before .before in
     subst (λ (u : Turn). to-read (at-start .args .doc .now) (after-next-part .next-part .result) < to-read (at-start .args .doc .now) u)
     (sym (after-turn .turn .given .1))
-    (let m = record-read t (after-next-part .before .before) .answer .moves in
+    (let m = record-read t after-known-told3 .answer .moves in
     let n = name-here t after-known-told2 .answer .moves in
-    reads-less (at-start .args .doc .now) (after-turn .turn .given .0 .0) (after-next-part .before .before .before .r .given .0 .0)
+    reads-less (at-start .args .doc .now) (after-turn .turn .given .0 .0) (after-known-told3 .before .to .given .0 .0)
     (after-turn .turn .given .0 .1 .0) (after-next-part .next-part .result) (omega (arith, m .ahead, n .ahead)) (m .within)
     (after-next-part .next-part .ensures .ahead))
 
 read-record-loop-again : (t : ℕ) → read-record-lts.Need-loop-again (record-claims t) (read-record-at t) read-record.Post read-record-Inv-loop read-record-μ-loop
 read-record-loop-again t c =
-    let after-known-told3 = c .before .before .before .before in
-    let after-read-value = after-known-told3 .before .before .before .before .before .before .before in
+    let after-row-written = c .before .before .before .before in
+    let after-known-told3 = after-row-written .before .before .before in
+    let after-read-value = after-known-told3 .before .before .before .before .before .before .before .before in
     let after-known-told2 = after-read-value .before .before .before in
     let after-known-told = after-known-told2 .before .before .before .before .before .before .before .before .before in
     let at-loop = after-known-told .before .before .before in
@@ -536,20 +601,26 @@ read-record-loop-again t c =
     (after-read-value .read-value .last .1 .1 .0)
     (member-read (at-start .args .c) (after-known-told .before .turn .given .0 .0) (record-room t after-known-told) (record-used t after-known-told)
     (record-open t after-known-told ns ps h) (after-known-told2 .before .at .given .0 .0) (name-here t after-known-told2)
-    (used-within (after-known-told2 .before .at .given .0 .0) (member-ready t after-known-told2)) (record-read t after-known-told3))
+    (used-within (after-known-told2 .before .at .given .0 .0) (member-ready t after-known-told2)) (record-read t after-known-told3)
+    (after-row-written .row-written .ensures))
+
+read-record-refused-requires
+    : (t : ℕ) → read-record-lts.Need-refused-requires (record-claims t) (read-record-at t) read-record.Post read-record-Inv-loop read-record-μ-loop
+read-record-refused-requires t c κs =
+    let after-known-told = c .before .before .before .before .before .before .before .before .before in
+    let at-loop = after-known-told .before .before .before in
+    let at-start = at-loop .before .before .before .before .before .before .before .before in
+    let wrong = name-wrong t c .answer in (omega (arith, wrong .numbered), omega (arith, wrong .within, at-start .pre .1 .0 .placed .short))
 
 read-record-returns-2 : (t : ℕ) → read-record-lts.Need-returns-2 (record-claims t) (read-record-at t) read-record.Post read-record-Inv-loop read-record-μ-loop
 read-record-returns-2 t c =
-    let after-read-name = c .before .before .before .before .before in
-    let after-known-told = after-read-name .before .before .before .before in
+    let after-pool = c .before .before .before .before .before in
+    let after-known-told = after-pool .before .before .before .before .before in
     let at-loop = after-known-told .before .before .before in
     let at-start = at-loop .before .before .before .before .before .before .before .before in
-    name-refused (at-start .args .c) (after-known-told .before .turn .given .0 .0) (record-room t after-known-told) (record-used t after-known-told)
-    (record-here t after-known-told)
-    (subst (λ (z : NameRead).
-    Reads-name (at-start .args .doc .now) (at-loop .loop .nodes) (at-loop .loop .pool) (after-read-name .read-name .last .1 .1 .0)
-    (at-start .args .c .begun + 1) (at-loop .loop .seen) (after-known-told .before .turn .given .0 .0) z)
-    (c .before .number .given .1) (after-read-name .read-name .ensures))
+    as-word (c .refused .ensures)
+    (name-refused (at-start .args .c) (after-known-told .before .turn .given .0 .0) (record-room t after-known-told) (record-used t after-known-told)
+    (record-here t after-known-told) (name-wrong t (c .before)))
 
 read-record-returns-3 : (t : ℕ) → read-record-lts.Need-returns-3 (record-claims t) (read-record-at t) read-record.Post read-record-Inv-loop read-record-μ-loop
 read-record-returns-3 t c =
@@ -565,12 +636,14 @@ read-record-returns-3 t c =
 
 read-value-returns : (t : ℕ) → read-value-lts.Need-returns (value-claims t) (read-value-at t) read-value.Post
 read-value-returns t c =
-    let after-skip-white = c .before .before .before .before in
+    let after-peek = c .before .before .before .before in
+    let after-skip-white = after-peek .before in
     let at-start = after-skip-white .before .before .before .before in
-    bracket-full (at-start .args .c) (at-start .pre .1) (after-skip-white .skip-white .ensures) square
-    (sym (c .before .before .before .peek .ensures) ∙ c .before .before .if1 .taken)
-    (subst (λ (b : Bool). Judges-full (at-start .args .values) (at-start .args .left) (at-start .args .c .begun) b) (c .if2 .taken)
-    (c .before .is-full .ensures))
+    as-word (c .refused .ensures)
+    (bracket-full (at-start .args .c) (at-start .pre .1) (after-skip-white .skip-white .ensures) square
+    (sym (after-peek .peek .ensures) ∙ c .before .before .before .if1 .taken)
+    (subst (λ (b : Bool). Judges-full (at-start .args .values) (at-start .args .left) (at-start .args .c .begun) b) (c .before .if2 .taken)
+    (c .before .before .is-full .ensures)))
 
 read-value-sub-read-list : (t : ℕ) → read-value-lts.Need-sub-read-list (value-claims t) (read-value-at t) read-value.Post
 read-value-sub-read-list t c =
@@ -602,12 +675,13 @@ read-value-returns-2 t c =
 
 read-value-returns-3 : (t : ℕ) → read-value-lts.Need-returns-3 (value-claims t) (read-value-at t) read-value.Post
 read-value-returns-3 t c =
-    let after-peek = c .before .before .before .before in
+    let after-peek = c .before .before .before .before .before in
     let at-start = after-peek .before .before .before .before .before in
-    bracket-full (at-start .args .c) (at-start .pre .1) (after-peek .before .skip-white .ensures) curly
-    (sym (after-peek .peek .ensures) ∙ c .before .before .if3 .taken)
-    (subst (λ (b : Bool). Judges-full (at-start .args .values) (at-start .args .left) (at-start .args .c .begun) b) (c .if4 .taken)
-    (c .before .is-full2 .ensures))
+    as-word (c .refused2 .ensures)
+    (bracket-full (at-start .args .c) (at-start .pre .1) (after-peek .before .skip-white .ensures) curly
+    (sym (after-peek .peek .ensures) ∙ c .before .before .before .if3 .taken)
+    (subst (λ (b : Bool). Judges-full (at-start .args .values) (at-start .args .left) (at-start .args .c .begun) b) (c .before .if4 .taken)
+    (c .before .before .is-full2 .ensures)))
 
 read-value-sub-read-record : (t : ℕ) → read-value-lts.Need-sub-read-record (value-claims t) (read-value-at t) read-value.Post
 read-value-sub-read-record t c =
@@ -701,10 +775,12 @@ pub +read-list+read-record+read-value-spec : {M : Type 1} → statement M
     (read-list-loop-holds t)
     (λ c. search needs)
     (read-list-read-value-requires t)
-    (λ c. search needs) (λ c. search needs)
+    (λ c κs. search needs) (λ c. search needs) (λ c. search needs)
     (read-list-same-length t)
     (read-list-same-length-2 t)
     (read-list-returns t)
+    (read-list-mul-row-written t)
+    (λ c κs. search needs)
     (read-list-add-total t)
     (read-list-add-total-2 t)
     (read-list-next-part-requires t)
@@ -726,10 +802,12 @@ pub +read-list+read-record+read-value-spec : {M : Type 1} → statement M
     (read-record-read-name-requires t)
     (λ c. search needs)
     (read-record-read-value-requires t)
-    (λ c. search needs) (λ c. search needs)
+    (λ c κs. search needs) (λ c. search needs) (λ c. search needs)
     (read-record-same-length t)
     (read-record-same-length-2 t)
     (read-record-returns t)
+    (read-record-mul-row-written t)
+    (λ c κs. search needs)
     (read-record-add-total t)
     (read-record-add-total-2 t)
     (read-record-add-total-3 t)
@@ -737,6 +815,7 @@ pub +read-list+read-record+read-value-spec : {M : Type 1} → statement M
     (read-record-loop-less t)
     (read-record-loop-again t)
     (λ c. search needs)
+    (read-record-refused-requires t)
     (read-record-same-length-3 t)
     (read-record-same-length-4 t)
     (read-record-returns-2 t)
@@ -747,14 +826,14 @@ pub +read-list+read-record+read-value-spec : {M : Type 1} → statement M
     λ t. read-value-lts.spec (value-claims t)
     (read-value-at t)
     read-value.Post
-    (λ c κs. search needs) (λ c κs. search needs) (λ c κs. search needs)
+    (λ c κs. search needs) (λ c κs. search needs) (λ c κs. search needs) (λ c κs. search needs)
     (read-value-returns t)
     (λ c. search needs)
     (read-value-sub-read-list t)
     (read-value-read-list-requires t)
     (λ c. search needs) (λ c. search needs)
     (read-value-returns-2 t)
-    (λ c κs. search needs)
+    (λ c κs. search needs) (λ c κs. search needs)
     (read-value-returns-3 t)
     (λ c. search needs)
     (read-value-sub-read-record t)
