@@ -5,7 +5,6 @@ ghost use mathlib.Core.List.{List, _++_, _∷_};
 ghost use Prim.Native.Nat.{ℕ, _+_, _*_, _/_, _%_, _^_, _≤_, _<_};
 ghost use lib.Dec.{eqb};
 ghost use lib.ListN.{length, getD, take, drop};
-ghost use Rattle.definitions.specs.Bytes.{same};
 ghost use Rattle.definitions.specs.Number.{Number, is-int};
 ghost use Rattle.definitions.specs.Value.{Value, Members, has-name};
 ghost use Rattle.pool.specs.Pool.{text-in};
@@ -181,19 +180,6 @@ pub fn text_bytes(reference: u64) -> usize
 }
 
 // ---- members
-
-// Whether the texts of two references are the same.
-pub fn same_name(pool: &[u64], a: u64, b: u64) -> bool
-    ensures compared { λ r. ⌜ r ≡ same (text-in (now (pool .entry)) (a % 65536) (a / 65536)) (text-in (now (pool .entry)) (b % 65536) (b / 65536)) ⌝ }
-{
-    pool::same_text(
-        pool,
-        text_word(a),
-        text_bytes(a),
-        text_word(b),
-        text_bytes(b),
-    )
-}
 
 // Whether one of the members whose rows stand from one row up to another has the name of a reference.
 pub fn has_member(nodes: &[u64], at: usize, end: usize, pool: &[u64], name: u64) -> bool

@@ -1,3 +1,4 @@
+pub mod Words
 pub mod Lookup
 pub mod PlaceRuns
 pub mod Operands

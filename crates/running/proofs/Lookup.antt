@@ -11,7 +11,8 @@ use Rattle.definitions.specs.Running.{member-of}
 use Rattle.pool.specs.Pool.{text-in}
 use Rattle.nodes.specs.Nodes.{Refers, row-size}
 use Rattle.nodes.specs.Standing.{Members-stand, First-member}
-use Rattle.nodes.specs.StandingLaws.{size-some, value-name, value-size, value-within, rec-stands, first-member, no-member-left, text-referred}
+use Rattle.nodes.specs.StandingLaws.{size-some, value-name, value-size, value-within, rec-stands, first-member, no-member-left}
+use Rattle.nodes.specs.StandingLaws.{text-referred, referred-whole}
 use Rattle.plain.specs.Table.{Bounded-numbers, Bounded-members}
 use Rattle.running.specs.Bindings.{Bound, standing, missing}
 use Rattle.running.specs.Members.{Record-at, Some-record}
@@ -47,6 +48,9 @@ module _ (nodes pool : List ℕ) (at name : ℕ) where
       let s = size-some (Value.rec (r .members)) in
       (omega (arith, e, h, r .small), omega (arith, h, s, r .small))
 
+  pub record-inside : Some-record nodes pool at → at + row-size nodes at ≤ length nodes
+  record-inside r = omega (arith, value-size (r .held .stands), value-within (r .held .stands))
+
   module _ {i : ℕ} (w : Looking i) where
     pub step
         : Some-record nodes pool at → i < at + row-size nodes at
@@ -57,6 +61,15 @@ module _ (nodes pool : List ℕ) (at name : ℕ) where
         let e = value-size (f .stands) in
         let h = value-within (f .stands) in
         (omega (arith, e, size-some (f .value)), omega (arith, e, h, r .small), omega (arith, f .more .reaches))
+
+    -- the pool has the row's name whole
+    pub named-whole
+        : Some-record nodes pool at → i < at + row-size nodes at → {k : ℕ} → k ≡ getD nodes (i + 2) 0 → length (text-of pool k) ≡ k / 65536
+    named-whole r more e =
+        let l = w .stands (r .used) (r .members) (r .held) in
+        let f = first-member (l .1) more in
+        subst (λ (x : ℕ). length (text-of pool x) ≡ x / 65536) (sym (e ∙ value-name (f .stands)))
+        (referred-whole pool (r .held .pooled .front) (r .held .pooled .small) (f .refers))
 
     module _ {k : ℕ} {b : Bool} (named : k ≡ getD nodes (i + 2) 0) (told : b ≡ same (text-of pool name) (text-of pool k)) where
       compared

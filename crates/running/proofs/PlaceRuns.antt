@@ -1,5 +1,5 @@
 -- What running a place answers, for each way through it. Assumes nothing.
-use Prim.Native.Nat.{ℕ, suc, _+_, _/_, _%_, _≤_, _<_}
+use Prim.Native.Nat.{ℕ, suc, _+_, _/_, _%_, _^_, _≤_, _<_}
 use native.Mathlib.Numerals.{add-one}
 use native.Mathlib.Omega.{arith}
 use mathlib.Core.Path.{_≡_, refl, sym, ap, _∙_, subst}
@@ -18,7 +18,7 @@ use Rattle.forms.specs.PartsLaws.{it-slot, field-name, field-place}
 use Rattle.running.specs.declared.going.Seen.{Seen}
 use Rattle.running.specs.declared.going.Seen.the-variants as Seen-is
 use Rattle.running.specs.Bindings.{Bound, standing}
-use Rattle.running.specs.BindingsLaws.{bound-kind, binds-at, slot-within}
+use Rattle.running.specs.BindingsLaws.{bound-kind, bound-within, binds-at, slot-within}
 use Rattle.running.specs.Codes.{Is-it, is-it, it-of}
 use Rattle.running.specs.Members.{Record-at, Some-record}
 use Rattle.running.specs.PlaceLaws.{place-stops, it-given, field-of, field-entered, field-refused, field-stuck, field-through, Is-rec, is-rec}
@@ -70,6 +70,14 @@ module _ {forms nodes pool bindings : List ℕ} {limit row : ℕ} where
         told = λ l p q env m.
             place-stops q l env steps (omega (arith, m .limited)) ∙ ap (refused 13) (sym (e ∙ place-stands-at (m .stands)));
       }
+
+  -- a word has room for where its value stands
+  pub seen-fits
+      : {steps at behind : ℕ} → Place-ready forms nodes pool bindings limit row steps
+      → Sees-place forms nodes pool bindings limit row steps (Seen-is.At at behind) → (at < 2 ^ 31) × (behind < 2 ^ 32)
+  seen-fits r s =
+      let x = s .told (r .limits) (r .used) (r .place) (r .env) (r .meets) in
+      (omega (arith, bound-within (x .bound), r .small), omega (arith, x .left, r .few))
 
   -- ---- `it`
 

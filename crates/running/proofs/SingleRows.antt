@@ -33,7 +33,7 @@ use Rattle.running.specs.Walk.{Puts, Made}
 use Rattle.running.proofs.Closing.{put-alone}
 
 -- no more rows than the document has
-bound-size : {nodes p : List ℕ} {at : ℕ} {v : Value} → Bound nodes p at v → length nodes ≤ 65536 → size v ≤ 65536
+pub bound-size : {nodes p : List ℕ} {at : ℕ} {v : Value} → Bound nodes p at v → length nodes ≤ 65536 → size v ≤ 65536
 unfolding size
 bound-size (standing s b) h = omega (arith, value-within s)
 bound-size (missing e) h = omega arith
@@ -45,6 +45,12 @@ bound-bounded (missing e) = tt
 
 pub few-begun : {limit : ℕ} {c : Cursor} {steps : ℕ} → Giving limit c steps → c .begun < 2 ^ 60
 few-begun g = omega (arith, g .paid, g .counted, g .left, g .few)
+
+-- a word has room for what is given
+pub done-fits
+    : {limit : ℕ} {c : Cursor} {steps kind begun : ℕ} → Giving limit c steps → kind < 8 → begun ≤ c .begun + 65536
+    → (kind < 8) × (begun < 2 ^ 39) × (steps < 2 ^ 21)
+done-fits g k h = (k, omega (arith, g .paid, g .counted, g .left, g .few), omega (arith, g .left, g .few))
 
 literal-row-of
     : {p : List ℕ} {v : Value} {k : ℕ} (name : ℕ) → Literal-payload p v k → Rows p name v (head-word v ∷ k ∷ name ∷ [])

@@ -43,7 +43,8 @@ pub fn run(
         begun: 0,
         steps: 0,
     };
-    match walk::run_form(forms, nodes, pool, bindings, results, limits.steps, start) {
+    let r = walk::run_form(forms, nodes, pool, bindings, results, limits.steps, start);
+    match going::opened(r) {
         Part::Done {
             kind: _,
             begun,

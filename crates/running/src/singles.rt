@@ -8,8 +8,9 @@ ghost use Rattle.nodes.specs.Nodes.{head-word};
 ghost use Rattle.running.specs.Bindings.{Bound};
 ghost use Rattle.running.specs.Rows.{Some-bound};
 ghost use Rattle.running.specs.Singles.{Giving, Gives, Wholes, Handed, Counts, Number-word, Some-number, Literal-at, Some-literal};
+ghost use Rattle.running.specs.Words.{part-of};
 use crate::going::Cursor;
-use crate::going::Part;
+use crate::going::done;
 use crate::rows::count_items;
 use crate::rows::keep;
 use crate::rows::put;
@@ -22,14 +23,14 @@ fn give_kept(
     limit: usize,
     c: Cursor,
     steps: usize,
-) -> Part
+) -> u64
     requires { ⌜ Giving limit c steps ⌝ }
     requires there { ⌜ Some-bound (now nodes) at 0 ⌝ }
-    ensures given { λ r. ⌜ Gives (now (results .entry)) (now (results .exit)) limit c steps (λ p v. Bound (now (nodes .entry)) p at v) r ⌝ }
+    ensures given { λ r. ⌜ Gives (now (results .entry)) (now (results .exit)) limit c steps (λ p v. Bound (now (nodes .entry)) p at v) (part-of r) ⌝ }
 {
     let kind = nodes::row_kind(nodes, at);
     let begun = keep(results, c.begun, nodes, at, c.name);
-    Part::Done { kind, begun, steps }
+    done(kind, begun, steps)
 }
 
 // The first word of the row of a number.
@@ -49,10 +50,10 @@ fn give_int(
     limit: usize,
     c: Cursor,
     steps: usize,
-) -> Part
+) -> u64
     requires { ⌜ Giving limit c steps ⌝ }
     requires there { ⌜ Some-bound (now nodes) at 0 ⌝ }
-    ensures given { λ r. ⌜ Gives (now (results .entry)) (now (results .exit)) limit c steps (Wholes (now (nodes .entry)) at) r ⌝ }
+    ensures given { λ r. ⌜ Gives (now (results .entry)) (now (results .exit)) limit c steps (Wholes (now (nodes .entry)) at) (part-of r) ⌝ }
 {
     let scale = nodes::row_scale(nodes, at);
     if scale == 0 {
@@ -61,11 +62,7 @@ fn give_int(
     let n = number::whole_part(nodes::row_payload(nodes, at), scale);
     let bits = nodes::number_bits(nodes::row_negative(nodes, at), 0);
     let begun = put(results, c.begun, number_head(bits, n), n, c.name);
-    Part::Done {
-        kind: nodes::NUMBER,
-        begun,
-        steps,
-    }
+    done(nodes::NUMBER, begun, steps)
 }
 
 // Puts what a form of this code makes of the value at a row of the document: `int` takes its fraction, any other keeps it.
@@ -77,10 +74,10 @@ pub fn give_value(
     limit: usize,
     c: Cursor,
     steps: usize,
-) -> Part
+) -> u64
     requires { ⌜ Giving limit c steps ⌝ }
     requires there { ⌜ Some-bound (now nodes) at 0 ⌝ }
-    ensures given { λ r. ⌜ Gives (now (results .entry)) (now (results .exit)) limit c steps (Handed (now (nodes .entry)) at code) r ⌝ }
+    ensures given { λ r. ⌜ Gives (now (results .entry)) (now (results .exit)) limit c steps (Handed (now (nodes .entry)) at code) (part-of r) ⌝ }
 {
     if code == forms::INT {
         return give_int(results, nodes, at, limit, c, steps);
@@ -96,18 +93,14 @@ pub fn give_count(
     limit: usize,
     c: Cursor,
     steps: usize,
-) -> Part
+) -> u64
     requires { ⌜ Giving limit c steps ⌝ }
     requires there { ⌜ Some-bound (now nodes) at 0 ⌝ }
-    ensures given { λ r. ⌜ Gives (now (results .entry)) (now (results .exit)) limit c steps (Counts (now (nodes .entry)) at) r ⌝ }
+    ensures given { λ r. ⌜ Gives (now (results .entry)) (now (results .exit)) limit c steps (Counts (now (nodes .entry)) at) (part-of r) ⌝ }
 {
     let n = count_items(nodes, at);
     let begun = put(results, c.begun, number_head(0, n), n, c.name);
-    Part::Done {
-        kind: nodes::NUMBER,
-        begun,
-        steps,
-    }
+    done(nodes::NUMBER, begun, steps)
 }
 
 // The first word of the row that the literal at a row comes to.
@@ -144,18 +137,14 @@ pub fn give_literal(
     pool: &[u64],
     limit: usize,
     c: Cursor,
-) -> Part
+) -> u64
     requires { ⌜ Giving limit c (c .steps + 1) ⌝ }
     requires there { ⌜ Some-literal (now forms) (now pool) (c .row) ⌝ }
     ensures given { λ r. ⌜ Gives (now (results .entry)) (now (results .exit)) limit c (c .steps + 1)
-        (λ p v. Literal-at (now (forms .entry)) (now (pool .entry)) (c .row) p v) r ⌝ }
+        (λ p v. Literal-at (now (forms .entry)) (now (pool .entry)) (c .row) p v) (part-of r) ⌝ }
 {
     let head = literal_head(forms, c.row, pool);
     let payload = forms::payload(forms, c.row);
     let begun = put(results, c.begun, head, payload, c.name);
-    Part::Done {
-        kind: head % 8,
-        begun,
-        steps: c.steps + 1,
-    }
+    done(head % 8, begun, c.steps + 1)
 }

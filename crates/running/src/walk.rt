@@ -1,9 +1,14 @@
 // Running forms: each calls its parts back, at later rows of the forms table.
 ghost use mathlib.Core.Path.{_≡_};
 ghost use Rattle.running.specs.Walk.{Ready, Entered, Following, Runs, Follows, branch};
+ghost use Rattle.running.specs.Words.{part-of};
 use crate::going::Cursor;
 use crate::going::Part;
 use crate::going::Seen;
+use crate::going::done;
+use crate::going::looked;
+use crate::going::opened;
+use crate::going::refused;
 use crate::kinds::is_kind;
 use crate::places::run_operand;
 use crate::rows::close_list;
@@ -22,10 +27,10 @@ fn run_pack(
     results: &mut [u64],
     limit: usize,
     c: Cursor,
-) -> Part
+) -> u64
     requires { ⌜ Entered (now forms) (now nodes) (now pool) (now bindings) (now results) limit c 17 ⌝ }
     ensures ran { λ r. ⌜ Runs (now (forms .entry)) (now (nodes .entry)) (now (pool .entry)) (now (bindings .entry)) (now (bindings .exit))
-        (now (results .entry)) (now (results .exit)) limit c r ⌝ }
+        (now (results .entry)) (now (results .exit)) limit c (part-of r) ⌝ }
 {
     let end = c.row + forms::size(forms, c.row);
     let mut row = c.row + 3;
@@ -45,7 +50,7 @@ fn run_pack(
             kind: _,
             begun: to,
             steps: behind,
-        } = r
+        } = opened(r)
         else {
             return r;
         };
@@ -54,11 +59,7 @@ fn run_pack(
         row += forms::size(forms, row);
     }
     close_record(results, c.begun, begun, pool, c.name);
-    Part::Done {
-        kind: nodes::RECORD,
-        begun,
-        steps,
-    }
+    done(nodes::RECORD, begun, steps)
 }
 
 // Runs the chosen branch of an `if`. Its condition makes no rows: it runs where the table has no room.
@@ -70,10 +71,10 @@ fn run_if(
     results: &mut [u64],
     limit: usize,
     c: Cursor,
-) -> Part
+) -> u64
     requires { ⌜ Entered (now forms) (now nodes) (now pool) (now bindings) (now results) limit c 11 ⌝ }
     ensures ran { λ r. ⌜ Runs (now (forms .entry)) (now (nodes .entry)) (now (pool .entry)) (now (bindings .entry)) (now (bindings .exit))
-        (now (results .entry)) (now (results .exit)) limit c r ⌝ }
+        (now (results .entry)) (now (results .exit)) limit c (part-of r) ⌝ }
 {
     let first = c.row + 3;
     let test = Cursor {
@@ -88,7 +89,7 @@ fn run_if(
         kind,
         begun: _,
         steps,
-    } = r
+    } = opened(r)
     else {
         return r;
     };
@@ -102,7 +103,7 @@ fn run_if(
         return run_form(forms, nodes, pool, bindings, results, limit, part);
     }
     let place = forms::place(forms, c.row);
-    Part::Refused { number: 12, place }
+    refused(12, place)
 }
 
 // A branch of a form, at a row: what it gives is the form's value.
@@ -129,10 +130,10 @@ fn run_when(
     c: Cursor,
     at: usize,
     steps: usize,
-) -> Part
+) -> u64
     requires { ⌜ Following (now forms) (now nodes) (now pool) (now bindings) (now results) limit c at steps 10 10 ⌝ }
     ensures ran { λ r. ⌜ Follows (now (forms .entry)) (now (nodes .entry)) (now (pool .entry)) (now (bindings .entry)) (now (bindings .exit))
-        (now (results .entry)) (now (results .exit)) limit c at steps r ⌝ }
+        (now (results .entry)) (now (results .exit)) limit c at steps (part-of r) ⌝ }
 {
     let bound = c.bound;
     bindings[bound] = at as u64;
@@ -157,10 +158,10 @@ fn run_each(
     c: Cursor,
     at: usize,
     behind: usize,
-) -> Part
+) -> u64
     requires { ⌜ Following (now forms) (now nodes) (now pool) (now bindings) (now results) limit c at behind 9 9 ⌝ }
     ensures ran { λ r. ⌜ Follows (now (forms .entry)) (now (nodes .entry)) (now (pool .entry)) (now (bindings .entry)) (now (bindings .exit))
-        (now (results .entry)) (now (results .exit)) limit c at behind r ⌝ }
+        (now (results .entry)) (now (results .exit)) limit c at behind (part-of r) ⌝ }
 {
     let place = c.row + 3;
     let body = place + forms::size(forms, place);
@@ -183,7 +184,7 @@ fn run_each(
             kind: _,
             begun: to,
             steps: after,
-        } = r
+        } = opened(r)
         else {
             return r;
         };
@@ -192,11 +193,7 @@ fn run_each(
         i += nodes::row_size(nodes, i);
     }
     close_list(results, c.begun, begun, c.name);
-    Part::Done {
-        kind: nodes::LIST,
-        begun,
-        steps,
-    }
+    done(nodes::LIST, begun, steps)
 }
 
 // Goes on in a form whose place has given the value at a row of the document.
@@ -210,10 +207,10 @@ fn run_on(
     c: Cursor,
     at: usize,
     steps: usize,
-) -> Part
+) -> u64
     requires { ⌜ Following (now forms) (now nodes) (now pool) (now bindings) (now results) limit c at steps 0 10 ⌝ }
     ensures ran { λ r. ⌜ Follows (now (forms .entry)) (now (nodes .entry)) (now (pool .entry)) (now (bindings .entry)) (now (bindings .exit))
-        (now (results .entry)) (now (results .exit)) limit c at steps r ⌝ }
+        (now (results .entry)) (now (results .exit)) limit c at steps (part-of r) ⌝ }
 {
     let code = forms::code(forms, c.row);
     if code == forms::WHEN {
@@ -237,14 +234,14 @@ pub fn run_form(
     results: &mut [u64],
     limit: usize,
     c: Cursor,
-) -> Part
+) -> u64
     requires { ⌜ Ready (now forms) (now nodes) (now pool) (now bindings) (now results) limit c ⌝ }
     ensures ran { λ r. ⌜ Runs (now (forms .entry)) (now (nodes .entry)) (now (pool .entry)) (now (bindings .entry)) (now (bindings .exit))
-        (now (results .entry)) (now (results .exit)) limit c r ⌝ }
+        (now (results .entry)) (now (results .exit)) limit c (part-of r) ⌝ }
 {
     if limit <= c.steps {
         let place = forms::place(forms, c.row);
-        return Part::Refused { number: 13, place };
+        return refused(13, place);
     }
     let code = forms::code(forms, c.row);
     if code == forms::PACK {
@@ -256,7 +253,7 @@ pub fn run_form(
     if forms::IF < code {
         return give_literal(results, forms, pool, limit, c);
     }
-    match run_operand(
+    let r = run_operand(
         forms,
         c.row,
         nodes,
@@ -265,18 +262,9 @@ pub fn run_form(
         c.bound,
         limit,
         c.steps + 1,
-    ) {
-        Seen::At { row, steps } => run_on(
-            forms,
-            nodes,
-            pool,
-            bindings,
-            results,
-            limit,
-            c,
-            row,
-            steps,
-        ),
-        Seen::Refused { number, place } => Part::Refused { number, place },
-    }
+    );
+    let Seen::At { row, steps } = looked(r) else {
+        return r; // the word of a refusal is the same
+    };
+    run_on(forms, nodes, pool, bindings, results, limit, c, row, steps)
 }

@@ -10,14 +10,19 @@ use Rattle.forms.proofs.code.Reads as code-reads
 use Rattle.forms.proofs.payload.Reads as payload-reads
 use Rattle.forms.proofs.place.Reads as place-reads
 use Rattle.nodes.proofs.row_kind.Reads as row-kind-reads
+use Rattle.running.proofs.going.looked.Reads as looked-reads
+use Rattle.running.proofs.going.refused.Reads as refused-reads
+use Rattle.running.proofs.going.seen_at.Reads as seen-at-reads
 use Rattle.running.proofs.places.find_member.Reads as find-member-reads
 use Rattle.running.proofs.places.+run_place.{statement}
 use Rattle.running.proofs.places.+run_place.Tie.{close}
 use Prim.Native.Nat.{_-_}
 use native.Mathlib.Omega.{arith}
 use lib.ListN.{length}
-use mathlib.Core.Path.{sym, _∙_}
-use Rattle.running.proofs.PlaceRuns.{stopped, it-within, it-seen, inner-ready, inner-within, inner-refused, stuck, through, some-record, found}
+use mathlib.Core.Path.{sym, _∙_, subst}
+use Rattle.running.specs.Walk.{Sees-place}
+use Rattle.running.proofs.PlaceRuns.{stopped, it-within, it-seen, inner-ready, inner-within}
+use Rattle.running.proofs.PlaceRuns.{inner-refused, stuck, through, some-record, found, seen-fits}
 
 abbrev μ-run-place : Measures 4 run-place-kinds.ps ℕ
 μ-run-place κs a = length (a .0 .now) - a .1 .0
@@ -33,12 +38,18 @@ abbrev run-place-claims : ℕ → run-place-lts.Claims
 run-place-claims t = (
   place-reads.Asked,
   place-reads.Learnt,
+  refused-reads.Asked,
+  refused-reads.Learnt,
   payload-reads.Asked,
   payload-reads.Learnt,
   code-reads.Asked,
   code-reads.Learnt,
+  seen-at-reads.Asked,
+  seen-at-reads.Learnt,
   run-place-below t,
   run-place.Post,
+  looked-reads.Asked,
+  looked-reads.Learnt,
   row-kind-reads.Asked,
   row-kind-reads.Learnt,
   find-member-reads.Asked,
@@ -46,7 +57,8 @@ run-place-claims t = (
 )
 
 run-place-returns : (t : ℕ) → run-place-lts.Need-returns (run-place-claims t) (run-place-at t) run-place.Post
-run-place-returns t c = stopped (c .before .if1 .taken) (c .place .ensures)
+run-place-returns t c =
+    subst (Sees-place _ _ _ _ _ _ _) (sym (c .refused .ensures .1)) (stopped (c .before .before .if1 .taken) (c .before .place .ensures))
 
 run-place-mul-at : (t : ℕ) → run-place-lts.Need-mul-at (run-place-claims t) (run-place-at t) run-place.Post
 run-place-mul-at t c =
@@ -68,10 +80,19 @@ run-place-shared-slice-read-at t c =
       it-within (at-start .pre .1) (sym (c .before .before .code .ensures) ∙ c .before .if2 .taken) (else1 .if1 .left),
     )
 
+run-place-seen-at-requires : (t : ℕ) → run-place-lts.Need-seen-at-requires (run-place-claims t) (run-place-at t) run-place.Post
+run-place-seen-at-requires t c κs =
+    let else1 = c .before .before .before .before in
+    let at-start = else1 .before .before .before .before .before in
+    seen-fits (at-start .pre .1)
+    (it-seen (sym (c .before .before .code .ensures) ∙ c .before .if2 .taken) (else1 .if1 .left) (c .before .before .before .payload .ensures))
+
 run-place-returns-2 : (t : ℕ) → run-place-lts.Need-returns-2 (run-place-claims t) (run-place-at t) run-place.Post
 run-place-returns-2 t c =
-    let else1 = c .before .before .before .before in
-    it-seen (sym (c .before .before .code .ensures) ∙ c .before .if2 .taken) (else1 .if1 .left) (c .before .before .before .payload .ensures)
+    let after-payload = c .before .before .before .before in
+    subst (Sees-place _ _ _ _ _ _ _) (sym (c .seen-at .ensures))
+    (it-seen (sym (c .before .before .before .code .ensures) ∙ c .before .before .if2 .taken) (after-payload .before .if1 .left)
+    (after-payload .payload .ensures))
 
 run-place-add-run-place : (t : ℕ) → run-place-lts.Need-add-run-place (run-place-claims t) (run-place-at t) run-place.Post
 run-place-add-run-place t c =
@@ -87,64 +108,83 @@ run-place-run-place-requires t c κs =
 
 run-place-returns-3 : (t : ℕ) → run-place-lts.Need-returns-3 (run-place-claims t) (run-place-at t) run-place.Post
 run-place-returns-3 t c =
-    let after-code = c .before .before .before .before in
-    inner-refused (λ e. c .before .before .before .if2 .left (after-code .code .ensures ∙ e)) (after-code .before .before .if1 .left)
-    (c .before .before .run-place .ensures) (c .enum-told .given .1)
+    let else2 = c .before .before .before .before in
+    inner-refused (λ e. else2 .if2 .left (else2 .before .code .ensures ∙ e)) (else2 .before .before .before .if1 .left)
+    (c .before .before .before .run-place .ensures) (sym (c .before .before .looked .ensures) ∙ c .enum-told .given .1)
 
 run-place-returns-4 : (t : ℕ) → run-place-lts.Need-returns-4 (run-place-claims t) (run-place-at t) run-place.Post
 run-place-returns-4 t c =
-    let after-inner = c .before .before .before in
-    let after-code = after-inner .before .before .before .before in
-    through (λ e. after-inner .before .before .before .if2 .left (after-code .code .ensures ∙ e)) (after-code .before .before .if1 .left)
-    (after-inner .before .before .run-place .ensures) (after-inner .inner .given .1) (c .before .row-kind .ensures) (c .if3 .taken)
+    let after-at = c .before .before .before in
+    let after-looked = after-at .before .before in
+    let else1 = after-looked .before .before .before .before .before in
+    subst (Sees-place _ _ _ _ _ _ _) (sym (sym (after-looked .looked .ensures) ∙ after-at .at .given .1))
+    (through (λ e. after-looked .before .before .if2 .left (after-looked .before .before .before .code .ensures ∙ e)) (else1 .if1 .left)
+    (after-looked .before .run-place .ensures) (sym (after-looked .looked .ensures) ∙ after-at .at .given .1) (c .before .row-kind .ensures) (c .if3 .taken))
 
 run-place-returns-5 : (t : ℕ) → run-place-lts.Need-returns-5 (run-place-claims t) (run-place-at t) run-place.Post
 run-place-returns-5 t c =
-    let after-kind = c .before .before .before in
-    let after-inner = after-kind .before .before in
-    let after-code = after-inner .before .before .before .before in
-    stuck (λ e. after-inner .before .before .before .if2 .left (after-code .code .ensures ∙ e)) (after-code .before .before .if1 .left)
-    (after-inner .before .before .run-place .ensures) (after-inner .inner .given .1) (after-kind .row-kind .ensures)
-    (c .before .before .if3 .left) (c .before .if4 .taken) (c .place2 .ensures)
+    let after-row-kind = c .before .before .before .before in
+    let after-looked = after-row-kind .before .before .before .before in
+    let else1 = after-looked .before .before .before .before .before in
+    subst (Sees-place _ _ _ _ _ _ _) (sym (c .refused2 .ensures .1))
+    (stuck (λ e. after-looked .before .before .if2 .left (after-looked .before .before .before .code .ensures ∙ e)) (else1 .if1 .left)
+    (after-looked .before .run-place .ensures) (sym (after-looked .looked .ensures) ∙ after-row-kind .before .before .at .given .1)
+    (after-row-kind .row-kind .ensures)
+    (c .before .before .before .if3 .left) (c .before .before .if4 .taken) (c .before .place2 .ensures))
 
 run-place-find-member-requires : (t : ℕ) → run-place-lts.Need-find-member-requires (run-place-claims t) (run-place-at t) run-place.Post
 run-place-find-member-requires t c κs =
-    let after-kind = c .before .before in
-    let after-run-place = after-kind .before .before .before .before in
-    let else1 = after-run-place .before .before .before .before in
-    let at-start = else1 .before .before .before .before .before in
-    some-record (λ e. after-run-place .before .if2 .left (after-run-place .before .before .code .ensures ∙ e)) (else1 .if1 .left)
-    (after-run-place .run-place .ensures) (after-kind .before .before .inner .given .1) (after-kind .row-kind .ensures) (c .if4 .left) (at-start .pre .1)
+    let after-at = c .before .before .before .before in
+    let else2 = after-at .before .before .before .before in
+    let at-start = else2 .before .before .before .before .before .before .before .before in
+    some-record (λ e. else2 .if2 .left (else2 .before .code .ensures ∙ e)) (else2 .before .before .before .if1 .left)
+    (after-at .before .before .before .run-place .ensures) (sym (after-at .before .before .looked .ensures) ∙ after-at .at .given .1)
+    (c .before .before .row-kind .ensures) (c .if4 .left) (at-start .pre .1)
+
+run-place-seen-at-requires-2 : (t : ℕ) → run-place-lts.Need-seen-at-requires-2 (run-place-claims t) (run-place-at t) run-place.Post
+run-place-seen-at-requires-2 t c κs =
+    let after-at = c .before .before .before .before .before in
+    let else2 = after-at .before .before .before .before in
+    let at-start = else2 .before .before .before .before .before .before .before .before in
+    seen-fits (at-start .pre .1) (found (λ e. else2 .if2 .left (else2 .before .code .ensures ∙ e)) (else2 .before .before .before .if1 .left)
+    (after-at .before .before .before .run-place .ensures) (sym (after-at .before .before .looked .ensures) ∙ after-at .at .given .1)
+    (c .before .before .before .row-kind .ensures) (c .before .if4 .left)
+    (else2 .before .before .payload .ensures)
+    (c .find-member .ensures))
 
 run-place-returns-6 : (t : ℕ) → run-place-lts.Need-returns-6 (run-place-claims t) (run-place-at t) run-place.Post
 run-place-returns-6 t c =
-    let after-kind = c .before .before .before in
-    let after-inner = after-kind .before .before in
-    let after-code = after-inner .before .before .before .before in
-    found (λ e. after-inner .before .before .before .if2 .left (after-code .code .ensures ∙ e)) (after-code .before .before .if1 .left)
-    (after-inner .before .before .run-place .ensures) (after-inner .inner .given .1) (after-kind .row-kind .ensures) (c .before .if4 .left)
-    (after-code .before .payload .ensures)
-    (c .find-member .ensures)
+    let after-row-kind = c .before .before .before .before in
+    let after-looked = after-row-kind .before .before .before .before in
+    let after-payload = after-looked .before .before .before .before in
+    subst (Sees-place _ _ _ _ _ _ _) (sym (c .seen-at2 .ensures))
+    (found (λ e. after-looked .before .before .if2 .left (after-looked .before .before .before .code .ensures ∙ e)) (after-payload .before .if1 .left)
+    (after-looked .before .run-place .ensures) (sym (after-looked .looked .ensures) ∙ after-row-kind .before .before .at .given .1)
+    (after-row-kind .row-kind .ensures) (c .before .before .if4 .left)
+    (after-payload .payload .ensures)
+    (c .before .find-member .ensures))
 
 pub +run-place-spec : {M : Type 1} → statement M
 +run-place-spec = close μ-run-place λ t. run-place-lts.spec (run-place-claims t)
     (run-place-at t)
     run-place.Post
-    (λ c κs. search needs)
+    (λ c κs. search needs) (λ c κs. search needs)
     (run-place-returns t)
     (λ c κs. search needs) (λ c κs. search needs)
     (run-place-mul-at t)
     (run-place-shared-slice-read-at t)
     (λ c. search needs)
+    (run-place-seen-at-requires t)
     (run-place-returns-2 t)
     (run-place-add-run-place t)
     (λ c. search needs)
     (run-place-run-place-requires t)
-    (λ c. search needs) (λ c. search needs)
+    (λ c κs. search needs) (λ c. search needs) (λ c. search needs)
     (run-place-returns-3 t)
     (λ c κs. search needs)
     (run-place-returns-4 t)
-    (λ c κs. search needs)
+    (λ c κs. search needs) (λ c κs. search needs)
     (run-place-returns-5 t)
     (run-place-find-member-requires t)
+    (run-place-seen-at-requires-2 t)
     (run-place-returns-6 t)

@@ -1,7 +1,10 @@
 -- `running::singles::give_int` meets its contract. Assumes nothing.
 use borrow.Author.Needs.{needs}
-use Rattle.running.proofs.SingleRows.{few-begun}
+use Rattle.running.proofs.SingleRows.{few-begun, done-fits}
 use Rattle.running.proofs.WholeRows.{unscaled-given, scale-most, whole-word, whole-given}
+use mathlib.Core.Path.{sym, subst}
+use native.Mathlib.Omega.{arith}
+use Rattle.running.specs.Singles.{Gives}
 use Rattle.running.proofs.singles.give_int.Statement.{statement}
 use Rattle.running.proofs.singles.give_int.Tie as tie
 
@@ -33,20 +36,26 @@ put-requires c κs =
     let at-start = after-row-payload .before .before .before .before .before in
     few-begun (at-start .pre .0)
 
+done-requires : tie.Need-done-requires
+done-requires c κs =
+    let after-row-negative = c .before .before .before .before .before .before in
+    let at-start = after-row-negative .before .before .before .before .before .before .before in
+    done-fits (at-start .pre .0) (omega arith) (omega (arith, c .before .before .put .ensures .counted))
+
 returns-2 : tie.Need-returns-2
 returns-2 c =
-    let after-number-bits = c .before .before .before .before .before in
-    let else1 = after-number-bits .before .before .before .before in
-    let at-start = else1 .before .before .before .before in
-    whole-given (else1 .before .row-scale .ensures) (else1 .if1 .left) (after-number-bits .before .before .before .row-payload .ensures)
-    (after-number-bits .before .before .whole-part .ensures) (after-number-bits .before .row-negative .ensures)
-    (after-number-bits .number-bits .ensures) (at-start .pre .0)
-    (c .before .before .before .number-head .ensures) (c .before .before .put .ensures)
+    let after-number-head = c .before .before .before .before in
+    let after-whole-part = after-number-head .before .before .before .before in
+    let at-start = after-whole-part .before .before .before .before .before .before in
+    subst (Gives _ _ _ _ _ _) (sym (c .done .ensures))
+    (whole-given (after-whole-part .before .before .before .row-scale .ensures) (after-whole-part .before .before .if1 .left)
+    (after-whole-part .before .row-payload .ensures)
+    (after-whole-part .whole-part .ensures) (after-number-head .before .before .before .row-negative .ensures)
+    (after-number-head .before .before .number-bits .ensures) (at-start .pre .0)
+    (after-number-head .number-head .ensures) (c .before .before .before .put .ensures))
 
 pub give-int-spec : {M : Type 1} → statement M
-give-int-spec =
-    tie.close
-    (tie.spec
+give-int-spec = tie.close (tie.spec
     (λ c κs. search needs)
     give-kept-requires
     (λ c. search needs)
@@ -56,5 +65,6 @@ give-int-spec =
     (λ c κs. search needs) (λ c κs. search needs)
     number-head-requires
     put-requires
+    done-requires
     (λ c. search needs)
     returns-2)

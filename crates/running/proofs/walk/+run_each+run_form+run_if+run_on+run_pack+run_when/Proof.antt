@@ -29,6 +29,10 @@ use Rattle.forms.proofs.operand.Reads as operand-reads
 use Rattle.forms.proofs.place.Reads as place-reads
 use Rattle.forms.proofs.size.Reads as size-reads
 use Rattle.nodes.proofs.row_size.Reads as row-size-reads
+use Rattle.running.proofs.going.done.Reads as done-reads
+use Rattle.running.proofs.going.looked.Reads as looked-reads
+use Rattle.running.proofs.going.opened.Reads as opened-reads
+use Rattle.running.proofs.going.refused.Reads as refused-reads
 use Rattle.running.proofs.kinds.is_kind.Reads as is-kind-reads
 use Rattle.running.proofs.places.run_operand.Reads as run-operand-reads
 use Rattle.running.proofs.rows.close_list.Reads as close-list-reads
@@ -46,8 +50,10 @@ use Rattle.running.proofs.walk.+run_each+run_form+run_if+run_on+run_pac
 }
 use Prim.Native.Nat.{_+_, _-_, _*_}
 use native.Mathlib.Omega.{arith}
-use mathlib.Core.Path.{refl, sym, ap, _∙_}
+use mathlib.Core.Path.{refl, sym, ap, _∙_, subst}
 use lib.ListN.{length, length-set}
+use Rattle.running.specs.Walk.{Runs, Follows}
+use Rattle.running.proofs.Words.{refused-same}
 use Rattle.running.proofs.FormRuns.{row-within, stopped, some-literal, literal-ran, giving, operand-ready, operand-refused, following, followed}
 use Rattle.running.proofs.FormRuns.{narrowed, some-bound, count-followed, value-followed, when-room}
 use Rattle.running.proofs.WhenRuns.{when-within, when-yes-ready, when-no-ready, when-yes, when-no, choose-within, test-ready, test-refused}
@@ -128,16 +134,22 @@ run-each-claims t = (
   items-end-reads.Learnt,
   run-form-below t,
   run-form.Post,
+  opened-reads.Asked,
+  opened-reads.Learnt,
   row-size-reads.Asked,
   row-size-reads.Learnt,
   close-list-reads.Asked,
   close-list-reads.Learnt,
+  done-reads.Asked,
+  done-reads.Learnt,
 )
 
 abbrev run-form-claims : ℕ → run-form-lts.Claims
 run-form-claims t = (
   place-reads.Asked,
   place-reads.Learnt,
+  refused-reads.Asked,
+  refused-reads.Learnt,
   code-reads.Asked,
   code-reads.Learnt,
   run-pack-below t,
@@ -148,6 +160,8 @@ run-form-claims t = (
   give-literal-reads.Learnt,
   run-operand-reads.Asked,
   run-operand-reads.Learnt,
+  looked-reads.Asked,
+  looked-reads.Learnt,
   run-on-below t,
   run-on.Post,
 )
@@ -156,12 +170,16 @@ abbrev run-if-claims : ℕ → run-if-lts.Claims
 run-if-claims t = (
   run-form-below t,
   run-form.Post,
+  opened-reads.Asked,
+  opened-reads.Learnt,
   size-reads.Asked,
   size-reads.Learnt,
   branch-reads.Asked,
   branch-reads.Learnt,
   place-reads.Asked,
   place-reads.Learnt,
+  refused-reads.Asked,
+  refused-reads.Learnt,
 )
 
 abbrev run-on-claims : ℕ → run-on-lts.Claims
@@ -186,8 +204,12 @@ run-pack-claims t = (
   name-reads.Learnt,
   run-form-below t,
   run-form.Post,
+  opened-reads.Asked,
+  opened-reads.Learnt,
   close-record-reads.Asked,
   close-record-reads.Learnt,
+  done-reads.Asked,
+  done-reads.Learnt,
 )
 
 abbrev run-when-claims : ℕ → run-when-lts.Claims
@@ -264,7 +286,7 @@ run-each-run-form-requires t c κs =
 
 run-each-same-length : (t : ℕ) → run-each-lts.Need-same-length (run-each-claims t) (run-each-at t) run-each.Post run-each-Inv-loop run-each-μ-loop
 run-each-same-length t c =
-    let after-run-form = c .before .before .before .before .before .before in
+    let after-run-form = c .before .before .before .before .before .before .before in
     let at-loop = after-run-form .before .before .before .before in
     let after-size = at-loop .before .before .before in
     let at-start = after-size .before .before .before .before .before .before .before in
@@ -273,23 +295,23 @@ run-each-same-length t c =
 
 run-each-same-length-2 : (t : ℕ) → run-each-lts.Need-same-length-2 (run-each-claims t) (run-each-at t) run-each.Post run-each-Inv-loop run-each-μ-loop
 run-each-same-length-2 t c =
-    let after-run-form = c .before .before .before .before .before .before in
+    let after-run-form = c .before .before .before .before .before .before .before in
     let at-loop = after-run-form .before .before .before .before in
     after-run-form .run-form .kept .1 .1 .1 .1 .0 ∙ at-loop .loop .inv .same-results
 
 run-each-returns : (t : ℕ) → run-each-lts.Need-returns (run-each-claims t) (run-each-at t) run-each.Post run-each-Inv-loop run-each-μ-loop
 run-each-returns t c =
-    let after-run-form = c .before .before .before .before .before .before in
+    let after-run-form = c .before .before .before .before .before .before .before in
     let at-loop = after-run-form .before .before .before .before in
     let after-size = at-loop .before .before .before in
     let at-start = after-size .before .before .before .before .before .before .before in
     each.part-refused (at-start .pre .1) (at-loop .loop .inv) (after-run-form .before .before .before .loop-test .taken)
     (row-behind (at-start .args .forms .now) (at-start .args .c .row + 3) (after-size .size .result) (after-size .size .ensures))
-    (after-run-form .run-form .ensures) (c .enum-told .given .1)
+    (after-run-form .run-form .ensures) (sym (c .before .before .opened .ensures) ∙ c .enum-told .given .1)
 
 run-each-add-i-3 : (t : ℕ) → run-each-lts.Need-add-i-3 (run-each-claims t) (run-each-at t) run-each.Post run-each-Inv-loop run-each-μ-loop
 run-each-add-i-3 t c =
-    let after-results = c .before .before .before .before .before in
+    let after-results = c .before .before .before .before .before .before in
     let in-loop = after-results .before .before .before .before .before .before in
     let after-size = in-loop .before .before .before .before in
     let at-start = after-size .before .before .before .before .before .before .before in
@@ -297,7 +319,7 @@ run-each-add-i-3 t c =
 
 run-each-loop-less : (t : ℕ) → run-each-lts.Need-loop-less (run-each-claims t) (run-each-at t) run-each.Post run-each-Inv-loop run-each-μ-loop
 run-each-loop-less t c =
-    let after-results = c .before .before .before .before .before in
+    let after-results = c .before .before .before .before .before .before in
     let in-loop = after-results .before .before .before .before .before .before in
     let after-size = in-loop .before .before .before .before in
     let at-start = after-size .before .before .before .before .before .before .before in
@@ -310,13 +332,14 @@ run-each-loop-less t c =
 
 run-each-loop-again : (t : ℕ) → run-each-lts.Need-loop-again (run-each-claims t) (run-each-at t) run-each.Post run-each-Inv-loop run-each-μ-loop
 run-each-loop-again t c =
-    let after-run-form = c .before .before .before .before .before .before .before .before in
+    let after-opened = c .before .before .before .before in
+    let after-run-form = after-opened .before .before .before .before .before in
     let at-loop = after-run-form .before .before .before .before in
     let after-size = at-loop .before .before .before in
     let at-start = after-size .before .before .before .before .before .before .before in
     each.part-done (at-start .pre .1) (at-loop .loop .inv) (after-run-form .before .before .before .loop-test .taken)
     (row-behind (at-start .args .forms .now) (at-start .args .c .row + 3) (after-size .size .result) (after-size .size .ensures))
-    (after-run-form .run-form .ensures) (c .before .before .r .given .1)
+    (after-run-form .run-form .ensures) (sym (after-opened .opened .ensures) ∙ c .before .before .to .given .1)
     (after-run-form .run-form .kept .1 .1 .1 .0 ∙ length-set (at-loop .loop .bindings) (at-start .args .c .bound) (at-loop .loop .i))
     (after-run-form .run-form .kept .1 .1 .1 .1 .0) (c .row-size .ensures)
 
@@ -327,25 +350,36 @@ run-each-close-list-requires t c κs =
     let at-start = after-size .before .before .before .before .before .before .before in
     each.closable (at-start .pre .1) (c .before .before .loop .inv) (c .before .loop-test .left)
 
+run-each-done-requires : (t : ℕ) → run-each-lts.Need-done-requires (run-each-claims t) (run-each-at t) run-each.Post run-each-Inv-loop run-each-μ-loop
+run-each-done-requires t c κs =
+    let at-loop = c .before .before .before .before .before in
+    let after-size = at-loop .before .before .before in
+    let at-start = after-size .before .before .before .before .before .before .before in
+    let most = each.loop-bounds (at-start .pre .1) (at-loop .loop .inv) in
+    (omega arith, omega (arith, most .1), omega (arith, most .0))
+
 run-each-same-length-3 : (t : ℕ) → run-each-lts.Need-same-length-3 (run-each-claims t) (run-each-at t) run-each.Post run-each-Inv-loop run-each-μ-loop
 run-each-same-length-3 t c =
-    let at-loop = c .before .before .before .before .before in
+    let at-loop = c .before .before .before .before .before .before in
     at-loop .loop .inv .same-bindings
 
 run-each-same-length-4 : (t : ℕ) → run-each-lts.Need-same-length-4 (run-each-claims t) (run-each-at t) run-each.Post run-each-Inv-loop run-each-μ-loop
 run-each-same-length-4 t c =
-    let at-loop = c .before .before .before .before .before in
-    c .before .before .close-list .kept .0 ∙ at-loop .loop .inv .same-results
+    let at-loop = c .before .before .before .before .before .before in
+    c .before .before .before .close-list .kept .0 ∙ at-loop .loop .inv .same-results
 
 run-each-returns-2 : (t : ℕ) → run-each-lts.Need-returns-2 (run-each-claims t) (run-each-at t) run-each.Post run-each-Inv-loop run-each-μ-loop
 run-each-returns-2 t c =
-    let after-loop = c .before .before .before .before in
+    let after-loop = c .before .before .before .before .before in
     let after-size = after-loop .before .before .before .before in
     let at-start = after-size .before .before .before .before .before .before .before in
-    each.each-ends (at-start .pre .1) (after-loop .before .loop .inv) (after-loop .loop-test .left) (c .before .before .close-list .ensures)
+    subst (Follows _ _ _ _ _ _ _ _ _ _ _) (sym (c .done .ensures))
+    (each.each-ends (at-start .pre .1) (after-loop .before .loop .inv) (after-loop .loop-test .left) (c .before .before .before .close-list .ensures))
 
 run-form-returns : (t : ℕ) → run-form-lts.Need-returns (run-form-claims t) (run-form-at t) run-form.Post
-run-form-returns t c = stopped (c .before .if1 .taken) (c .place .ensures)
+run-form-returns t c =
+    subst (Runs _ _ _ _ _ _ _ _ _) (sym (c .refused .ensures .0))
+    (stopped (c .before .before .if1 .taken) (c .before .place .ensures))
 
 run-form-run-pack-requires : (t : ℕ) → run-form-lts.Need-run-pack-requires (run-form-claims t) (run-form-at t) run-form.Post
 run-form-run-pack-requires t c κs =
@@ -400,32 +434,36 @@ run-form-run-operand-requires t c κs =
     let at-start = after-code .before .before .before .before .before .before .before .before in
     operand-ready (after-code .code .ensures) (c .before .before .if4 .left) (c .before .before .before .if3 .left) (at-start .pre .1)
 
-run-form-run-on-requires : (t : ℕ) → run-form-lts.Need-run-on-requires (run-form-claims t) (run-form-at t) run-form.Post
-run-form-run-on-requires t c κs =
-    let after-run-operand = c .before .before .before .before .before in
-    let else3 = after-run-operand .before .before .before .before in
-    let after-code = else3 .before .before in
-    let at-start = after-code .before .before .before .before .before .before .before .before in (
-      omega (arith, at-start .pre .0),
-      following (after-code .code .ensures) (after-run-operand .before .before .before .if4 .left) (else3 .if3 .left)
-          (after-run-operand .run-operand .ensures) (after-code .before .if1 .left) (c .before .before .before .row .given .1) (at-start .pre .1),
-    )
-
 run-form-returns-5 : (t : ℕ) → run-form-lts.Need-returns-5 (run-form-claims t) (run-form-at t) run-form.Post
 run-form-returns-5 t c =
-    let after-run-on = c .before .before .before .before in
-    let after-row = after-run-on .before .before .before .before in
-    let else4 = after-row .before .before .before .before .before in
+    let after-looked = c .before .before in
+    let else4 = after-looked .before .before .before .before in
     let else1 = else4 .before .before .before .before in
-    followed (else4 .before .before .before .code .ensures) (else4 .if4 .left) (else4 .before .if3 .left) (after-row .before .before .run-operand .ensures)
-    (else1 .if1 .left) (after-row .row .given .1) (after-run-on .run-on .ensures)
+    subst (Runs _ _ _ _ _ _ _ _ _) (sym (refused-same _ (sym (after-looked .looked .ensures) ∙ c .enum-told .given .1)))
+    (operand-refused (else4 .before .before .before .code .ensures) (else4 .if4 .left) (else4 .before .if3 .left)
+    (after-looked .before .run-operand .ensures) (else1 .if1 .left) (sym (after-looked .looked .ensures) ∙ c .enum-told .given .1))
+
+run-form-run-on-requires : (t : ℕ) → run-form-lts.Need-run-on-requires (run-form-claims t) (run-form-at t) run-form.Post
+run-form-run-on-requires t c κs =
+    let after-looked = c .before .before .before .before .before in
+    let else4 = after-looked .before .before .before .before in
+    let else1 = else4 .before .before .before .before in
+    let at-start = else1 .before .before .before .before .before .before .before in (
+      omega (arith, at-start .pre .0),
+      following (else4 .before .before .before .code .ensures) (else4 .if4 .left) (else4 .before .if3 .left)
+          (after-looked .before .run-operand .ensures) (else1 .if1 .left)
+          (sym (after-looked .looked .ensures) ∙ c .before .before .before .row .given .1) (at-start .pre .1),
+    )
 
 run-form-returns-6 : (t : ℕ) → run-form-lts.Need-returns-6 (run-form-claims t) (run-form-at t) run-form.Post
 run-form-returns-6 t c =
-    let else4 = c .before .before .before .before .before .before in
+    let after-run-on = c .before .before .before .before in
+    let after-row = after-run-on .before .before .before .before in
+    let else4 = after-row .before .before .before .before .before .before in
     let else1 = else4 .before .before .before .before in
-    operand-refused (else4 .before .before .before .code .ensures) (else4 .if4 .left) (else4 .before .if3 .left)
-    (c .before .before .before .run-operand .ensures) (else1 .if1 .left) (c .before .number .given .1)
+    followed (else4 .before .before .before .code .ensures) (else4 .if4 .left) (else4 .before .if3 .left)
+    (after-row .before .before .before .run-operand .ensures)
+    (else1 .if1 .left) (sym (after-row .before .before .looked .ensures) ∙ after-row .row .given .1) (after-run-on .run-on .ensures)
 
 run-if-add-first : (t : ℕ) → run-if-lts.Need-add-first (run-if-claims t) (run-if-at t) run-if.Post
 run-if-add-first t c =
@@ -444,28 +482,30 @@ run-if-run-form-requires t c κs =
 
 run-if-returns : (t : ℕ) → run-if-lts.Need-returns (run-if-claims t) (run-if-at t) run-if.Post
 run-if-returns t c =
-    let after-run-form = c .before .before .before .before .before .before in
+    let after-run-form = c .before .before .before .before .before .before .before in
     let after-run-form-arg = after-run-form .before .before in
     let at-start = after-run-form-arg .before .before .before .before .before .before .before .before in
     test-refused (at-start .pre .1) (after-run-form .run-form .ensures) (after-run-form .run-form .kept .1 .1 .1 .0)
-    (after-run-form .run-form .kept .1 .1 .1 .1 .0) (c .enum-told .given .1)
+    (after-run-form .run-form .kept .1 .1 .1 .1 .0) (sym (c .before .before .opened .ensures) ∙ c .enum-told .given .1)
 
 run-if-add-second : (t : ℕ) → run-if-lts.Need-add-second (run-if-claims t) (run-if-at t) run-if.Post
 run-if-add-second t c =
-    let after-run-form-arg2 = c .before .before .before .before .before .before .before .before .before in
-    let at-start = after-run-form-arg2 .before .before .before .before .before .before .before .before .before in
+    let after-run-form = c .before .before .before .before .before .before .before .before .before in
+    let after-run-form-arg = after-run-form .before .before in
+    let at-start = after-run-form-arg .before .before .before .before .before .before .before .before in
     omega (arith, c .size .ensures, choose-within (at-start .pre .1) .1, at-start .good)
 
 run-if-run-form-requires-2 : (t : ℕ) → run-if-lts.Need-run-form-requires-2 (run-if-claims t) (run-if-at t) run-if.Post
 run-if-run-form-requires-2 t c κs =
     let after-branch = c .before .before in
     let after-size = after-branch .before .before in
-    let after-run-form = after-size .before .before .before .before .before .before .before .before in
+    let after-opened = after-size .before .before .before .before in
+    let after-run-form = after-opened .before .before .before .before .before in
     let after-run-form-arg = after-run-form .before .before in
     let at-start = after-run-form-arg .before .before .before .before .before .before .before .before in (
       omega (arith, at-start .pre .0, ap (λ x. x .row) (after-branch .branch .ensures), after-size .size .ensures, choose-within (at-start .pre .1) .1),
       ready-as (after-branch .branch .ensures) (yes-ready (at-start .pre .1) (after-run-form .run-form .ensures) (after-run-form .run-form .kept .1 .1 .1 .0)
-          (after-run-form .run-form .kept .1 .1 .1 .1 .0) (after-size .before .before .r .given .1)
+          (after-run-form .run-form .kept .1 .1 .1 .1 .0) (sym (after-opened .opened .ensures) ∙ after-size .before .before .kind .given .1)
           (row-behind (at-start .args .forms .now) (at-start .args .c .row + 3) (after-size .size .result) (after-size .size .ensures))),
     )
 
@@ -473,19 +513,21 @@ run-if-returns-2 : (t : ℕ) → run-if-lts.Need-returns-2 (run-if-claims t) (ru
 run-if-returns-2 t c =
     let after-run-form2 = c .before .before .before .before in
     let then1 = after-run-form2 .before .before .before .before in
-    let after-run-form = then1 .before .before .before .before .before .before .before .before .before in
+    let after-opened = then1 .before .before .before .before .before in
+    let after-run-form = after-opened .before .before .before .before .before in
     let after-run-form-arg = after-run-form .before .before in
     let at-start = after-run-form-arg .before .before .before .before .before .before .before .before in
     chose-yes (at-start .pre .1) (after-run-form .run-form .ensures) (after-run-form .run-form .kept .1 .1 .1 .0)
-    (after-run-form .run-form .kept .1 .1 .1 .1 .0) (then1 .before .before .before .r .given .1)
+    (after-run-form .run-form .kept .1 .1 .1 .1 .0) (sym (after-opened .opened .ensures) ∙ then1 .before .before .before .kind .given .1)
     (runs-as (after-run-form2 .before .before .before .branch .ensures) (after-run-form2 .run-form2 .ensures)) (then1 .if1 .taken)
     (row-behind (at-start .args .forms .now) (at-start .args .c .row + 3) (then1 .before .size .result) (then1 .before .size .ensures))
 
 run-if-add-branch : (t : ℕ) → run-if-lts.Need-add-branch (run-if-claims t) (run-if-at t) run-if.Post
 run-if-add-branch t c =
     let after-size = c .before .before .before in
-    let after-run-form-arg2 = after-size .before .before .before .before .before .before .before .before .before in
-    let at-start = after-run-form-arg2 .before .before .before .before .before .before .before .before .before in
+    let after-run-form = after-size .before .before .before .before .before .before .before .before .before in
+    let after-run-form-arg = after-run-form .before .before in
+    let at-start = after-run-form-arg .before .before .before .before .before .before .before .before in
     omega (
       arith,
       (row-third (at-start .args .forms .now) (at-start .args .c .row + 3) (at-start .args .c .row + 3 + after-size .size .result) (c .size2 .result)
@@ -499,7 +541,8 @@ run-if-run-form-requires-3 t c κs =
     let after-branch2 = c .before .before in
     let after-size2 = after-branch2 .before in
     let after-size = after-size2 .before .before .before in
-    let after-run-form = after-size .before .before .before .before .before .before .before .before in
+    let after-opened = after-size .before .before .before .before in
+    let after-run-form = after-opened .before .before .before .before .before in
     let after-run-form-arg = after-run-form .before .before in
     let at-start = after-run-form-arg .before .before .before .before .before .before .before .before in (
       omega (
@@ -515,7 +558,7 @@ run-if-run-form-requires-3 t c κs =
       ),
       ready-as (after-branch2 .branch2 .ensures)
           (no-ready (at-start .pre .1) (after-run-form .run-form .ensures) (after-run-form .run-form .kept .1 .1 .1 .0)
-          (after-run-form .run-form .kept .1 .1 .1 .1 .0) (after-size .before .before .r .given .1)
+          (after-run-form .run-form .kept .1 .1 .1 .1 .0) (sym (after-opened .opened .ensures) ∙ after-size .before .before .kind .given .1)
           (row-third (at-start .args .forms .now) (at-start .args .c .row + 3) (at-start .args .c .row + 3 + after-size .size .result)
           (after-size2 .size2 .result)
           (row-behind (at-start .args .forms .now) (at-start .args .c .row + 3) (after-size .size .result) (after-size .size .ensures))
@@ -527,11 +570,13 @@ run-if-returns-3 t c =
     let after-run-form3 = c .before .before .before .before in
     let after-size2 = after-run-form3 .before .before .before .before in
     let after-size = after-size2 .before .before .before in
-    let after-run-form = after-size .before .before .before .before .before .before .before .before in
+    let after-opened = after-size .before .before .before .before in
+    let after-run-form = after-opened .before .before .before .before .before in
     let after-run-form-arg = after-run-form .before .before in
     let at-start = after-run-form-arg .before .before .before .before .before .before .before .before in
     chose-no (at-start .pre .1) (after-run-form .run-form .ensures) (after-run-form .run-form .kept .1 .1 .1 .0) (after-run-form .run-form .kept .1 .1 .1 .1 .0)
-    (after-size .before .before .r .given .1) (runs-as (after-run-form3 .before .before .before .branch2 .ensures) (after-run-form3 .run-form3 .ensures))
+    (sym (after-opened .opened .ensures) ∙ after-size .before .before .kind .given .1)
+    (runs-as (after-run-form3 .before .before .before .branch2 .ensures) (after-run-form3 .run-form3 .ensures))
     (after-size2 .before .if2 .taken) (row-third (at-start .args .forms .now) (at-start .args .c .row + 3)
     (at-start .args .c .row + 3 + after-size .size .result) (after-size2 .size2 .result)
     (row-behind (at-start .args .forms .now) (at-start .args .c .row + 3) (after-size .size .result) (after-size .size .ensures))
@@ -539,12 +584,14 @@ run-if-returns-3 t c =
 
 run-if-returns-4 : (t : ℕ) → run-if-lts.Need-returns-4 (run-if-claims t) (run-if-at t) run-if.Post
 run-if-returns-4 t c =
-    let after-r = c .before .before .before .before .before in
-    let after-run-form = after-r .before .before .before .before .before .before in
+    let after-kind = c .before .before .before .before .before .before in
+    let after-run-form = after-kind .before .before .before .before .before .before .before in
     let after-run-form-arg = after-run-form .before .before in
     let at-start = after-run-form-arg .before .before .before .before .before .before .before .before in
-    choose-stuck (at-start .pre .1) (after-run-form .run-form .ensures) (after-run-form .run-form .kept .1 .1 .1 .0)
-    (after-run-form .run-form .kept .1 .1 .1 .1 .0) (after-r .r .given .1) (c .before .before .if1 .left) (c .before .if2 .left) (c .place .ensures)
+    subst (Runs _ _ _ _ _ _ _ _ _) (sym (c .refused .ensures .0))
+    (choose-stuck (at-start .pre .1) (after-run-form .run-form .ensures) (after-run-form .run-form .kept .1 .1 .1 .0)
+    (after-run-form .run-form .kept .1 .1 .1 .1 .0) (sym (after-kind .before .before .opened .ensures) ∙ after-kind .kind .given .1)
+    (c .before .before .before .if1 .left) (c .before .before .if2 .left) (c .before .place .ensures))
 
 run-on-run-when-requires : (t : ℕ) → run-on-lts.Need-run-when-requires (run-on-claims t) (run-on-at t) run-on.Post
 run-on-run-when-requires t c κs =
@@ -644,28 +691,28 @@ run-pack-run-form-requires t c κs =
 
 run-pack-same-length : (t : ℕ) → run-pack-lts.Need-same-length (run-pack-claims t) (run-pack-at t) run-pack.Post run-pack-Inv-loop run-pack-μ-loop
 run-pack-same-length t c =
-    let after-run-form = c .before .before .before .before .before .before in
+    let after-run-form = c .before .before .before .before .before .before .before in
     let at-loop = after-run-form .before .before .before .before .before in
     after-run-form .run-form .kept .1 .1 .1 .0 ∙ at-loop .loop .inv .same-bindings
 
 run-pack-same-length-2 : (t : ℕ) → run-pack-lts.Need-same-length-2 (run-pack-claims t) (run-pack-at t) run-pack.Post run-pack-Inv-loop run-pack-μ-loop
 run-pack-same-length-2 t c =
-    let after-run-form = c .before .before .before .before .before .before in
+    let after-run-form = c .before .before .before .before .before .before .before in
     let at-loop = after-run-form .before .before .before .before .before in
     after-run-form .run-form .kept .1 .1 .1 .1 .0 ∙ at-loop .loop .inv .same-results
 
 run-pack-returns : (t : ℕ) → run-pack-lts.Need-returns (run-pack-claims t) (run-pack-at t) run-pack.Post run-pack-Inv-loop run-pack-μ-loop
 run-pack-returns t c =
-    let after-run-form = c .before .before .before .before .before .before in
+    let after-run-form = c .before .before .before .before .before .before .before in
     let in-loop = after-run-form .before .before .before .before in
     let after-size = in-loop .before .before .before .before .before .before in
     let at-start = after-size .before .before .before .before .before .before in
     pack.part-refused (at-start .pre .1) (in-loop .before .loop .inv) (in-loop .loop-test .taken) (after-run-form .before .before .before .name .ensures)
-    (after-run-form .run-form .ensures) (c .enum-told .given .1)
+    (after-run-form .run-form .ensures) (sym (c .before .before .opened .ensures) ∙ c .enum-told .given .1)
 
 run-pack-add-row-2 : (t : ℕ) → run-pack-lts.Need-add-row-2 (run-pack-claims t) (run-pack-at t) run-pack.Post run-pack-Inv-loop run-pack-μ-loop
 run-pack-add-row-2 t c =
-    let after-results = c .before .before .before .before .before in
+    let after-results = c .before .before .before .before .before .before in
     let in-loop = after-results .before .before .before .before .before .before .before in
     let after-size = in-loop .before .before .before .before .before .before in
     let at-start = after-size .before .before .before .before .before .before in
@@ -673,7 +720,7 @@ run-pack-add-row-2 t c =
 
 run-pack-loop-less : (t : ℕ) → run-pack-lts.Need-loop-less (run-pack-claims t) (run-pack-at t) run-pack.Post run-pack-Inv-loop run-pack-μ-loop
 run-pack-loop-less t c =
-    let after-results = c .before .before .before .before .before in
+    let after-results = c .before .before .before .before .before .before in
     let in-loop = after-results .before .before .before .before .before .before .before in
     let after-size = in-loop .before .before .before .before .before .before in
     let at-start = after-size .before .before .before .before .before .before in
@@ -681,12 +728,13 @@ run-pack-loop-less t c =
 
 run-pack-loop-again : (t : ℕ) → run-pack-lts.Need-loop-again (run-pack-claims t) (run-pack-at t) run-pack.Post run-pack-Inv-loop run-pack-μ-loop
 run-pack-loop-again t c =
-    let after-run-form = c .before .before .before .before .before .before .before .before in
+    let after-opened = c .before .before .before .before in
+    let after-run-form = after-opened .before .before .before .before .before in
     let in-loop = after-run-form .before .before .before .before in
     let after-size = in-loop .before .before .before .before .before .before in
     let at-start = after-size .before .before .before .before .before .before in
     pack.part-done (at-start .pre .1) (in-loop .before .loop .inv) (in-loop .loop-test .taken) (after-run-form .before .before .before .name .ensures)
-    (after-run-form .run-form .ensures) (c .before .before .r .given .1) (after-run-form .run-form .kept .1 .1 .1 .0)
+    (after-run-form .run-form .ensures) (sym (after-opened .opened .ensures) ∙ c .before .before .to .given .1) (after-run-form .run-form .kept .1 .1 .1 .0)
     (after-run-form .run-form .kept .1 .1 .1 .1 .0) (c .size2 .ensures)
 
 run-pack-close-record-requires
@@ -696,22 +744,31 @@ run-pack-close-record-requires t c κs =
     let at-start = after-size .before .before .before .before .before .before in
     pack.closable (at-start .pre .1) (c .before .before .loop .inv) (c .before .loop-test .left)
 
+run-pack-done-requires : (t : ℕ) → run-pack-lts.Need-done-requires (run-pack-claims t) (run-pack-at t) run-pack.Post run-pack-Inv-loop run-pack-μ-loop
+run-pack-done-requires t c κs =
+    let at-loop = c .before .before .before .before .before in
+    let after-size = at-loop .before .before .before .before .before in
+    let at-start = after-size .before .before .before .before .before .before in
+    let most = pack.loop-bounds (at-start .pre .1) (at-loop .loop .inv) in
+    (omega arith, omega (arith, most .1), omega (arith, most .0))
+
 run-pack-same-length-3 : (t : ℕ) → run-pack-lts.Need-same-length-3 (run-pack-claims t) (run-pack-at t) run-pack.Post run-pack-Inv-loop run-pack-μ-loop
 run-pack-same-length-3 t c =
-    let at-loop = c .before .before .before .before .before in
+    let at-loop = c .before .before .before .before .before .before in
     at-loop .loop .inv .same-bindings
 
 run-pack-same-length-4 : (t : ℕ) → run-pack-lts.Need-same-length-4 (run-pack-claims t) (run-pack-at t) run-pack.Post run-pack-Inv-loop run-pack-μ-loop
 run-pack-same-length-4 t c =
-    let at-loop = c .before .before .before .before .before in
-    c .before .before .close-record .kept .0 ∙ at-loop .loop .inv .same-results
+    let at-loop = c .before .before .before .before .before .before in
+    c .before .before .before .close-record .kept .0 ∙ at-loop .loop .inv .same-results
 
 run-pack-returns-2 : (t : ℕ) → run-pack-lts.Need-returns-2 (run-pack-claims t) (run-pack-at t) run-pack.Post run-pack-Inv-loop run-pack-μ-loop
 run-pack-returns-2 t c =
-    let after-loop = c .before .before .before .before in
+    let after-loop = c .before .before .before .before .before in
     let after-size = after-loop .before .before .before .before .before .before in
     let at-start = after-size .before .before .before .before .before .before in
-    pack.pack-ends (at-start .pre .1) (after-loop .before .loop .inv) (after-loop .loop-test .left) (c .before .before .close-record .ensures)
+    subst (Runs _ _ _ _ _ _ _ _ _) (sym (c .done .ensures))
+    (pack.pack-ends (at-start .pre .1) (after-loop .before .loop .inv) (after-loop .loop-test .left) (c .before .before .before .close-record .ensures))
 
 run-when-mul-bindings : (t : ℕ) → run-when-lts.Need-mul-bindings (run-when-claims t) (run-when-at t) run-when.Post
 run-when-mul-bindings t c =
@@ -831,18 +888,8 @@ run-when-returns-2 t c =
 
 pub +run-each+run-form+run-if+run-on+run-pack+run-when-spec : {M : Type 1} → statement M
 +run-each+run-form+run-if+run-on+run-pack+run-when-spec =
-    close μ-run-each μ-run-form μ-run-if μ-run-on μ-run-pack μ-run-when (λ t. run-each-lts.spec (
-      size-reads.Asked,
-      size-reads.Learnt,
-      items-end-reads.Asked,
-      items-end-reads.Learnt,
-      run-form-below t,
-      run-form.Post,
-      row-size-reads.Asked,
-      row-size-reads.Learnt,
-      close-list-reads.Asked,
-      close-list-reads.Learnt,
-    )
+    close μ-run-each μ-run-form μ-run-if μ-run-on μ-run-pack μ-run-when
+    (λ t. run-each-lts.spec (run-each-claims t)
     (run-each-at t)
     run-each.Post
     run-each-Inv-loop
@@ -858,7 +905,7 @@ pub +run-each+run-form+run-if+run-on+run-pack+run-when-spec : {M : Type 1} → s
     (run-each-slice-write-bindings t)
     (run-each-add-i-2 t)
     (run-each-run-form-requires t)
-    (λ c. search needs) (λ c. search needs)
+    (λ c κs. search needs) (λ c. search needs) (λ c. search needs)
     (run-each-same-length t)
     (run-each-same-length-2 t)
     (run-each-returns t)
@@ -867,28 +914,14 @@ pub +run-each+run-form+run-if+run-on+run-pack+run-when-spec : {M : Type 1} → s
     (run-each-loop-less t)
     (run-each-loop-again t)
     (run-each-close-list-requires t)
+    (run-each-done-requires t)
     (run-each-same-length-3 t)
     (run-each-same-length-4 t)
     (run-each-returns-2 t))
-    (λ t. run-form-lts.spec (
-      place-reads.Asked,
-      place-reads.Learnt,
-      code-reads.Asked,
-      code-reads.Learnt,
-      run-pack-below t,
-      run-pack.Post,
-      run-if-below t,
-      run-if.Post,
-      give-literal-reads.Asked,
-      give-literal-reads.Learnt,
-      run-operand-reads.Asked,
-      run-operand-reads.Learnt,
-      run-on-below t,
-      run-on.Post,
-    )
+    (λ t. run-form-lts.spec (run-form-claims t)
     (run-form-at t)
     run-form.Post
-    (λ c κs. search needs)
+    (λ c κs. search needs) (λ c κs. search needs)
     (run-form-returns t)
     (λ c κs. search needs)
     (run-form-run-pack-requires t)
@@ -902,28 +935,18 @@ pub +run-each+run-form+run-if+run-on+run-pack+run-when-spec : {M : Type 1} → s
     (run-form-returns-4 t)
     (run-form-add-run-operand t)
     (run-form-run-operand-requires t)
-    (λ c. search needs)
-    (run-form-run-on-requires t)
-    (λ c. search needs) (λ c. search needs) (λ c. search needs)
+    (λ c κs. search needs) (λ c. search needs) (λ c. search needs) (λ c. search needs)
     (run-form-returns-5 t)
-    (λ c. search needs)
+    (run-form-run-on-requires t)
+    (λ c. search needs) (λ c. search needs)
     (run-form-returns-6 t))
-    (λ t. run-if-lts.spec (
-      run-form-below t,
-      run-form.Post,
-      size-reads.Asked,
-      size-reads.Learnt,
-      branch-reads.Asked,
-      branch-reads.Learnt,
-      place-reads.Asked,
-      place-reads.Learnt,
-    )
+    (λ t. run-if-lts.spec (run-if-claims t)
     (run-if-at t)
     run-if.Post
     (run-if-add-first t)
     (run-if-add-t18 t)
     (run-if-run-form-requires t)
-    (λ c. search needs) (λ c. search needs) (λ c. search needs) (λ c. search needs)
+    (λ c κs. search needs) (λ c. search needs) (λ c. search needs) (λ c. search needs) (λ c. search needs)
     (run-if-returns t)
     (λ c κs. search needs)
     (run-if-add-second t)
@@ -937,20 +960,9 @@ pub +run-each+run-form+run-if+run-on+run-pack+run-when-spec : {M : Type 1} → s
     (run-if-run-form-requires-3 t)
     (λ c. search needs) (λ c. search needs)
     (run-if-returns-3 t)
-    (λ c κs. search needs) (λ c. search needs) (λ c. search needs)
+    (λ c κs. search needs) (λ c κs. search needs) (λ c. search needs) (λ c. search needs)
     (run-if-returns-4 t))
-    (λ t. run-on-lts.spec (
-      code-reads.Asked,
-      code-reads.Learnt,
-      run-when-below t,
-      run-when.Post,
-      run-each-below t,
-      run-each.Post,
-      give-count-reads.Asked,
-      give-count-reads.Learnt,
-      give-value-reads.Asked,
-      give-value-reads.Learnt,
-    )
+    (λ t. run-on-lts.spec (run-on-claims t)
     (run-on-at t)
     run-on.Post
     (λ c κs. search needs)
@@ -966,16 +978,7 @@ pub +run-each+run-form+run-if+run-on+run-pack+run-when-spec : {M : Type 1} → s
     (run-on-give-value-requires t)
     (λ c. search needs)
     (run-on-returns-4 t))
-    (λ t. run-pack-lts.spec (
-      size-reads.Asked,
-      size-reads.Learnt,
-      name-reads.Asked,
-      name-reads.Learnt,
-      run-form-below t,
-      run-form.Post,
-      close-record-reads.Asked,
-      close-record-reads.Learnt,
-    )
+    (λ t. run-pack-lts.spec (run-pack-claims t)
     (run-pack-at t)
     run-pack.Post
     run-pack-Inv-loop
@@ -988,7 +991,7 @@ pub +run-each+run-form+run-if+run-on+run-pack+run-when-spec : {M : Type 1} → s
     (run-pack-loop-holds t)
     (λ c κs. search needs)
     (run-pack-run-form-requires t)
-    (λ c. search needs) (λ c. search needs)
+    (λ c κs. search needs) (λ c. search needs) (λ c. search needs)
     (run-pack-same-length t)
     (run-pack-same-length-2 t)
     (run-pack-returns t)
@@ -997,21 +1000,11 @@ pub +run-each+run-form+run-if+run-on+run-pack+run-when-spec : {M : Type 1} → s
     (run-pack-loop-less t)
     (run-pack-loop-again t)
     (run-pack-close-record-requires t)
+    (run-pack-done-requires t)
     (run-pack-same-length-3 t)
     (run-pack-same-length-4 t)
     (run-pack-returns-2 t))
-    λ t. run-when-lts.spec (
-      size-reads.Asked,
-      size-reads.Learnt,
-      operand-reads.Asked,
-      operand-reads.Learnt,
-      is-kind-reads.Asked,
-      is-kind-reads.Learnt,
-      branch-reads.Asked,
-      branch-reads.Learnt,
-      run-form-below t,
-      run-form.Post,
-    )
+    λ t. run-when-lts.spec (run-when-claims t)
     (run-when-at t)
     run-when.Post
     (run-when-mul-bindings t)
