@@ -2,18 +2,18 @@
 use Prim.Native.Nat.{ℕ, suc, _+_, _-_, _≤_, _<_}
 use mathlib.Core.Path.{_≡_, sym, ap, _∙_}
 use mathlib.Core.Logic.{_⊎_, inl, inr}
-use mathlib.Core.Bool.{true, false}
+use mathlib.Core.Bool.{false}
 use mathlib.Core.List.{[], _∷_, reverseAux, reverseAux-append}
 use mathlib.Core.Option.{none, some}
 use lib.ListN.{length, take, drop, getD}
 use native.Mathlib.Omega.{arith}
 use Rattle.definitions.specs.Bytes.{Bytes, between, look}
 use Rattle.definitions.specs.Utf8.{tails, head-table}
-use Rattle.definitions.specs.Text.{Inside, head-step, char-step, behind-tail, text-step}
+use Rattle.definitions.specs.Text.{Inside, more, head-step, char-step, behind-tail, text-step}
 use Rattle.definitions.specs.Plain.{escaped-all}
 use Rattle.laws.specs.Rfc3629.{In}
 use Rattle.laws.specs.Ranges.{look-hit, in-between, out-between, between-out, ne-is}
-use Rattle.laws.specs.StringRows.{Heads, head-c2, head-e0, head-e1, head-ed, head-ee, head-f0, head-f1, head-f4, hit-heads, heads-above}
+use Rattle.laws.specs.StringRows.{Heads, head-c2, head-e0, head-e1, head-ed, head-ee, head-f0, head-f1, head-f4, hit-heads, heads-look, heads-above}
 use Rattle.text.specs.TextRun.{text-run}
 use Rattle.text.specs.TextParts.{Breaks, Wide-read, Reads-wide}
 use Rattle.text.specs.declared.wide.Wide.{Wide}
@@ -23,6 +23,10 @@ use Rattle.text.proofs.Places.{getD-within, byte-within, more-at, wrong
 use Rattle.text.proofs.Escaped.{escaped-none, one-high, itself-snoc, itself-cons}
 
 -- ---- tails
+
+pub step-tail : (lo hi n : ℕ) (acc : Bytes) {b : ℕ} → In lo hi b → text-step (Inside.tail lo hi n) acc b ≡ more (behind-tail n) (b ∷ acc)
+unfolding text-step
+step-tail lo hi n acc i = let t = in-between i in rw (t, text-step)
 
 -- the bytes from place at up to place i are read, and so many are left behind the next
 pub record Tails-so-far (doc : Bytes) (s : Inside) (at i lo hi left : ℕ) : Type 0 where
@@ -77,13 +81,12 @@ module _ (doc : Bytes) (s : Inside) (at i lo hi left b : ℕ) (h : Tails-so-far 
         : (acc : Bytes)
         → text-run s acc (drop at doc)
         ≡ text-run (behind-tail left) (reverseAux (take (i + 1 - at) (drop at doc)) acc) (drop (i + 1) doc)
-    unfolding text-step
     tail-run acc =
         let k = h .from in
-        let t : between lo hi (getD doc i 256) ≡ true = in-between (record { from = omega arith; to = omega arith }) in
         let w = tail-within in
         h .run acc
-        ∙ more-at (Inside.tail lo hi left) (reverseAux (take (i - at) (drop at doc)) acc) doc i w (rw (t, text-step))
+        ∙ more-at (Inside.tail lo hi left) (reverseAux (take (i - at) (drop at doc)) acc) doc i w
+        (step-tail lo hi left (reverseAux (take (i - at) (drop at doc)) acc) (record { from = omega arith; to = omega arith }))
         ∙ ap (λ (a : Bytes). text-run (behind-tail left) a (drop (i + 1) doc))
         (sym (reverseAux-append (take (i - at) (drop at doc)) (getD doc i 256 ∷ []) acc)
         ∙ ap (λ (u : Bytes). reverseAux u acc) (sym (part-snoc doc at i k w)))
@@ -158,6 +161,11 @@ step-head acc b o = let q = ne-is "\"" (off 0x22 (omega arith) (omega arith)) in
     off : (k : ℕ) → 0x20 ≤ k → k ≤ 0x7F → b ≡ k → ⊥
     off k l m e = between-out o (record { from = omega arith; to = omega arith })
 
+pub step-first : {b lo hi n : ℕ} (acc : Bytes) → Heads b lo hi n → text-step Inside.chars acc b ≡ more (Inside.tail lo hi n) (b ∷ acc)
+unfolding head-step
+step-first {b} acc h =
+    let e = heads-look h in step-head acc b (out-between (λ i. omega (arith, heads-above h))) ∙ rw (e, head-step)
+
 module _ (doc : Bytes) (at : ℕ) (l : at < length doc) (o : between 0x20 0x7F (getD doc at 0) ≡ false) where
   outside : between 0x20 0x7F (getD doc at 256) ≡ false
   outside = ap (between 0x20 0x7F) (getD-within doc at 256 0 l) ∙ o
@@ -175,8 +183,7 @@ module _ (doc : Bytes) (at : ℕ) (l : at < length doc) (o : between 0x20 0x7F (
     head-run
         : (acc : Bytes)
         → text-run Inside.chars acc (drop at doc) ≡ text-run (Inside.tail lo hi n) (getD doc at 256 ∷ acc) (drop (at + 1) doc)
-    unfolding head-step
-    head-run acc = more-at Inside.chars acc doc at l (step-head acc (getD doc at 256) outside ∙ rw (e, head-step))
+    head-run acc = more-at Inside.chars acc doc at l (step-first acc (heads-of e))
 
     pub head-wide : (r : Wide) → Reads-wide doc (Inside.tail lo hi n) (at + 1) r → Reads-wide doc Inside.chars at r
     head-wide (Cut place) b =

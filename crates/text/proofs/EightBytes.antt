@@ -1,75 +1,44 @@
--- Plain ASCII bytes put eight at a time, from a border on or behind any text, and how reading goes over them. Assumes nothing.
-use Prim.Native.Nat.{ℕ, zero, suc, _+_, _-_, _/_, _%_, _≤_, _<_}
+-- Bytes that stand for themselves put eight at a time, from a border on or behind any text, and how reading goes over them. Assumes nothing.
+use Prim.Native.Nat.{ℕ, _+_, _-_, _/_, _%_, _≤_, _<_}
 use mathlib.Core.Path.{_≡_, sym, ap, _∙_, subst}
-use mathlib.Core.Bool.{true}
-use mathlib.Core.List.{List, _∷_, _++_, reverseAux}
+use mathlib.Core.List.{List, _++_, reverseAux}
 use native.Mathlib.Nat.{add-assoc}
-use native.Mathlib.Decide.{decLt}
 use native.Mathlib.Omega.{arith}
-use lib.ListN.{length, take, drop, getD, set, replicate, length-drop}
+use lib.ListN.{length, take, drop, set, replicate, length-drop}
 use lib.Seq.{take-add, drop-drop, length-take-le}
 use Rattle.definitions.specs.Bytes.{Bytes}
 use Rattle.definitions.specs.Text.{Inside}
-use Rattle.definitions.specs.Plain.{escaped-all}
 use Rattle.pool.specs.Pool.{unpacked, words}
-use Rattle.pool.specs.LaneLaws.{part}
 use Rattle.pool.specs.PoolLaws.{words-mono}
 use Rattle.text.specs.TextRun.{text-run}
 use Rattle.text.specs.TextRead.{Reads-text}
-use Rattle.text.specs.TextParts.{plain-ascii, Stand, Keeps, Puts, Read-on, Piece-read, Stood, Reading}
+use Rattle.text.specs.TextParts.{Stands, Front-stands, Keeps, Puts, Read-on, Piece-read, Stood, Reading}
 use Rattle.text.specs.declared.TextRead.{TextRead}
-use Rattle.text.proofs.Tables.{plain-ascii-itself}
-use Rattle.text.proofs.Escaped.{escaped-none, one-plain, itself-cons}
 use Rattle.text.proofs.Places.{part-none}
 use Rattle.text.proofs.Puts.{keeps-none, puts-none, puts-then, puts-same}
-use Rattle.text.proofs.Reading.{itself-run, read-on, reading-start, reading-next}
-use Rattle.text.proofs.Odd.{Word-stands, word-stand}
-use Rattle.text.proofs.PutWords.{puts-word, front-size, front-whole, front-part}
+use Rattle.text.proofs.Reading.{read-on, piece-read, reading-start, reading-next}
+use Rattle.text.proofs.Stands.{stands-none, stands-append, stands-run, front-there}
+use Rattle.text.proofs.PutWords.{puts-word, front-size, same-front, front-whole, front-part}
 
--- ---- a run of plain bytes
+-- ---- a run of bytes that stand for themselves
 
 module _ (doc : Bytes) where
-  stand-later : (i k : ℕ) → Stand doc i (suc k) → Stand doc (i + 1) k
-  stand-later i k t j h = subst (λ (x : ℕ). plain-ascii (getD doc x 0) ≡ true) (omega arith) (t (suc j) (omega arith))
-
-  stand-first : (i k : ℕ) → Stand doc i (suc k) → plain-ascii (getD doc i 0) ≡ true
-  stand-first i k t = subst (λ (x : ℕ). plain-ascii (getD doc x 0) ≡ true) (omega arith) (t 0 (omega arith))
-
-  stand-run
-      : (k i : ℕ) → Stand doc i k → i + k ≤ length doc → (acc : Bytes)
-      → text-run Inside.chars acc (drop i doc) ≡ text-run Inside.chars (reverseAux (take k (drop i doc)) acc) (drop (i + k) doc)
-  stand-run zero i t h acc = ap (λ (x : ℕ). text-run Inside.chars acc (drop x doc)) (let e : i ≡ i + 0 = omega arith in e)
-  stand-run (suc k) i t h acc =
-      itself-run doc i (omega arith) (stand-first i k t) acc
-      ∙ stand-run k (i + 1) (stand-later i k t) (omega arith) (getD doc i 0 ∷ acc)
-      ∙ ap (λ (x : ℕ). text-run Inside.chars (reverseAux (getD doc i 0 ∷ take k (drop (i + 1) doc)) acc) (drop x doc))
-      (let e : i + 1 + k ≡ i + suc k = omega arith in e)
-      ∙ ap (λ (s : Bytes). text-run Inside.chars (reverseAux s acc) (drop (i + suc k) doc)) (sym (part doc i k (omega arith)))
-
-  stand-cost : (k i : ℕ) → Stand doc i k → i + k ≤ length doc → length (escaped-all (take k (drop i doc))) ≡ k
-  stand-cost zero i t h = ap length escaped-none
-  stand-cost (suc k) i t h =
-      ap (λ (s : Bytes). length (escaped-all s)) (part doc i k (omega arith))
-      ∙ itself-cons (take k (drop (i + 1) doc)) (getD doc i 0) k (stand-cost k (i + 1) (stand-later i k t) (omega arith))
-      (let s = plain-ascii-itself (getD doc i 0) (stand-first i k t) in one-plain (getD doc i 0) (s .from) (s .no-quote) (s .no-backslash))
-      ∙ omega arith
-
   pub stood-start : (i : ℕ) (p : List ℕ) (w n : ℕ) → i ≤ length doc → Stood doc i p p w n i
   stood-start i p w n h =
       record {
-        stand = λ j l. absurd (let z : ⊥ = omega arith in z);
+        stands = subst Stands (part-none doc i) stands-none;
         puts = puts-same (puts-none p w n) (part-none doc i);
         ahead = omega arith;
         within = h;
       }
 
-  pub stood-next
-      : {i : ℕ} {p₀ p p′ : List ℕ} {w n j : ℕ} (m : ℕ) → Stood doc i p₀ p w n j → Stand doc j m → j + m ≤ length doc
+  stood-next
+      : {i : ℕ} {p₀ p p′ : List ℕ} {w n j : ℕ} (m : ℕ) → Stood doc i p₀ p w n j → Stands (take m (drop j doc)) → j + m ≤ length doc
       → Puts p p′ w (n + (j - i)) (take m (drop j doc))
       → Stood doc i p₀ p′ w n (j + m)
   stood-next {i} {p₀} {p} {p′} {w} {n} {j} m h t b k =
       record {
-        stand = λ l q. stands l q (decLt l (j - i));
+        stands = subst Stands joined (stands-append (h .stands) t);
         puts = puts-same (puts-then (h .puts) (ap (λ (x : ℕ). n + x) (sym size)) k) joined;
         ahead = omega (arith, h .ahead);
         within = b;
@@ -78,12 +47,6 @@ module _ (doc : Bytes) where
       size : length (take (j - i) (drop i doc)) ≡ j - i
       size = length-take-le (j - i) (drop i doc) (omega (arith, length-drop i doc, h .ahead, h .within))
 
-      stands : (l : ℕ) → l < j + m - i → Dec (l < j - i) → plain-ascii (getD doc (i + l) 0) ≡ true
-      stands l q (yes a) = h .stand l a
-      stands l q (no a) =
-          subst (λ (x : ℕ). plain-ascii (getD doc x 0) ≡ true) (let e : j + (l - (j - i)) ≡ i + l = omega (arith, h .ahead) in e)
-          (t (l - (j - i)) (omega (arith, h .ahead)))
-
       joined : take (j - i) (drop i doc) ++ take m (drop j doc) ≡ take (j + m - i) (drop i doc)
       joined =
           ap (λ (x : ℕ). take (j - i) (drop i doc) ++ take m (drop x doc)) (let e : j ≡ i + (j - i) = omega (arith, h .ahead) in e)
@@ -91,19 +54,40 @@ module _ (doc : Bytes) where
           ∙ sym (take-add (j - i) m (drop i doc))
           ∙ ap (λ (x : ℕ). take x (drop i doc)) (let e : j - i + m ≡ j + m - i = omega (arith, h .ahead) in e)
 
+  -- the first m bytes of a word, put as those of another that has zeros behind them
+  pub stood-word
+      : {i : ℕ} {p₀ p p′ : List ℕ} {w n j : ℕ} (x y m : ℕ) → Stood doc i p₀ p w n j → unpacked x ≡ take 8 (drop j doc) → j + 8 ≤ length doc
+      → Front-stands x m → unpacked y ≡ take m (unpacked x) ++ replicate (8 - m) 0 → Puts p p′ w (n + (j - i)) (take m (unpacked y))
+      → Stood doc i p₀ p′ w n (j + m)
+  stood-word {j = j} x y m h e b f g k =
+      let l = f .within in
+      stood-next m h (front-there doc j e f) (omega arith) (puts-same k (same-front x y m l g ∙ front-part x m doc j l e))
+
   pub stood-read
       : {i : ℕ} {p p′ : List ℕ} {w n next : ℕ} → Stood doc i p p′ w n next → Read-on doc i p p′ w n next (n + (next - i)) (next - i)
   stood-read {i} {p} {p′} {w} {n} {next} h =
       read-on doc i p p′ w n next (n + (next - i)) (next - i) (take (next - i) (drop i doc)) (h .puts)
       (λ acc.
-      stand-run (next - i) i (h .stand) (omega (arith, h .ahead, h .within)) acc
+      stands-run doc i (next - i) (h .stands) acc
       ∙ ap (λ (x : ℕ). text-run Inside.chars (reverseAux (take (next - i) (drop i doc)) acc) (drop x doc))
       (let e : i + (next - i) ≡ next = omega (arith, h .ahead) in e))
-      (ap (λ (x : ℕ). n + x) (sym size)) (stand-cost (next - i) i (h .stand) (omega (arith, h .ahead, h .within)))
+      (ap (λ (x : ℕ). n + x) (sym size)) (h .stands .itself ∙ size)
       (h .within) (omega (arith, size, h .ahead)) (omega (arith, h .ahead))
     where
       size : length (take (next - i) (drop i doc)) ≡ next - i
       size = length-take-le (next - i) (drop i doc) (omega (arith, length-drop i doc, h .ahead, h .within))
+
+  -- such a word by itself
+  pub piece-word
+      : {i : ℕ} {p p′ : List ℕ} {w n : ℕ} (x y m : ℕ) → unpacked x ≡ take 8 (drop i doc) → i + 8 ≤ length doc → Front-stands x m → (m ≡ 0 → ⊥)
+      → unpacked y ≡ take m (unpacked x) ++ replicate (8 - m) 0 → Puts p p′ w n (take m (unpacked y))
+      → Piece-read doc i p p′ w n (i + m) (n + m) m
+  piece-word {i} {p} {p′} {w} {n} x y m e b f z g k =
+      let l = f .within in
+      let s = front-there doc i e f in
+      let size : length (take m (drop i doc)) ≡ m = length-take-le m (drop i doc) (omega (arith, length-drop i doc)) in
+      piece-read doc i p p′ w n (i + m) (n + m) m (take m (drop i doc)) (puts-same k (same-front x y m l g ∙ front-part x m doc i l e))
+      (stands-run doc i m s) (omega arith) (s .itself ∙ size) (omega arith) (omega arith) (omega arith) (omega arith)
 
   -- room for eight bytes more
   pub stood-room
@@ -132,11 +116,11 @@ module _ (doc : Bytes) (at : ℕ) (p₀ : List ℕ) (w : ℕ) where
 
     -- the first m bytes of the next word put
     pub by-words-last
-        : (x y m : ℕ) → unpacked x ≡ take 8 (drop i doc) → Word-stands x m → unpacked y ≡ take m (unpacked x) ++ replicate (8 - m) 0
+        : (x y m : ℕ) → unpacked x ≡ take 8 (drop i doc) → Front-stands x m → unpacked y ≡ take m (unpacked x) ++ replicate (8 - m) 0
         → Stood doc at p₀ (set p k y) w 0 (i + m)
     by-words-last x y m e s f =
         let hm = s .within in
-        stood-next doc m (h .stood) (word-stand doc i e s) (omega arith)
+        stood-next doc m (h .stood) (front-there doc i e s) (omega arith)
         (subst (λ (j : ℕ). Puts p (set p k y) w j (take m (drop i doc))) (let q : i - at ≡ 0 + (i - at) = omega arith in q)
         (subst (λ (j : ℕ). Puts p (set p j y) w (i - at) (take m (drop i doc))) (sym (h .word))
         (puts-word p w (i - at) y m (take m (drop i doc)) (h .border) (omega (arith, by-words-room, h .word)) hm
@@ -144,7 +128,7 @@ module _ (doc : Bytes) (at : ℕ) (p₀ : List ℕ) (w : ℕ) where
         (f ∙ ap (λ (t : Bytes). t ++ replicate (8 - m) 0) (front-part x m doc i hm e)))))
 
     pub by-words-next
-        : (x : ℕ) → unpacked x ≡ take 8 (drop i doc) → Word-stands x 8 → By-words doc at p₀ w (set p k x) (i + 8) (k + 1)
+        : (x : ℕ) → unpacked x ≡ take 8 (drop i doc) → Front-stands x 8 → By-words doc at p₀ w (set p k x) (i + 8) (k + 1)
     by-words-next x e s =
         record {
           stood = by-words-last x x 8 e s (front-whole x);
@@ -170,18 +154,23 @@ pub reading-run
 reading-run {doc} {at} {p₀} {p} {p′} {p″} {w} {i} {n} {m} {next} {k} {cost} {j} h r s =
     subst (λ (x : ℕ). Reading doc at p₀ w j (k + (j - next)) x p″) (add-assoc m cost (j - next)) (reading-next (reading-next h (r .read)) (stood-read doc s))
 
--- from where it is read so far
-pub reading-here : {doc : Bytes} {at : ℕ} {p₀ p : List ℕ} {w i n m : ℕ} → Reading doc at p₀ w i n m p → Reading doc at p w i n m p
-reading-here {p = p} {w = w} h =
-    record {
-      run = h .run;
-      written = h .written;
-      shorter = h .shorter;
-      bounded = h .bounded;
-      within = h .within;
-      padded = h .padded;
-      keeps = keeps-none p w;
-    }
+-- what reading on from there asks
+pub reading-rest
+    : {doc : Bytes} {at : ℕ} {p p′ : List ℕ} {w i : ℕ} → Stood doc at p p′ w 0 i → w + words (length doc - at) ≤ length p
+    → Reading doc at p′ w i (i - at) (i - at + 2) p′ × (w + words (length doc - at) ≤ length p′)
+reading-rest {p′ = p′} {w = w} s room =
+    let h = reading-standing s in (
+      record {
+        run = h .run;
+        written = h .written;
+        shorter = h .shorter;
+        bounded = h .bounded;
+        within = h .within;
+        padded = h .padded;
+        keeps = keeps-none p′ w;
+      },
+      omega (arith, s .puts .keeps .kept),
+    )
 
 pub reads-behind
     : {doc : Bytes} {at : ℕ} {p p′ p″ : List ℕ} {w : ℕ} {r : TextRead} → Keeps p p′ w → Reads-text doc at p′ p″ w r → Reads-text doc at p p″ w r

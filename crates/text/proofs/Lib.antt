@@ -6,6 +6,7 @@ pub mod Escaped
 pub mod Characters
 pub mod Puts
 pub mod Reading
+pub mod Stands
 pub mod Odd
 pub mod PutWords
 pub mod EightBytes

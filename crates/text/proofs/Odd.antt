@@ -1,17 +1,15 @@
 -- The marks of the bytes that are not plain ASCII: byte by byte, and the rule of a byte by computing all of them. Assumes nothing.
-use Prim.Native.Nat.{ℕ, _+_, _-_, _/_, _^_, _≤_, _<_}
+use Prim.Native.Nat.{ℕ, _+_, _-_, _/_, _^_, _<_}
 use mathlib.Core.Path.{_≡_, refl, sym, ap, ap₂, _∙_, subst}
-use mathlib.Core.Bool.{true}
 use native.Mathlib.Omega.{arith}
 use lib.Bits.{bitAnd, bitOr, bitXor, mask-lt, xor-lt, and-lt}
 use lib.Count.{leadingZeros}
-use lib.ListN.{take, drop}
-use Rattle.definitions.specs.Bytes.{Bytes, between}
-use Rattle.pool.specs.Pool.{unpacked}
+use Rattle.definitions.specs.Bytes.{between}
 use Rattle.pool.specs.Lanes.{lane, every, mark, Marks, agree}
-use Rattle.pool.specs.LaneLaws.{lane-lt, lane-at, lane-and, lane-or, lane-not, lane-and-every, lane-xor-every, lane-add-every, add-every-fits}
+use Rattle.pool.specs.LaneLaws.{lane-lt, lane-and, lane-or, lane-not, lane-and-every, lane-xor-every, lane-add-every, add-every-fits}
 use Rattle.pool.specs.LaneLaws.{none-marked, first-marked, byte-rule}
-use Rattle.text.specs.TextParts.{plain-ascii, Stand}
+use Rattle.text.specs.TextParts.{plain-ascii, Front-stands}
+use Rattle.text.proofs.Stands.{front-plain}
 
 -- ---- a byte
 
@@ -98,22 +96,12 @@ module _ (x : ℕ) (hx : x < 2 ^ 64) where
 
 -- ---- the bytes before the first mark
 
--- the first m bytes of a word are plain ASCII
-pub record Word-stands (x m : ℕ) : Type 0 where
-  pub within : m ≤ 8
-  pub each : (j : ℕ) → j < m → plain-ascii (lane x j) ≡ true
-
-pub all-stand : {x y : ℕ} → Marks plain-ascii x y → y ≡ 0 → Word-stands x 8
-all-stand m e = record { within = omega arith; each = none-marked m e }
+pub all-stand : {x y : ℕ} → Marks plain-ascii x y → y ≡ 0 → Front-stands x 8
+all-stand {x} m e = front-plain x 8 (omega arith) (none-marked m e)
 
 pub front-stands
     : {x y r : ℕ} → Marks plain-ascii x y → y < 2 ^ 64 → (y ≡ 0 → ⊥) → r ≡ leadingZeros 64 y / 8
-    → Word-stands x r
-front-stands {x} m h z e =
+    → Front-stands x r
+front-stands {x} {y} m h z e =
     let f = first-marked m h (omega arith) in
-    subst (Word-stands x) (sym e) (record { within = omega (arith, f .within); each = f .before })
-
--- of a word that stands in a document
-pub word-stand : {x m : ℕ} (doc : Bytes) (i : ℕ) → unpacked x ≡ take 8 (drop i doc) → Word-stands x m → Stand doc i m
-word-stand {x} {m} doc i e s j h =
-    ap plain-ascii (sym (lane-at x doc i j e (omega (arith, s .within)))) ∙ s .each j h
+    subst (Front-stands x) (sym e) (front-plain x (leadingZeros 64 y / 8) (omega (arith, f .within)) (f .before))

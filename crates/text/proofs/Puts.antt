@@ -1,14 +1,14 @@
 -- Bytes put into the pool behind a text: one, none, one run after another. Assumes nothing.
 use Prim.Native.Nat.{ℕ, _+_, _-_, _*_, _/_, _%_, _≤_, _<_}
-use mathlib.Core.Path.{_≡_, refl, sym, ap, _∙_, subst}
+use mathlib.Core.Path.{_≡_, refl, sym, ap, ap₂, _∙_, subst}
 use mathlib.Core.List.{List, [], _∷_, _++_, append-assoc, append-nil}
 use lib.ListN.{length, take, drop, getD, replicate, length-append, length-drop}
-use lib.Seq.{length-take-le}
+use lib.Seq.{length-take-le, take-take, take-add, drop-drop}
 use native.Mathlib.Nat.{add-zero}
 use native.Mathlib.Omega.{arith}
 use Rattle.definitions.specs.Bytes.{Bytes}
-use Rattle.pool.specs.Pool.{words, text-in, Put}
-use Rattle.pool.specs.PoolLaws.{words-next, words-mono, words-room, words-bytes, text-in-put, text-in-put-padded, put-take}
+use Rattle.pool.specs.Pool.{words, pool-bytes, text-in, Put}
+use Rattle.pool.specs.PoolLaws.{words-next, words-mono, words-room, words-bytes, text-in-front, text-in-zero, text-in-put, text-in-put-padded, put-take}
 use Rattle.text.specs.TextRead.{Padded}
 use Rattle.text.specs.TextParts.{Keeps, Puts}
 use Rattle.text.proofs.Places.{getD-within, part-none, part-snoc}
@@ -67,6 +67,52 @@ puts-then {p} {p′} {p″} {w} {n} {m} {s} {t} h e k =
 
 pub puts-same : {p p′ : List ℕ} {w n : ℕ} {s t : Bytes} → Puts p p′ w n s → s ≡ t → Puts p p′ w n t
 puts-same {p} {p′} {w} {n} h e = subst (Puts p p′ w n) e h
+
+-- a text's first k words, and what is behind them
+text-behind : (p : List ℕ) (w k m : ℕ) → text-in p w (8 * k + m) ≡ text-in p w (8 * k) ++ text-in p (w + k) m
+unfolding text-in
+text-behind p w k m =
+    take-add (8 * k) m (drop (8 * w) (pool-bytes p))
+    ∙ ap (λ (s : Bytes). take (8 * k) (drop (8 * w) (pool-bytes p)) ++ take m s)
+    (drop-drop (8 * k) (8 * w) (pool-bytes p) ∙ ap (λ (j : ℕ). drop j (pool-bytes p)) (let e : 8 * w + 8 * k ≡ 8 * (w + k) = omega arith in e))
+
+-- what is put at a border is put behind the words before it
+pub puts-behind : {p p′ : List ℕ} {w n : ℕ} {s : Bytes} → n % 8 ≡ 0 → Puts p p′ (w + n / 8) 0 s → Puts p p′ w n s
+unfolding Padded words
+puts-behind {p} {p′} {w} {n} {s} z h =
+    record {
+      text = text;
+      padded = λ _.
+          ap (text-in p′ w) (let f : 8 * ((n + length s + 7) / 8) ≡ 8 * k + 8 * ((m + 7) / 8) = omega arith in f)
+          ∙ text-behind p′ w k (8 * ((m + 7) / 8))
+          ∙ ap (λ (t : Bytes). text-in p′ w (8 * k) ++ t) (h .padded (sym (append-nil (text-in p (w + k) 0))))
+          ∙ sym (append-assoc (text-in p′ w (8 * k)) (text-in p′ (w + k) m) (replicate (8 * ((m + 7) / 8) - m) 0))
+          ∙ ap (λ (t : Bytes). t ++ replicate (8 * ((m + 7) / 8) - m) 0) (sym (text-behind p′ w k m))
+          ∙ ap₂ (λ (i j : ℕ). text-in p′ w i ++ replicate j 0) (let f : 8 * k + m ≡ n + length s = omega arith in f)
+          (let f : 8 * ((m + 7) / 8) - m ≡ 8 * ((n + length s + 7) / 8) - (n + length s) = omega arith in f);
+      keeps = record {
+        kept = h .keeps .kept;
+        front = sym (take-take w (w + k) p′ (omega arith)) ∙ ap (take w) (h .keeps .front) ∙ take-take w (w + k) p (omega arith);
+      };
+    }
+  where
+    k : ℕ
+    k = n / 8
+
+    m : ℕ
+    m = 0 + length s
+
+    text : text-in p′ w (n + length s) ≡ text-in p w n ++ s
+    text =
+        ap (text-in p′ w) (let f : n + length s ≡ 8 * k + m = omega arith in f)
+        ∙ text-behind p′ w k m
+        ∙ ap₂ (λ (t u : Bytes). t ++ u) (text-in-front p p′ (w + k) w (8 * k) (h .keeps .front) (omega arith))
+        (h .text ∙ ap (λ (t : Bytes). t ++ s) (text-in-zero p (w + k)))
+        ∙ ap (λ (i : ℕ). text-in p w i ++ s) (let f : 8 * k ≡ n = omega arith in f)
+
+pub room-behind : (w n j : ℕ) {l : ℕ} → n % 8 ≡ 0 → w + words (n + j) ≤ l → w + n / 8 + words j ≤ l
+unfolding words
+room-behind w n j z h = omega arith
 
 -- ---- a part of a slice, byte by byte
 

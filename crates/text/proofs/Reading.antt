@@ -191,17 +191,11 @@ module _ (doc : Bytes) (i : ℕ) (l : i < length doc) (e : getD doc i 0 ≡ 0x5C
 
 -- ---- a byte that stands for itself
 
-pub itself-run
-    : (doc : Bytes) (i : ℕ) → i < length doc → plain-ascii (getD doc i 0) ≡ true → (acc : Bytes)
-    → text-run Inside.chars acc (drop i doc) ≡ text-run Inside.chars (getD doc i 0 ∷ acc) (drop (i + 1) doc)
+pub step-itself : (acc : Bytes) (b : ℕ) → plain-ascii b ≡ true → text-step Inside.chars acc b ≡ more Inside.chars (b ∷ acc)
 unfolding text-step char-step
-itself-run doc i l t acc = more-at Inside.chars acc doc i l (ap (text-step Inside.chars acc) (getD-within doc i 256 0 l) ∙ step)
-  where
-    s : Itself (getD doc i 0)
-    s = plain-ascii-itself (getD doc i 0) t
-
-    step : text-step Inside.chars acc (getD doc i 0) ≡ more Inside.chars (getD doc i 0 ∷ acc)
-    step = rw (ne-is "\"" (s .no-quote), ne-is "\\" (s .no-backslash), in-between (record { from = s .from; to = s .to }), text-step, char-step)
+step-itself acc b t =
+    let s = plain-ascii-itself b t in
+    rw (ne-is "\"" (s .no-quote), ne-is "\\" (s .no-backslash), in-between (record { from = s .from; to = s .to }), text-step, char-step)
 
 pub piece-itself
     : (doc : Bytes) (i : ℕ) (p p′ : List ℕ) (w n b : ℕ) → i < length doc → b ≡ getD doc i 0 → plain-ascii b ≡ true
@@ -215,7 +209,7 @@ piece-itself doc i p p′ w n b l e t h r =
 
     run : (acc : Bytes) → text-run Inside.chars acc (drop i doc) ≡ text-run Inside.chars (b ∷ acc) (drop (i + 1) doc)
     run acc =
-        itself-run doc i l (ap plain-ascii (sym e) ∙ t) acc ∙ ap (λ (x : ℕ). text-run Inside.chars (x ∷ acc) (drop (i + 1) doc)) (sym e)
+        more-at Inside.chars acc doc i l (ap (text-step Inside.chars acc) (getD-within doc i 256 0 l ∙ sym e) ∙ step-itself acc b t)
 
 -- ---- the loop
 

@@ -10,7 +10,7 @@ use Rattle.definitions.specs.Bytes.{Bytes, bytes, between, look, found}
 use Rattle.definitions.specs.Utf8.{Tails, tails, encode}
 use Rattle.definitions.specs.Text.{Inside, Text-move, wrong, more, closed, escape-table, hex-table, digit-fits, unicode}
 use Rattle.definitions.specs.Plain.{short-escapes, hex-digit, escaped-all}
-use Rattle.pool.specs.Pool.{words, text-in}
+use Rattle.pool.specs.Pool.{unpacked, words, text-in}
 use Rattle.text.specs.TextRun.{Text-end, broke, text-run}
 use Rattle.text.specs.TextRead.{Padded}
 use Rattle.text.specs.declared.unicode.Code.{Code}
@@ -27,10 +27,6 @@ use Rattle.text.specs.declared.pieces.Piece.the-variants.{Went, Stopped}
 -- a byte of ASCII that stands for itself between characters
 unfoldable pub plain-ascii : ℕ → Bool
 plain-ascii b = between 0x20 0x7F b && not (eqb b 0x22) && not (eqb b 0x5C)
-
--- k bytes from place i on do
-abbrev pub Stand : Bytes → (i k : ℕ) → Type 0
-Stand doc i k = (j : ℕ) → j < k → plain-ascii (getD doc (i + j) 0) ≡ true
 
 -- the value of a hexadecimal digit; of anything else, 16
 unfoldable pub hex-value : ℕ → ℕ
@@ -70,6 +66,18 @@ unfoldable pub onward : Text-move → Bytes → Text-end
 onward wrong r = broke r
 onward (more i acc) r = text-run i acc r
 onward closed r = broke r
+
+-- ---- bytes that stand for themselves
+
+-- between characters, and in plain JSON
+pub record Stands (s : Bytes) : Type 0 where
+  pub run : (acc r : Bytes) → text-run Inside.chars acc (s ++ r) ≡ text-run Inside.chars (reverseAux s acc) r
+  pub itself : length (escaped-all s) ≡ length s
+
+-- the first m bytes of a word do
+pub record Front-stands (x m : ℕ) : Type 0 where
+  pub within : m ≤ 8
+  pub stands : Stands (take m (unpacked x))
 
 -- ---- escapes by digits
 
@@ -154,7 +162,7 @@ Reads-piece doc i p p′ w n (Stopped place) = Piece-broken doc i p p′ w place
 
 -- the bytes from place i up to place next stand for themselves, and are put behind the text of n bytes
 pub record Stood (doc : Bytes) (i : ℕ) (p p′ : List ℕ) (w n next : ℕ) : Type 0 where
-  pub stand : Stand doc i (next - i)
+  pub stands : Stands (take (next - i) (drop i doc))
   pub puts : Puts p p′ w n (take (next - i) (drop i doc))
   pub ahead : i ≤ next
   pub within : next ≤ length doc

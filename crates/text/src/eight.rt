@@ -1,4 +1,4 @@
-// Eight bytes of a text at a time, looked at as one word and put as one, up to the first that is no plain ASCII byte.
+// Eight bytes of a text at a time, looked at as one word and put as one, as far as they stand for themselves.
 ghost use mathlib.Core.Path.{_≡_};
 ghost use mathlib.Core.List.{_++_};
 ghost use Prim.Native.Nat.{_+_, _-_, _/_, _≤_};
@@ -7,6 +7,7 @@ ghost use lib.ListN.{length, take, replicate};
 ghost use Rattle.pool.specs.Pool.{unpacked, words};
 ghost use Rattle.pool.specs.Lanes.{Marks};
 ghost use Rattle.text.specs.TextParts.{plain-ascii, Puts, Stood};
+use super::wide::past_wides;
 
 // The highest bit of each byte that is not plain ASCII. A byte is below 0x20 where 0x60 more leaves its highest bit clear, and a
 // quote or a backslash where 0x7F more does, once it is taken from it by `^`.
@@ -28,7 +29,7 @@ fn first(marks: u64) -> usize
 }
 
 // Puts the first m bytes of a word, behind which it has zeros, behind the n bytes at word w, where eight have room.
-fn put_part(pool: &mut [u64], w: usize, n: usize, x: u64, m: usize)
+pub fn put_part(pool: &mut [u64], w: usize, n: usize, x: u64, m: usize)
     requires { ⌜ (m ≤ 8) × (w + words (n + 8) ≤ length (now pool)) × (unpacked x ≡ take m (unpacked x) ++ replicate (8 - m) 0) ⌝ }
     ensures put { λ r. ⌜ Puts (now (pool .entry)) (now (pool .exit)) w n (take m (unpacked x)) ⌝ }
 {
@@ -65,22 +66,32 @@ pub fn put_standing(doc: &[u8], at: usize, pool: &mut [u64], w: usize) -> usize
     i
 }
 
-// The same behind the n bytes at word w, which may end within a word.
+// Puts the bytes that stand for themselves, plain ASCII and characters of several bytes, behind the n bytes at word w, which may end within a
+// word. Answers a place up to which all do; the document's last seven bytes are left.
 pub fn put_run(doc: &[u8], at: usize, pool: &mut [u64], w: usize, n: usize) -> usize
     requires { ⌜ (at ≤ length (now doc)) × (w + words (n + (length (now doc) - at)) ≤ length (now pool)) ⌝ }
     ensures put { λ r. ⌜ Stood (now (doc .entry)) at (now (pool .entry)) (now (pool .exit)) w n r ⌝ }
 {
+    // plain ASCII behind whole words; called at two places, so that the compiler keeps it a call
+    if n % 8 == 0 {
+        return put_standing(doc, at, pool, w + n / 8);
+    }
     let mut i = at;
     while 8 <= doc.len() - i {
         let x = pool::word_at(doc, i);
         let marks = odd(x);
         if marks != 0 {
-            let m = first(marks);
+            let m = past_wides(x, first(marks));
             put_part(pool, w, n + (i - at), pool::front(x, m), m);
-            return i + m;
+            i += m;
+            // a character of several bytes would stand whole in the word
+            if m < 5 {
+                return i;
+            }
+        } else {
+            put_part(pool, w, n + (i - at), x, 8);
+            i += 8;
         }
-        put_part(pool, w, n + (i - at), x, 8);
-        i += 8;
     }
     i
 }

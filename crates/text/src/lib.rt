@@ -78,6 +78,8 @@ pub fn read_text(doc: &[u8], at: usize, pool: &mut [u64], w: usize) -> TextRead
                 written: i - at + 2,
             };
         }
+        // called at two places, so that the compiler keeps it a call, and puts the few lines here into their callers
+        return read_rest(doc, at, i, pool, w);
     }
     read_rest(doc, at, i, pool, w)
 }

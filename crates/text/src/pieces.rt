@@ -8,6 +8,7 @@ ghost use Rattle.definitions.specs.Utf8.{encode};
 ghost use Rattle.definitions.specs.Plain.{escaped-all};
 ghost use Rattle.pool.specs.Pool.{words};
 ghost use Rattle.text.specs.TextParts.{escape-value, Puts, Reads-piece, Room};
+use super::eight::put_part;
 use super::escape::cost;
 use super::escape::is_plain_ascii;
 use super::unicode::Code;
@@ -16,6 +17,7 @@ use super::unicode::encoded_length;
 use super::unicode::peek;
 use super::unicode::read_unicode;
 use super::wide::Wide;
+use super::wide::past_wides;
 use super::wide::wide_end;
 
 // A piece of a text: the place behind it, the bytes that the text has with it, and what it adds to plain JSON; or where it breaks off.
@@ -42,7 +44,7 @@ fn copy(src: &[u8], from: usize, to: usize, pool: &mut [u64], w: usize, n: usize
     }
 }
 
-// A character of several bytes.
+// A character of several bytes, byte by byte.
 fn read_wide(doc: &[u8], i: usize, pool: &mut [u64], w: usize, n: usize) -> Piece
     requires { ⌜ Room (now doc) i (now pool) w n × (between 0x20 0x7F (getD (now doc) i 0) ≡ false) ⌝ }
     ensures read { λ r. ⌜ Reads-piece (now (doc .entry)) i (now (pool .entry)) (now (pool .exit)) w n r ⌝ }
@@ -57,6 +59,27 @@ fn read_wide(doc: &[u8], i: usize, pool: &mut [u64], w: usize, n: usize) -> Piec
             }
         }
         Wide::Cut { place } => Piece::Stopped { place },
+    }
+}
+
+// Characters of several bytes: as many as the word there has whole. Where it has none, or the document's last seven bytes stand there, one.
+fn read_wides(doc: &[u8], i: usize, pool: &mut [u64], w: usize, n: usize) -> Piece
+    requires { ⌜ Room (now doc) i (now pool) w n × (between 0x20 0x7F (getD (now doc) i 0) ≡ false) ⌝ }
+    ensures read { λ r. ⌜ Reads-piece (now (doc .entry)) i (now (pool .entry)) (now (pool .exit)) w n r ⌝ }
+{
+    if doc.len() - i < 8 {
+        return read_wide(doc, i, pool, w, n);
+    }
+    let x = pool::word_at(doc, i);
+    let m = past_wides(x, 0);
+    if m == 0 {
+        return read_wide(doc, i, pool, w, n);
+    }
+    put_part(pool, w, n, pool::front(x, m), m);
+    Piece::Went {
+        next: i + m,
+        length: n + m,
+        cost: m,
     }
 }
 
@@ -147,5 +170,5 @@ pub fn read_piece(doc: &[u8], i: usize, pool: &mut [u64], w: usize, n: usize) ->
             cost: 1,
         };
     }
-    read_wide(doc, i, pool, w, n)
+    read_wides(doc, i, pool, w, n)
 }

@@ -6,7 +6,7 @@ ghost use lib.ListN.{length, getD};
 ghost use Rattle.definitions.specs.Bytes.{look, between};
 ghost use Rattle.definitions.specs.Text.{Inside};
 ghost use Rattle.definitions.specs.Utf8.{head-table};
-ghost use Rattle.text.specs.TextParts.{head-as, Reads-wide};
+ghost use Rattle.text.specs.TextParts.{head-as, Reads-wide, Front-stands};
 use super::unicode::peek;
 
 // What a first byte says: the lowest and the highest second byte, and how many bytes follow that.
@@ -90,4 +90,60 @@ pub fn wide_end(doc: &[u8], at: usize) -> Wide
         Head::Tails(lo, hi, more) => tails_end(doc, at + 1, lo, hi, more),
         Head::Not => Wide::Cut { place: at },
     }
+}
+
+// How many bytes the character of several bytes has that a word begins with; 0 where it begins with none. Each byte behind the first has 10 as
+// its highest bits, and what else the table asks is asked of the first two.
+fn wide_length(x: u64) -> usize
+    ensures found { λ r. ⌜ Front-stands x r × (r ≤ 4) ⌝ }
+{
+    let two = x >> 48;
+    if two < 0xC200 {
+        return 0;
+    }
+    if two / 64 % 4 != 2 {
+        return 0;
+    }
+    if two < 0xE000 {
+        return 2;
+    }
+    if (x >> 40) / 64 % 4 != 2 {
+        return 0;
+    }
+    if two < 0xF000 {
+        if two < 0xE0A0 {
+            return 0;
+        }
+        // ED A0 to ED BF: surrogates
+        if two / 32 == 0x76D {
+            return 0;
+        }
+        return 3;
+    }
+    if (x >> 32) / 64 % 4 != 2 {
+        return 0;
+    }
+    if two < 0xF090 {
+        return 0;
+    }
+    if 0xF48F < two {
+        return 0;
+    }
+    4
+}
+
+// How many bytes of a word stand for themselves, where the first n do and characters of several bytes may follow; only where one of four has room.
+pub fn past_wides(x: u64, n: usize) -> usize
+    requires { ⌜ Front-stands x n ⌝ }
+    ensures found { λ r. ⌜ Front-stands x r ⌝ }
+{
+    let mut m = n;
+    while m < 5 {
+        let k = wide_length(x << (8 * m));
+        if k == 0 {
+            return m;
+        }
+        m += k;
+    }
+    m
 }

@@ -1,10 +1,7 @@
 -- `text::read_text` meets its contract. Assumes nothing.
-use Prim.Native.Nat.{_+_, _-_, _≤_}
-use mathlib.Core.Path.{sym, _∙_, subst}
-use lib.ListN.{length}
-use Rattle.pool.specs.Pool.{words}
+use mathlib.Core.Path.{_∙_}
 use Rattle.text.proofs.Reading.{reading-closed}
-use Rattle.text.proofs.EightBytes.{reading-standing, reading-here, reads-behind}
+use Rattle.text.proofs.EightBytes.{reading-standing, reading-rest, reads-behind}
 use borrow.Author.Needs.{needs}
 use native.Mathlib.Omega.{arith}
 use Rattle.text.proofs.read_text.Statement.{statement}
@@ -47,23 +44,39 @@ returns c =
 
 read-rest-requires : tie.Need-read-rest-requires
 read-rest-requires c κs =
-    let at-start = c .before .before .before .before .before .before .before .before in
-    let a = at-start .args in
-    let s = c .before .before .before .before .put-standing .ensures in
-    (reading-here (reading-standing s), subst (λ l. a .w + words (length (a .doc .now) - a .at) ≤ l) (sym (s .puts .keeps .kept)) (at-start .pre .1))
+    let after-put-standing = c .before .before .before .before .before .before in
+    let at-start = after-put-standing .before .before .before .before in
+    reading-rest (after-put-standing .put-standing .ensures) (at-start .pre .1)
 
 same-length-2 : tie.Need-same-length-2
 same-length-2 c =
-    let after-put-standing = c .before .before .before .before .before .before .before in
+    let after-put-standing = c .before .before .before .before .before .before .before .before .before in
     c .before .before .read-rest .ensures .kept ∙ after-put-standing .put-standing .ensures .puts .keeps .kept
 
 returns-2 : tie.Need-returns-2
 returns-2 c =
-    let after-put-standing = c .before .before .before .before .before .before .before in
+    let after-put-standing = c .before .before .before .before .before .before .before .before .before in
     reads-behind (after-put-standing .put-standing .ensures .puts .keeps) (c .before .before .read-rest .ensures)
+
+read-rest-requires-2 : tie.Need-read-rest-requires-2
+read-rest-requires-2 c κs =
+    let after-put-standing = c .before .before .before .before in
+    let at-start = after-put-standing .before .before .before .before in
+    reading-rest (after-put-standing .put-standing .ensures) (at-start .pre .1)
+
+same-length-3 : tie.Need-same-length-3
+same-length-3 c =
+    let after-put-standing = c .before .before .before .before .before .before .before in
+    c .before .before .read-rest2 .ensures .kept ∙ after-put-standing .put-standing .ensures .puts .keeps .kept
+
+returns-3 : tie.Need-returns-3
+returns-3 c =
+    let after-put-standing = c .before .before .before .before .before .before .before in
+    reads-behind (after-put-standing .put-standing .ensures .puts .keeps) (c .before .before .read-rest2 .ensures)
 
 pub read-text-spec : {M : Type 1} → statement M
 read-text-spec =
     tie.close
     (tie.spec
-    (λ c κs. search needs) shared-slice-read-if2 add-t13 sub-t14 sub-t15 add-t16 same-length returns read-rest-requires same-length-2 returns-2)
+    (λ c κs. search needs) shared-slice-read-if2 add-t13 sub-t14 sub-t15 add-t16 same-length returns read-rest-requires same-length-2 returns-2
+    read-rest-requires-2 same-length-3 returns-3)

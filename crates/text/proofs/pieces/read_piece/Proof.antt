@@ -46,8 +46,8 @@ returns-2 c =
     (sym (after-put-byte .before .before .before .is-plain-ascii .ensures) ∙ after-put-byte .before .before .if2 .taken) (after-put-byte .put-byte .ensures)
     (room-one (a .doc .now) (a .i) (a .pool .now) (a .w) (a .n) (at-start .pre .0 .1) (at-start .pre .0 .0))
 
-read-wide-requires : tie.Need-read-wide-requires
-read-wide-requires c κs =
+read-wides-requires : tie.Need-read-wides-requires
+read-wides-requires c κs =
     let at-start = c .before .before .before .before .before .before .before in (
       at-start .pre .0,
       plain-ascii-outside _ (sym (c .before .before .is-plain-ascii .ensures) ∙ c .before .if2 .left) (at-start .pre .1)
@@ -59,4 +59,4 @@ read-piece-spec =
     tie.close
     (tie.spec
     (λ c. search needs) (λ c κs. search needs) (λ c. search needs) (λ c. search needs) (λ c κs. search needs) mul-put-byte add-put-byte
-    put-byte-requires add-t16 add-t17 (λ c. search needs) returns-2 read-wide-requires (λ c. search needs) (λ c. search needs))
+    put-byte-requires add-t16 add-t17 (λ c. search needs) returns-2 read-wides-requires (λ c. search needs) (λ c. search needs))
