@@ -129,7 +129,7 @@ static void expect_ones_read_in_all_calls(size_t values)
     expect_result("infer", bytes_of("(shape)"), drafted(&second));
     expect_verdict("admits", shape, drafted(&second), true);
     expect_verdict("admits", bytes_of("(shape)"), drafted(&second), false);
-    put_ones(&result, values, 2 * values - 1 + strlen("]"), "]");
+    put_ones(&result, values, 2 * values - 1, "]");
     expect_result("plain", drafted(&second), bytes_of(""));
     struct outcome kept = {.length = result.length, .steps = 2, .written = drafted(&result)};
     expect_call("run", keep, drafted(&second), &kept);
@@ -158,13 +158,13 @@ static void short_documents_of_few_values_and_more_are_refused_at_their_ends(voi
         }
 }
 
-/* Each member's name and shape are under 21 bytes, so that the whole is under the first border of a shape. */
 static void short_shapes_of_few_forms_and_more_are_read(void)
 {
     for (size_t forms = FEW - 1; forms <= FEW + 1; forms++) {
-        put_members(&first, 0, forms - 1, 1, "(shape)");
-        put_written_members(forms - 1, "(shape)");
-        expect_result("infer", drafted(&first), bytes_of("{}"));
+        put_lists(&first, forms);
+        put_written_lists(forms, "(shape)");
+        expect_result("infer", drafted(&first), bytes_of("[]"));
+        expect_verdict("admits", drafted(&first), bytes_of("[]"), true);
         expect_verdict("admits", drafted(&first), bytes_of("1"), false);
     }
 }
