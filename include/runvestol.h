@@ -101,13 +101,13 @@ extern "C" {
 /*
  * The bytes of stack that each call needs below its caller's frame, most of them its work slices
  * (docs/WORK-SLICES.md), and the most of these. tests/c measures each anew, on texts of as many levels as may be:
- *   plain     46,224 at the deepest, and at the smallest set  3,904
- *   infer     73,560                                          5,696
+ *   plain     44,272 at the deepest, and at the smallest set 34,864
+ *   infer     70,152                                         59,792
  *   join      64,608                                         51,616
  *   below     58,704                                         51,088
- *   admits    72,352                                          5,408
+ *   admits    68,944                                         59,536
  *   check     80,728                                         67,344
- *   run       96,224                                          7,392
+ *   run       91,680                                         79,584
  */
 #define RUNVESTOL_PLAIN_STACK_BYTES 49152
 #define RUNVESTOL_INFER_STACK_BYTES 73728

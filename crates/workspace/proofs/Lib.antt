@@ -1,2 +1,1 @@
 pub mod Tiers
-pub mod Few

@@ -1,6 +1,5 @@
 // The operations with work slices of their own, as the C calls want them: as long as the limits and the texts ask, in a few lengths,
-// since clearing long ones would show in the time of a call. The shortest is enough for every text at the smallest set of limits, and
-// is tried first where a document is short: under fewer values, with what is accepted so accepted at the set too.
+// since clearing long ones would show in the time of a call. The shortest is enough for every text at the smallest set of limits.
 ghost use mathlib.Core.Path.{_≡_};
 ghost use mathlib.Core.Bool.{false};
 ghost use mathlib.Core.List.{[], _∷_};
@@ -14,15 +13,15 @@ use definitions::Answer;
 use definitions::Format;
 use definitions::Limits;
 
-// `plain` in work slices for few values, and as long as the smallest set of limits asks.
+// `plain` in work slices as short as at the smallest set of limits.
 fn smallest_plain(format: Format, limits: Limits, document: &[u8], output: &mut [u8]) -> Answer
     requires { ⌜ Small limits ⌝ }
-    requires long { ⌜ slices-short (for-document limits (length (now document))) (72 ∷ 143 ∷ []) ≡ false ⌝ }
+    requires long { ⌜ slices-short (for-document limits (length (now document))) (48 ∷ 143 ∷ []) ≡ false ⌝ }
     ensures answered { λ r. ⌜ r ≡ finish (now (output .entry)) (plain-judged (source format) limits (now (document .entry))) .answer ⌝ }
     ensures written { λ _. ⌜ now (output .exit) ≡
         finish (now (output .entry)) (plain-judged (source format) limits (now (document .entry))) .output ⌝ }
 {
-    let mut nodes = [0u64; 72];
+    let mut nodes = [0u64; 48];
     let mut pool = [0u64; 143];
     perform::plain(format, document, output, &mut nodes, &mut pool, limits)
 }
@@ -78,14 +77,17 @@ fn long_plain(format: Format, limits: Limits, document: &[u8], output: &mut [u8]
     perform::plain(format, document, output, &mut nodes, &mut pool, limits)
 }
 
-// `plain` in work slices for as many values as the document could have.
-fn full_plain(format: Format, limits: Limits, document: &[u8], output: &mut [u8]) -> Answer
+// `plain` with work slices of its own.
+pub fn plain(format: Format, limits: Limits, document: &[u8], output: &mut [u8]) -> Answer
     requires { ⌜ Small limits ⌝ }
     ensures answered { λ r. ⌜ r ≡ finish (now (output .entry)) (plain-judged (source format) limits (now (document .entry))) .answer ⌝ }
     ensures written { λ _. ⌜ now (output .exit) ≡
         finish (now (output .entry)) (plain-judged (source format) limits (now (document .entry))) .output ⌝ }
 {
     let n = document.len();
+    if !slices::document_short(limits, n, 48, 143) {
+        return smallest_plain(format, limits, document, output);
+    }
     if !slices::document_short(limits, n, 429, 174) {
         return shortest_plain(format, limits, document, output);
     }
@@ -98,29 +100,7 @@ fn full_plain(format: Format, limits: Limits, document: &[u8], output: &mut [u8]
     long_plain(format, limits, document, output)
 }
 
-// `plain` with work slices of its own.
-// A short document mostly has few values, and is tried with slices for no more.
-pub fn plain(format: Format, limits: Limits, document: &[u8], output: &mut [u8]) -> Answer
-    requires { ⌜ Small limits ⌝ }
-    ensures answered { λ r. ⌜ r ≡ finish (now (output .entry)) (plain-judged (source format) limits (now (document .entry))) .answer ⌝ }
-    ensures written { λ _. ⌜ now (output .exit) ≡
-        finish (now (output .entry)) (plain-judged (source format) limits (now (document .entry))) .output ⌝ }
-{
-    let n = document.len();
-    if !slices::document_short(limits, n, 72, 143) {
-        return smallest_plain(format, limits, document, output);
-    }
-    if n >= 256 {
-        return full_plain(format, limits, document, output);
-    }
-    let tried = smallest_plain(format, slices::fewer(limits, 24), document, output);
-    if tried.number == 0 {
-        return tried;
-    }
-    full_plain(format, limits, document, output)
-}
-
-// `infer` in work slices for few values, and as long as the smallest set of limits asks.
+// `infer` in work slices as short as at the smallest set of limits.
 fn smallest_infer(
     format: Format,
     limits: Limits,
@@ -129,14 +109,14 @@ fn smallest_infer(
     output: &mut [u8],
 ) -> Answer
     requires { ⌜ Small limits ⌝ }
-    requires long { ⌜ slices-short (for-grown-document limits (length (now shape)) (length (now document))) (48 ∷ 72 ∷ 271 ∷ []) ≡ false ⌝ }
+    requires long { ⌜ slices-short (for-grown-document limits (length (now shape)) (length (now document))) (32 ∷ 48 ∷ 271 ∷ []) ≡ false ⌝ }
     ensures answered { λ r. ⌜ r ≡
         finish (now (output .entry)) (infer-judged (source format) limits (now (shape .entry)) (now (document .entry))) .answer ⌝ }
     ensures written { λ _. ⌜ now (output .exit) ≡
         finish (now (output .entry)) (infer-judged (source format) limits (now (shape .entry)) (now (document .entry))) .output ⌝ }
 {
-    let mut shapes = [0u64; 48];
-    let mut nodes = [0u64; 72];
+    let mut shapes = [0u64; 32];
+    let mut nodes = [0u64; 48];
     let mut pool = [0u64; 271];
     perform::infer(
         format,
@@ -269,36 +249,7 @@ fn long_infer(
     )
 }
 
-// `infer` in work slices for as many values as the texts could have.
-fn full_infer(
-    format: Format,
-    limits: Limits,
-    shape: &[u8],
-    document: &[u8],
-    output: &mut [u8],
-) -> Answer
-    requires { ⌜ Small limits ⌝ }
-    ensures answered { λ r. ⌜ r ≡
-        finish (now (output .entry)) (infer-judged (source format) limits (now (shape .entry)) (now (document .entry))) .answer ⌝ }
-    ensures written { λ _. ⌜ now (output .exit) ≡
-        finish (now (output .entry)) (infer-judged (source format) limits (now (shape .entry)) (now (document .entry))) .output ⌝ }
-{
-    let n = shape.len();
-    let m = document.len();
-    if !slices::grown_document_short(limits, n, m, 1024, 429, 238) {
-        return shortest_infer(format, limits, shape, document, output);
-    }
-    if !slices::grown_document_short(limits, n, m, 1024, 1536, 1151) {
-        return short_infer(format, limits, shape, document, output);
-    }
-    if !slices::grown_document_short(limits, n, m, 1024, 1536, 2815) {
-        return short_shape_infer(format, limits, shape, document, output);
-    }
-    long_infer(format, limits, shape, document, output)
-}
-
 // `infer` with work slices of its own.
-// Short texts mostly have few values, and are tried with slices for no more.
 pub fn infer(
     format: Format,
     limits: Limits,
@@ -314,20 +265,19 @@ pub fn infer(
 {
     let n = shape.len();
     let m = document.len();
-    if !slices::grown_document_short(limits, n, m, 48, 72, 271) {
+    if !slices::grown_document_short(limits, n, m, 32, 48, 271) {
         return smallest_infer(format, limits, shape, document, output);
     }
-    if m >= 256 {
-        return full_infer(format, limits, shape, document, output);
+    if !slices::grown_document_short(limits, n, m, 1024, 429, 238) {
+        return shortest_infer(format, limits, shape, document, output);
     }
-    if n >= 512 {
-        return full_infer(format, limits, shape, document, output);
+    if !slices::grown_document_short(limits, n, m, 1024, 1536, 1151) {
+        return short_infer(format, limits, shape, document, output);
     }
-    let tried = smallest_infer(format, slices::fewer(limits, 24), shape, document, output);
-    if tried.number == 0 {
-        return tried;
+    if !slices::grown_document_short(limits, n, m, 1024, 1536, 2815) {
+        return short_shape_infer(format, limits, shape, document, output);
     }
-    full_infer(format, limits, shape, document, output)
+    long_infer(format, limits, shape, document, output)
 }
 
 // `join` in work slices as short as at the smallest set of limits.
@@ -449,14 +399,14 @@ pub fn below(limits: Limits, first: &[u8], second: &[u8]) -> Answer
     long_below(limits, first, second)
 }
 
-// `admits` in work slices for few values, and as long as the smallest set of limits asks.
+// `admits` in work slices as short as at the smallest set of limits.
 fn smallest_admits(format: Format, limits: Limits, shape: &[u8], document: &[u8]) -> Answer
     requires { ⌜ Small limits ⌝ }
-    requires long { ⌜ slices-short (for-shape-document limits (length (now shape)) (length (now document))) (48 ∷ 72 ∷ 271 ∷ []) ≡ false ⌝ }
+    requires long { ⌜ slices-short (for-shape-document limits (length (now shape)) (length (now document))) (32 ∷ 48 ∷ 271 ∷ []) ≡ false ⌝ }
     ensures answered { λ r. ⌜ r ≡ say (admits-judged (source format) limits (now (shape .entry)) (now (document .entry))) ⌝ }
 {
-    let mut shapes = [0u64; 48];
-    let mut nodes = [0u64; 72];
+    let mut shapes = [0u64; 32];
+    let mut nodes = [0u64; 48];
     let mut pool = [0u64; 271];
     perform::admits(
         format,
@@ -548,13 +498,16 @@ fn long_admits(format: Format, limits: Limits, shape: &[u8], document: &[u8]) ->
     )
 }
 
-// `admits` in work slices for as many values as the texts could have.
-fn full_admits(format: Format, limits: Limits, shape: &[u8], document: &[u8]) -> Answer
+// `admits` with work slices of its own.
+pub fn admits(format: Format, limits: Limits, shape: &[u8], document: &[u8]) -> Answer
     requires { ⌜ Small limits ⌝ }
     ensures answered { λ r. ⌜ r ≡ say (admits-judged (source format) limits (now (shape .entry)) (now (document .entry))) ⌝ }
 {
     let n = shape.len();
     let m = document.len();
+    if !slices::shape_document_short(limits, n, m, 32, 48, 271) {
+        return smallest_admits(format, limits, shape, document);
+    }
     if !slices::shape_document_short(limits, n, m, 146, 429, 238) {
         return shortest_admits(format, limits, shape, document);
     }
@@ -565,30 +518,6 @@ fn full_admits(format: Format, limits: Limits, shape: &[u8], document: &[u8]) ->
         return short_shape_admits(format, limits, shape, document);
     }
     long_admits(format, limits, shape, document)
-}
-
-// `admits` with work slices of its own.
-// Short texts mostly have few values, and are tried with slices for no more.
-pub fn admits(format: Format, limits: Limits, shape: &[u8], document: &[u8]) -> Answer
-    requires { ⌜ Small limits ⌝ }
-    ensures answered { λ r. ⌜ r ≡ say (admits-judged (source format) limits (now (shape .entry)) (now (document .entry))) ⌝ }
-{
-    let n = shape.len();
-    let m = document.len();
-    if !slices::shape_document_short(limits, n, m, 48, 72, 271) {
-        return smallest_admits(format, limits, shape, document);
-    }
-    if m >= 256 {
-        return full_admits(format, limits, shape, document);
-    }
-    if n >= 512 {
-        return full_admits(format, limits, shape, document);
-    }
-    let tried = smallest_admits(format, slices::fewer(limits, 24), shape, document);
-    if tried.number == 0 {
-        return tried;
-    }
-    full_admits(format, limits, shape, document)
 }
 
 // `check` in work slices as short as at the smallest set of limits.
@@ -715,7 +644,7 @@ pub fn check(limits: Limits, reader: &[u8], shape: &[u8], output: &mut [u8]) -> 
     long_check(limits, reader, shape, output)
 }
 
-// `run` in work slices for few values, and as long as the smallest set of limits asks.
+// `run` in work slices as short as at the smallest set of limits.
 fn smallest_run(
     format: Format,
     limits: Limits,
@@ -724,16 +653,16 @@ fn smallest_run(
     output: &mut [u8],
 ) -> Answer
     requires { ⌜ Small limits ⌝ }
-    requires long { ⌜ slices-short (for-reader-document limits (length (now reader)) (length (now document))) (72 ∷ 72 ∷ 72 ∷ 32 ∷ 281 ∷ []) ≡ false ⌝ }
+    requires long { ⌜ slices-short (for-reader-document limits (length (now reader)) (length (now document))) (48 ∷ 48 ∷ 48 ∷ 4 ∷ 281 ∷ []) ≡ false ⌝ }
     ensures answered { λ r. ⌜ r ≡
         finish (now (output .entry)) (run-judged (source format) limits (now (reader .entry)) (now (document .entry))) .answer ⌝ }
     ensures written { λ _. ⌜ now (output .exit) ≡
         finish (now (output .entry)) (run-judged (source format) limits (now (reader .entry)) (now (document .entry))) .output ⌝ }
 {
-    let mut forms = [0u64; 72];
-    let mut nodes = [0u64; 72];
-    let mut results = [0u64; 72];
-    let mut bindings = [0u64; 32];
+    let mut forms = [0u64; 48];
+    let mut nodes = [0u64; 48];
+    let mut results = [0u64; 48];
+    let mut bindings = [0u64; 4];
     let mut pool = [0u64; 281];
     perform::run(
         format,
@@ -884,36 +813,7 @@ fn long_run(
     )
 }
 
-// `run` in work slices for as many values as the texts could have.
-fn full_run(
-    format: Format,
-    limits: Limits,
-    reader: &[u8],
-    document: &[u8],
-    output: &mut [u8],
-) -> Answer
-    requires { ⌜ Small limits ⌝ }
-    ensures answered { λ r. ⌜ r ≡
-        finish (now (output .entry)) (run-judged (source format) limits (now (reader .entry)) (now (document .entry))) .answer ⌝ }
-    ensures written { λ _. ⌜ now (output .exit) ≡
-        finish (now (output .entry)) (run-judged (source format) limits (now (reader .entry)) (now (document .entry))) .output ⌝ }
-{
-    let n = reader.len();
-    let m = document.len();
-    if !slices::reader_document_short(limits, n, m, 255, 429, 1536, 32, 259) {
-        return shortest_run(format, limits, reader, document, output);
-    }
-    if !slices::reader_document_short(limits, n, m, 1023, 1536, 1536, 32, 1364) {
-        return short_run(format, limits, reader, document, output);
-    }
-    if !slices::reader_document_short(limits, n, m, 255, 1536, 1536, 32, 2644) {
-        return short_reader_run(format, limits, reader, document, output);
-    }
-    long_run(format, limits, reader, document, output)
-}
-
 // `run` with work slices of its own.
-// Short texts mostly have few values, and are tried with slices for no more.
 pub fn run(
     format: Format,
     limits: Limits,
@@ -929,18 +829,17 @@ pub fn run(
 {
     let n = reader.len();
     let m = document.len();
-    if !slices::reader_document_short(limits, n, m, 72, 72, 72, 32, 281) {
+    if !slices::reader_document_short(limits, n, m, 48, 48, 48, 4, 281) {
         return smallest_run(format, limits, reader, document, output);
     }
-    if m >= 256 {
-        return full_run(format, limits, reader, document, output);
+    if !slices::reader_document_short(limits, n, m, 255, 429, 1536, 32, 259) {
+        return shortest_run(format, limits, reader, document, output);
     }
-    if n >= 256 {
-        return full_run(format, limits, reader, document, output);
+    if !slices::reader_document_short(limits, n, m, 1023, 1536, 1536, 32, 1364) {
+        return short_run(format, limits, reader, document, output);
     }
-    let tried = smallest_run(format, slices::fewer(limits, 24), reader, document, output);
-    if tried.number == 0 {
-        return tried;
+    if !slices::reader_document_short(limits, n, m, 255, 1536, 1536, 32, 2644) {
+        return short_reader_run(format, limits, reader, document, output);
     }
-    full_run(format, limits, reader, document, output)
+    long_run(format, limits, reader, document, output)
 }

@@ -1,9 +1,7 @@
--- `workspace::infer` meets its contract: what is accepted under fewer values is so at the set itself. Assumes nothing.
+-- `workspace::infer` meets its contract. Assumes nothing.
 use borrow.Author.Needs.{needs}
-use native.Mathlib.Omega.{arith}
 use mathlib.Core.Path.{sym, _∙_}
 use Rattle.laws.specs.Bools.{not-true}
-use Rattle.workspace.proofs.Few.{few-small, few-grown-document, infer-tried, accepted, anew}
 use Rattle.workspace.proofs.infer.Statement.{statement}
 use Rattle.workspace.proofs.infer.Tie as tie
 
@@ -12,31 +10,25 @@ smallest c κs =
     let at-start = c .before .before .before .before .before .before in
     (at-start .pre, sym (c .before .before .grown-document-short .ensures) ∙ not-true _ (c .before .if1 .taken))
 
-few : tie.Need-smallest-infer-requires-2
-few c κs =
-    let at-start = c .before .before .before .before .before .before .before .before .before in
-    (few-small _ _ (c .before .fewer .ensures) (at-start .pre), few-grown-document _ _ (c .before .fewer .ensures) _ _ (omega arith) (omega arith))
+shortest : tie.Need-shortest-infer-requires
+shortest c κs =
+    let at-start = c .before .before .before .before .before .before .before .before in
+    (at-start .pre, sym (c .before .before .grown-document-short2 .ensures) ∙ not-true _ (c .before .if2 .taken))
 
-accepts : tie.Need-returns-4
-accepts c =
-    let after-smallest-infer2 = c .before .before .before .before in
-    let after-grown-document-short = after-smallest-infer2 .before .before .before .before .before .before in
-    let at-start = after-grown-document-short .before .before .before .before in
-    accepted (infer-tried _ _ (after-smallest-infer2 .before .before .fewer .ensures) (at-start .args .format) (at-start .args .shape .now)
-    (at-start .args .document .now)) (at-start .args .output .now) (after-smallest-infer2 .smallest-infer2 .ensures) (c .if4 .taken)
+short : tie.Need-short-infer-requires
+short c κs =
+    let after-grown-document-short2 = c .before .before .before .before in
+    let at-start = after-grown-document-short2 .before .before .before .before .before .before in
+    (at-start .pre, sym (c .before .before .grown-document-short3 .ensures) ∙ not-true _ (c .before .if3 .taken))
 
-begins-anew : tie.Need-returns-5
-begins-anew c =
-    let else4 = c .before .before .before .before in
-    let after-smallest-infer2 = else4 .before .before .before .before in
-    let after-grown-document-short = after-smallest-infer2 .before .before .before .before .before .before in
-    let at-start = after-grown-document-short .before .before .before .before in
-    anew (infer-tried _ _ (after-smallest-infer2 .before .before .fewer .ensures) (at-start .args .format) (at-start .args .shape .now)
-    (at-start .args .document .now)) (at-start .args .output .now) (after-smallest-infer2 .smallest-infer2 .ensures) (else4 .if4 .left)
-    (c .before .before .full-infer3 .ensures)
+short-shape : tie.Need-short-shape-infer-requires
+short-shape c κs =
+    let after-grown-document-short2 = c .before .before .before .before .before .before in
+    let at-start = after-grown-document-short2 .before .before .before .before .before .before in
+    (at-start .pre, sym (c .before .before .grown-document-short4 .ensures) ∙ not-true _ (c .before .if4 .taken))
 
 pub infer-spec : {M : Type 1} → statement M
 infer-spec =
-    tie.close (tie.spec (λ c κs. search needs) smallest (λ c. search needs) (λ c. search needs) (λ c κs. search needs) (λ c. search needs) (λ c. search needs)
-    (λ c κs. search needs) (λ c. search needs) (λ c. search needs) (λ c κs. search needs) few (λ c. search needs) accepts (λ c κs. search needs)
-    (λ c. search needs) begins-anew)
+    tie.close (tie.spec (λ c κs. search needs) smallest (λ c. search needs) (λ c. search needs) (λ c κs. search needs) shortest (λ c. search needs)
+    (λ c. search needs) (λ c κs. search needs) short (λ c. search needs) (λ c. search needs) (λ c κs. search needs) short-shape (λ c. search needs)
+    (λ c. search needs) (λ c κs. search needs) (λ c. search needs) (λ c. search needs))

@@ -10,7 +10,7 @@ plain-requires : tie.Need-plain-requires
 plain-requires c κs =
     let at-start = c .before .before .before .before .before in
     let a = at-start .args in
-    held-document (a .limits) (at-start .pre .0) (a .document .now) (replicate 72 0) (replicate 143 0) (length-replicate {A = ℕ} 72 0)
+    held-document (a .limits) (at-start .pre .0) (a .document .now) (replicate 48 0) (replicate 143 0) (length-replicate {A = ℕ} 48 0)
     (length-replicate {A = ℕ} 143 0) (at-start .pre .1)
 
 pub smallest-plain-spec : {M : Type 1} → statement M

@@ -11,10 +11,10 @@ run-requires : tie.Need-run-requires
 run-requires c κs =
     let at-start = c .before .before .before .before .before .before .before .before .before in
     let a = at-start .args in (
-      held-run (a .limits) (at-start .pre .0) (a .reader .now) (a .document .now) (replicate 72 0) (replicate 72 0) (replicate 72 0)
-          (replicate 32 0) (replicate 281 0) (length-replicate {A = ℕ} 72 0) (length-replicate {A = ℕ} 72 0)
-          (length-replicate {A = ℕ} 72 0) (length-replicate {A = ℕ} 32 0) (length-replicate {A = ℕ} 281 0) (at-start .pre .1),
-      (omega (arith, length-replicate {A = ℕ} 72 0), omega (arith, length-replicate {A = ℕ} 72 0)),
+      held-run (a .limits) (at-start .pre .0) (a .reader .now) (a .document .now) (replicate 48 0) (replicate 48 0) (replicate 48 0)
+          (replicate 4 0) (replicate 281 0) (length-replicate {A = ℕ} 48 0) (length-replicate {A = ℕ} 48 0)
+          (length-replicate {A = ℕ} 48 0) (length-replicate {A = ℕ} 4 0) (length-replicate {A = ℕ} 281 0) (at-start .pre .1),
+      (omega (arith, length-replicate {A = ℕ} 48 0), omega (arith, length-replicate {A = ℕ} 48 0)),
     )
 
 pub smallest-run-spec : {M : Type 1} → statement M
