@@ -1,5 +1,6 @@
 // The operations with work slices of their own, as the C calls want them: as long as the limits and the texts ask, in a few lengths,
-// since clearing long ones would show in the time of a call. The shortest is enough for every text at the smallest set of limits.
+// since clearing long ones would show in the time of a call. The shortest of this file is enough for every text at the smallest set
+// of limits; short texts are tried before in slices for few values, and what is accepted so is accepted at the set too.
 ghost use mathlib.Core.Path.{_≡_};
 ghost use mathlib.Core.Bool.{false};
 ghost use mathlib.Core.List.{[], _∷_};
@@ -9,6 +10,9 @@ ghost use Rattle.definitions.specs.Operations.{admits-judged, check-judged, run
 ghost use Rattle.definitions.specs.WorkSlices.{for-document, for-shape-document, for-grown-document, for-two-shapes, for-grown-shapes};
 ghost use Rattle.definitions.specs.WorkSlices.{for-reader-shape, for-reader-document};
 ghost use Rattle.slices.specs.Small.{Small};
+
+mod few; // slices for short texts of few values
+
 use definitions::Answer;
 use definitions::Format;
 use definitions::Limits;
@@ -77,8 +81,8 @@ fn long_plain(format: Format, limits: Limits, document: &[u8], output: &mut [u8]
     perform::plain(format, document, output, &mut nodes, &mut pool, limits)
 }
 
-// `plain` with work slices of its own.
-pub fn plain(format: Format, limits: Limits, document: &[u8], output: &mut [u8]) -> Answer
+// `plain` in work slices for as many values as the document may have.
+fn full_plain(format: Format, limits: Limits, document: &[u8], output: &mut [u8]) -> Answer
     requires { ⌜ Small limits ⌝ }
     ensures answered { λ r. ⌜ r ≡ finish (now (output .entry)) (plain-judged (source format) limits (now (document .entry))) .answer ⌝ }
     ensures written { λ _. ⌜ now (output .exit) ≡
@@ -98,6 +102,23 @@ pub fn plain(format: Format, limits: Limits, document: &[u8], output: &mut [u8])
         return middle_plain(format, limits, document, output);
     }
     long_plain(format, limits, document, output)
+}
+
+// `plain` with work slices of its own.
+// A short document is tried for few values first.
+pub fn plain(format: Format, limits: Limits, document: &[u8], output: &mut [u8]) -> Answer
+    requires { ⌜ Small limits ⌝ }
+    ensures answered { λ r. ⌜ r ≡ finish (now (output .entry)) (plain-judged (source format) limits (now (document .entry))) .answer ⌝ }
+    ensures written { λ _. ⌜ now (output .exit) ≡
+        finish (now (output .entry)) (plain-judged (source format) limits (now (document .entry))) .output ⌝ }
+{
+    if document.len() < 384 {
+        let tried = few::plain(format, slices::fewer(limits, 32), document, output);
+        if tried.number == 0 {
+            return tried;
+        }
+    }
+    full_plain(format, limits, document, output)
 }
 
 // `infer` in work slices as short as at the smallest set of limits.
@@ -249,8 +270,8 @@ fn long_infer(
     )
 }
 
-// `infer` with work slices of its own.
-pub fn infer(
+// `infer` in work slices for as many values as the texts may have.
+fn full_infer(
     format: Format,
     limits: Limits,
     shape: &[u8],
@@ -278,6 +299,32 @@ pub fn infer(
         return short_shape_infer(format, limits, shape, document, output);
     }
     long_infer(format, limits, shape, document, output)
+}
+
+// `infer` with work slices of its own.
+// Short texts are tried for few values first.
+pub fn infer(
+    format: Format,
+    limits: Limits,
+    shape: &[u8],
+    document: &[u8],
+    output: &mut [u8],
+) -> Answer
+    requires { ⌜ Small limits ⌝ }
+    ensures answered { λ r. ⌜ r ≡
+        finish (now (output .entry)) (infer-judged (source format) limits (now (shape .entry)) (now (document .entry))) .answer ⌝ }
+    ensures written { λ _. ⌜ now (output .exit) ≡
+        finish (now (output .entry)) (infer-judged (source format) limits (now (shape .entry)) (now (document .entry))) .output ⌝ }
+{
+    if shape.len() < 768 {
+        if document.len() < 384 {
+            let tried = few::infer(format, slices::fewer(limits, 32), shape, document, output);
+            if tried.number == 0 {
+                return tried;
+            }
+        }
+    }
+    full_infer(format, limits, shape, document, output)
 }
 
 // `join` in work slices as short as at the smallest set of limits.
@@ -498,8 +545,8 @@ fn long_admits(format: Format, limits: Limits, shape: &[u8], document: &[u8]) ->
     )
 }
 
-// `admits` with work slices of its own.
-pub fn admits(format: Format, limits: Limits, shape: &[u8], document: &[u8]) -> Answer
+// `admits` in work slices for as many values as the texts may have.
+fn full_admits(format: Format, limits: Limits, shape: &[u8], document: &[u8]) -> Answer
     requires { ⌜ Small limits ⌝ }
     ensures answered { λ r. ⌜ r ≡ say (admits-judged (source format) limits (now (shape .entry)) (now (document .entry))) ⌝ }
 {
@@ -518,6 +565,23 @@ pub fn admits(format: Format, limits: Limits, shape: &[u8], document: &[u8]) -> 
         return short_shape_admits(format, limits, shape, document);
     }
     long_admits(format, limits, shape, document)
+}
+
+// `admits` with work slices of its own.
+// Short texts are tried for few values first.
+pub fn admits(format: Format, limits: Limits, shape: &[u8], document: &[u8]) -> Answer
+    requires { ⌜ Small limits ⌝ }
+    ensures answered { λ r. ⌜ r ≡ say (admits-judged (source format) limits (now (shape .entry)) (now (document .entry))) ⌝ }
+{
+    if shape.len() < 768 {
+        if document.len() < 384 {
+            let tried = few::admits(format, slices::fewer(limits, 32), shape, document);
+            if tried.number == 0 {
+                return tried;
+            }
+        }
+    }
+    full_admits(format, limits, shape, document)
 }
 
 // `check` in work slices as short as at the smallest set of limits.
@@ -813,8 +877,8 @@ fn long_run(
     )
 }
 
-// `run` with work slices of its own.
-pub fn run(
+// `run` in work slices for as many values as the texts may have.
+fn full_run(
     format: Format,
     limits: Limits,
     reader: &[u8],
@@ -842,4 +906,30 @@ pub fn run(
         return short_reader_run(format, limits, reader, document, output);
     }
     long_run(format, limits, reader, document, output)
+}
+
+// `run` with work slices of its own.
+// Short texts are tried for few values first.
+pub fn run(
+    format: Format,
+    limits: Limits,
+    reader: &[u8],
+    document: &[u8],
+    output: &mut [u8],
+) -> Answer
+    requires { ⌜ Small limits ⌝ }
+    ensures answered { λ r. ⌜ r ≡
+        finish (now (output .entry)) (run-judged (source format) limits (now (reader .entry)) (now (document .entry))) .answer ⌝ }
+    ensures written { λ _. ⌜ now (output .exit) ≡
+        finish (now (output .entry)) (run-judged (source format) limits (now (reader .entry)) (now (document .entry))) .output ⌝ }
+{
+    if reader.len() < 384 {
+        if document.len() < 384 {
+            let tried = few::run(format, slices::fewer(limits, 32), reader, document, output);
+            if tried.number == 0 {
+                return tried;
+            }
+        }
+    }
+    full_run(format, limits, reader, document, output)
 }

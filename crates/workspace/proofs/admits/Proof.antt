@@ -1,32 +1,21 @@
--- `workspace::admits` meets its contract. Assumes nothing.
+-- `workspace::admits` meets its contract: what is accepted under fewer values is so at the set itself. Assumes nothing.
 use borrow.Author.Needs.{needs}
-use mathlib.Core.Path.{sym, _∙_}
-use Rattle.laws.specs.Bools.{not-true}
+use native.Mathlib.Omega.{arith}
+use Rattle.workspace.proofs.Trying.{few-small, few-shape-document, admits-tried, said-accepted}
 use Rattle.workspace.proofs.admits.Statement.{statement}
 use Rattle.workspace.proofs.admits.Tie as tie
 
-smallest : tie.Need-smallest-admits-requires
-smallest c κs =
-    let at-start = c .before .before .before .before in
-    (at-start .pre, sym (c .before .shape-document-short .ensures) ∙ not-true _ (c .if1 .taken))
+few : tie.Need-admits-requires
+few c κs =
+    let at-start = c .before .before .before .before .before in
+    (few-small _ _ (c .fewer .ensures) (at-start .pre), few-shape-document _ _ (c .fewer .ensures) _ _ (omega arith) (omega arith))
 
-shortest : tie.Need-shortest-admits-requires
-shortest c κs =
-    let at-start = c .before .before .before .before .before .before in
-    (at-start .pre, sym (c .before .shape-document-short2 .ensures) ∙ not-true _ (c .if2 .taken))
-
-short : tie.Need-short-admits-requires
-short c κs =
-    let at-start = c .before .before .before .before .before .before .before .before in
-    (at-start .pre, sym (c .before .shape-document-short3 .ensures) ∙ not-true _ (c .if3 .taken))
-
-short-shape : tie.Need-short-shape-admits-requires
-short-shape c κs =
-    let after-shape-document-short2 = c .before .before .before .before .before in
-    let at-start = after-shape-document-short2 .before .before .before .before .before in
-    (at-start .pre, sym (c .before .shape-document-short4 .ensures) ∙ not-true _ (c .if4 .taken))
+accepts : tie.Need-returns
+accepts c =
+    let after-fewer = c .before .before .before in
+    let at-start = after-fewer .before .before .before .before .before in
+    said-accepted (admits-tried _ _ (after-fewer .fewer .ensures) (at-start .args .format) (at-start .args .shape .now) (at-start .args .document .now))
+    (c .before .before .admits .ensures) (c .if3 .taken)
 
 pub admits-spec : {M : Type 1} → statement M
-admits-spec =
-    tie.close (tie.spec (λ c κs. search needs) smallest (λ c. search needs) (λ c κs. search needs) shortest (λ c. search needs) (λ c κs. search needs) short
-    (λ c. search needs) (λ c κs. search needs) short-shape (λ c. search needs) (λ c κs. search needs) (λ c. search needs))
+admits-spec = tie.close (tie.spec (λ c κs. search needs) few accepts (λ c κs. search needs) (λ c. search needs))
