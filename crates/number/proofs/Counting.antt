@@ -5,20 +5,52 @@ use native.Mathlib.Omega.{arith}
 use mathlib.Core.Path.{_≡_, refl, sym, ap, _∙_}
 use mathlib.Core.Logic.{⊎-elim}
 use mathlib.Core.Bool.{Bool, true, _&&_}
+use mathlib.Core.List.{List, [], _∷_}
 use borrow.Author.Tests.{leb-true}
 use lib.Arith.{lt-of-le-ne}
 use lib.Bits.{bitOr, or-add-and, and-mask, or-lt}
 use lib.Count.{leadingZeros, leading-top}
 use lib.Dec.{leb}
-use lib.ListN.{length}
+use lib.ListN.{length, getD}
 use Rattle.definitions.specs.Plain.{decimal}
-use Rattle.pool.specs.LaneLaws.{and-parts}
+use Rattle.pool.specs.Lanes.{agree}
+use Rattle.pool.specs.LaneLaws.{and-parts, byte-rule}
 use Rattle.number.specs.DecimalLaws.{Size, one-digit, more-digits, size, length-small, length-large, length-more, length-most}
 
 -- ---- the table of powers
 
-pub power-at : (k a : ℕ) → k ≡ a → 10 ^ a ≡ 10 ^ k
-power-at k a e = ap (λ (i : ℕ). 10 ^ i) (sym e)
+abbrev powers : List ℕ
+powers =
+    1
+    ∷ 10
+    ∷ 100
+    ∷ 1000
+    ∷ 10000
+    ∷ 100000
+    ∷ 1000000
+    ∷ 10000000
+    ∷ 100000000
+    ∷ 1000000000
+    ∷ 10000000000
+    ∷ 100000000000
+    ∷ 1000000000000
+    ∷ 10000000000000
+    ∷ 100000000000000
+    ∷ 1000000000000000
+    ∷ 10000000000000000
+    ∷ 100000000000000000
+    ∷ 1000000000000000000
+    ∷ 10000000000000000000
+    ∷ []
+
+-- its rule, computed over the whole table at once: what stands at a place, if anything does, is that power of ten
+power-rule : (a : ℕ) → a < 256 → getD powers a (10 ^ a) ≡ 10 ^ a
+unfolding agree
+power-rule = byte-rule (λ (a : ℕ). getD powers a (10 ^ a)) (λ (a : ℕ). 10 ^ a) refl
+
+-- the entry that stands for k
+pub power-at : (k a : ℕ) → k ≤ 19 → k ≡ a → getD powers a (10 ^ a) ≡ 10 ^ k
+power-at k a h e = power-rule a (omega arith) ∙ ap (λ (i : ℕ). 10 ^ i) (sym e)
 
 -- k is none of the first n numbers
 abbrev pub Past : ℕ → ℕ → Type 0

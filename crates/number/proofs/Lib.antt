@@ -5,6 +5,9 @@ pub mod Reading
 pub mod DigitRuns
 pub mod Counting
 pub mod EightDigits
+pub mod EightBytes
+pub mod Quotients
+pub mod DigitGroups
 pub mod DigitValues
 pub mod Parts
 pub mod DigitLanes

@@ -6,3 +6,4 @@ pub mod NumberCode
 pub mod NumberLaws
 pub mod DecimalLaws
 pub mod NumberWord
+pub mod NumberGroups

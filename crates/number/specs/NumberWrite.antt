@@ -1,12 +1,12 @@
 -- What writing a number as plain JSON does to a buffer. Assumes nothing.
-use Prim.Native.Nat.{ℕ, _+_, _≤_}
+use Prim.Native.Nat.{ℕ, _+_, _/_, _^_, _≤_}
 use mathlib.Core.Path.{_≡_}
 use mathlib.Core.Bool.{Bool}
-use mathlib.Core.List.{_++_}
+use mathlib.Core.List.{[], _++_}
 use lib.ListN.{length, take, drop}
 use Rattle.definitions.specs.Bytes.{Bytes}
 use Rattle.definitions.specs.Number.{Number, most-coefficient, most-scale}
-use Rattle.definitions.specs.Plain.{plain-number}
+use Rattle.definitions.specs.Plain.{last-digits, fraction, plain-number}
 
 -- a number from its sign, its coefficient and its scale
 abbrev pub as-number : Bool → ℕ → ℕ → Number
@@ -30,3 +30,7 @@ pub record Writes-number (entry : Bytes) (at : ℕ) (x : Number) (exit : Bytes) 
 pub record Writes (entry : Bytes) (at : ℕ) (s : Bytes) (exit : Bytes) (left : ℕ) (r : ℕ) : Type 0 where
   pub kept : exit ≡ written entry at s
   pub rest : r ≡ left
+
+-- a buffer with the fraction of c behind so many digits, and the digits of its integer part before that, from a place on
+abbrev pub unsigned-written : Bytes → (at digits scale c : ℕ) → Bytes
+unsigned-written out at digits scale c = written (written out (at + digits) (fraction scale c)) at (last-digits digits (c / 10 ^ scale) [])

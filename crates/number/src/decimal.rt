@@ -1,12 +1,11 @@
-// The parts of a number as plain JSON, a minus, the digits of the integer part and a fraction: how long each is, and
-// writing it.
+// The table of powers of ten, and the parts of a number as plain JSON, a minus, the digits of the integer part and a fraction:
+// how long each is.
 ghost use mathlib.Core.Path.{_≡_};
-ghost use mathlib.Core.List.{[]};
 ghost use Prim.Native.Nat.{ℕ, _+_, _/_, _^_, _≤_};
 ghost use lib.ListN.{length};
 ghost use Rattle.definitions.specs.Number.{most-coefficient, most-scale};
-ghost use Rattle.definitions.specs.Plain.{decimal, last-digits, fraction, minus};
-ghost use Rattle.number.specs.NumberWrite.{Writes, written};
+ghost use Rattle.definitions.specs.Plain.{decimal, fraction, minus};
+ghost use Rattle.number.specs.NumberWrite.{written};
 
 // Ten to the power of up to nineteen.
 pub fn power(k: usize) -> u64
@@ -72,34 +71,6 @@ pub fn fraction_length(scale: u64) -> usize
         return 0;
     }
     1 + scale as usize
-}
-
-// Writes the last `count` digits of a value, from the right, and gives what is left of it before them.
-pub fn write_digits(out: &mut [u8], at: usize, count: usize, value: u64) -> u64
-    requires { ⌜ at + count ≤ length (now out) ⌝ }
-    ensures { λ r. ⌜ Writes (now (out .entry)) at (last-digits count value []) (now (out .exit)) (value / 10 ^ count) r ⌝ }
-{
-    let mut left = count;
-    let mut n = value;
-    while 0 < left {
-        left -= 1;
-        out[at + left] = (48 + n % 10) as u8;
-        n /= 10;
-    }
-    n
-}
-
-// Writes the fraction and gives the integer part.
-pub fn write_fraction(out: &mut [u8], at: usize, scale: u64, coefficient: u64) -> u64
-    requires { ⌜ at + length (fraction scale coefficient) ≤ length (now out) ⌝ }
-    ensures { λ r. ⌜ Writes (now (out .entry)) at (fraction scale coefficient) (now (out .exit)) (coefficient / 10 ^ scale) r ⌝ }
-{
-    if scale == 0 {
-        return coefficient;
-    }
-    let whole = write_digits(out, at + 1, scale as usize, coefficient);
-    out[at] = b'.';
-    whole
 }
 
 pub fn write_minus(out: &mut [u8], at: usize, negative: bool)

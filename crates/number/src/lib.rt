@@ -1,24 +1,28 @@
-// Numbers: read from a document as RFC 8259 has them, and written as plain JSON.
+// Numbers: read from a document as RFC 8259 has them, here, and written as plain JSON (`write`).
 ghost use mathlib.Core.Path.{_≡_};
 ghost use mathlib.Core.Bool.{false};
 ghost use Prim.Native.Nat.{ℕ, _+_, _/_, _^_, _≤_, _<_, min};
 ghost use lib.ListN.{length, getD};
 ghost use Rattle.definitions.specs.Number.{Numeral, most-scale};
-ghost use Rattle.definitions.specs.Plain.{plain-number};
 ghost use Rattle.number.specs.NumberRead.{Reads-number, Reads-on, numeral};
 ghost use Rattle.number.specs.NumberCode.{Answers, Stands-for, Stands-at, Quiet, Settles, Whole-end};
 ghost use Rattle.number.specs.NumberCode.{Fraction-end, behind-minus, phase-of, past-coefficient};
-ghost use Rattle.number.specs.NumberWrite.{Bounded, Writes-number, as-number};
 
 mod decimal;
 mod digits;
+mod groups;
 mod numeral;
 mod phase;
+mod places;
+mod short;
 pub mod word; // numbers that are whole words
+mod write;
 
 use numeral::CappedNumeral;
 use phase::NumberPhase;
 use phase::NumberStep;
+pub use write::number_length;
+pub use write::write_number;
 
 // What reading a number comes to.
 pub struct NumberRead {
@@ -171,35 +175,4 @@ pub fn whole_part(coefficient: u64, scale: u64) -> u64
     ensures { λ r. ⌜ r ≡ coefficient / 10 ^ scale ⌝ }
 {
     coefficient / decimal::power(scale as usize)
-}
-
-// How long a number is as plain JSON.
-pub fn number_length(negative: bool, coefficient: u64, scale: u64) -> usize
-    requires { ⌜ Bounded (as-number negative coefficient scale) ⌝ }
-    ensures { λ r. ⌜ r ≡ length (plain-number (as-number negative coefficient scale)) ⌝ }
-{
-    decimal::minus_length(negative)
-        + decimal::whole_length(coefficient, scale)
-        + decimal::fraction_length(scale)
-}
-
-// Writes a number as plain JSON at a place and gives the place behind it.
-pub fn write_number(
-    out: &mut [u8],
-    at: usize,
-    negative: bool,
-    coefficient: u64,
-    scale: u64,
-) -> usize
-    requires bounded { ⌜ Bounded (as-number negative coefficient scale) ⌝ }
-    requires room { ⌜ at + length (plain-number (as-number negative coefficient scale)) ≤ length (now out) ⌝ }
-    ensures { λ r. ⌜ Writes-number (now (out .entry)) at (as-number negative coefficient scale) (now (out .exit)) r ⌝ }
-{
-    let digits = decimal::whole_length(coefficient, scale);
-    let start = at + decimal::minus_length(negative);
-    let point = start + digits;
-    let whole = decimal::write_fraction(out, point, scale, coefficient);
-    decimal::write_digits(out, start, digits, whole);
-    decimal::write_minus(out, at, negative);
-    point + decimal::fraction_length(scale)
 }

@@ -6,6 +6,7 @@ mod case;
 mod chain;
 mod demand;
 mod library;
+mod numbers;
 mod report;
 mod sets;
 mod wrong;
@@ -76,6 +77,7 @@ fn main() -> ExitCode {
     for known in &library::OPERATIONS {
         compare(&plan, known, &mut verdict);
     }
+    powers_of_ten(&mut verdict);
     chains(&plan, &mut verdict);
     demand_3(&plan, &mut verdict);
     println!("{} passed, {} failed", verdict.passed, verdict.failed);
@@ -190,6 +192,20 @@ fn show_numbers(known: &Known, tally: &Tally, verdict: &mut Verdict) {
             verdict.count(yes.min(no) >= answers / RARE);
         }
     }
+}
+
+/// Writes the numbers at each power of ten. A callee that is wrong has to be
+/// found first, and every case has to be an accepted call.
+fn powers_of_ten(verdict: &mut Verdict) {
+    let cases = numbers::cases();
+    let wrong = |case: &Case| case.left_by(wrong::ONE_SHORT) != case.stated();
+    verdict.count(cases.iter().any(wrong));
+    verdict.count(cases.len() == numbers::CASES);
+    let mut tally = Tally::default();
+    for case in &cases {
+        compare_one(case, &mut tally, verdict, || "tests/compare/run".into());
+    }
+    println!("powers of ten: {} calls", tally.calls);
 }
 
 /// Infers the shapes of rows of samples, in several orders. A callee that is

@@ -35,6 +35,20 @@ pub const RUNS_TO_NULL: Callee = |o, mut lent| match right(o, &mut lent) {
     number => number,
 };
 
+/// A number writer whose quotient by ten to the sixteenth stays one short.
+pub const ONE_SHORT: Callee = |o, mut lent| {
+    let number = right(o, &mut lent);
+    let sixteen = b"10000000000000000";
+    let at = lent
+        .output
+        .windows(sixteen.len())
+        .position(|s| s == sixteen);
+    if let (0, Some(at)) = (number, at) {
+        flip(lent.output.get_mut(at));
+    }
+    number
+};
+
 /// What is wrong with a callee, of which operation, and the callee.
 pub const WRONG: [(&str, Operation, Callee); 59] = [
     (

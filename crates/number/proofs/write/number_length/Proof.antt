@@ -1,10 +1,10 @@
--- `number::number_length` meets its contract: the length is the sum of the parts'. Assumes nothing.
+-- `number::write::number_length` meets its contract: the length is the sum of the parts'. Assumes nothing.
 use borrow.Author.Needs.{needs}
 use native.Mathlib.Omega.{arith}
 use Rattle.number.specs.NumberWrite.{as-number}
 use Rattle.number.specs.DecimalLaws.{length-plain, plain-short}
-use Rattle.number.proofs.number_length.Statement.{statement}
-use Rattle.number.proofs.number_length.Tie as tie
+use Rattle.number.proofs.write.number_length.Statement.{statement}
+use Rattle.number.proofs.write.number_length.Tie as tie
 
 add-result : tie.Need-add-result
 add-result c =
