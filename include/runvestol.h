@@ -101,13 +101,13 @@ extern "C" {
 /*
  * The bytes of stack that each call needs below its caller's frame, most of them its work slices
  * (docs/WORK-SLICES.md), and the most of these. tests/c measures each anew, on texts of as many levels as may be:
- *   plain     44,272 at the deepest, and at the smallest set 34,864
- *   infer     70,152                                         59,792
+ *   plain     44,288 at the deepest, and at the smallest set 34,880
+ *   infer     70,168                                         59,808
  *   join      64,608                                         51,616
  *   below     58,704                                         51,088
- *   admits    68,944                                         59,536
+ *   admits    68,976                                         59,568
  *   check     80,728                                         67,344
- *   run       91,680                                         79,584
+ *   run       91,712                                         79,616
  */
 #define RUNVESTOL_PLAIN_STACK_BYTES 49152
 #define RUNVESTOL_INFER_STACK_BYTES 73728
