@@ -20,6 +20,3 @@ pub mod Operations
 pub mod Calls
 pub mod WorkSlices
 pub mod Evaluate
-pub mod Samples
-pub mod MoreSamples
-pub mod RuleSamples

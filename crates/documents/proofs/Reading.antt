@@ -13,8 +13,8 @@ use Rattle.definitions.specs.declared.Format.TheVariants.{Json}
 use Rattle.definitions.specs.Operations.{Source, source}
 use Rattle.laws.specs.Judging.{text_long, text-reads, text_refused}
 use Rattle.laws.specs.Tests.{lt-ltb}
-use Rattle.laws.specs.RoundLaws.{json_read_good}
-use Rattle.laws.specs.JsonAdequate.{json_distinct}
+use Rattle.laws.proofs.RoundLaws.{json_read_good}
+use Rattle.laws.proofs.JsonAdequate.{json_distinct}
 use Rattle.json_reader.specs.declared.DocumentRead.{DocumentRead}
 use Rattle.json_reader.specs.declared.DocumentRead.TheVariants.{Read, Refused}
 use Rattle.json_reader.specs.JsonRead.{Tables, DocumentAnswer}

@@ -15,7 +15,7 @@ use Rattle.definitions.specs.Number.{Number, Numeral, number_of}
 use Rattle.definitions.specs.Reader.{word_number, index_fits}
 use Rattle.laws.specs.FormGrammar.{NumberWord, number_word}
 use Rattle.laws.specs.Rfc8259 as Rfc
-use Rattle.laws.specs.ReaderBacks.{number_read}
+use Rattle.laws.proofs.ReaderBacks.{number_read}
 use Rattle.number.specs.NumberWrite.{as_number}
 use Rattle.number.specs.NumberWord.{WordMeans}
 use Rattle.forms.specs.Forms.{slot}

@@ -13,7 +13,7 @@ use Rattle.definitions.specs.Reader.{Result, text_end, place_end, place_open, re
 use Rattle.definitions.specs.Reader.{place_depth, bindings, place_bindings, step, finished_result, finished_place}
 use Rattle.definitions.specs.Reader.{read_reader, read_place}
 use Rattle.laws.specs.FormGrammar.{result_forms, ReaderWithin, no_token}
-use Rattle.laws.specs.ReaderForms.{reader_from_start, reader_accepted_from}
+use Rattle.laws.proofs.ReaderForms.{reader_from_start, reader_accepted_from}
 use Rattle.nodes.specs.Nodes.{number_bits}
 use Rattle.forms.specs.Forms.{literal_code, form_code, form_operand, form_at, head_of, null_payload, PlaceRows, FormRows, literal_row}
 use Rattle.forms.specs.FormsLaws.{length_place_rows, length_form_rows}

@@ -22,7 +22,7 @@ use Rattle.definitions.specs.WorkSlices.{infer_slices}
 use Rattle.laws.specs.Judging.{Numbered, Positive, bind_positive, both_positive, shape_out_positive}
 use Rattle.laws.specs.Judging.{prelude_long, deliver_short, deliver_room, finish_zero, finish_written, front}
 use Rattle.laws.specs.Numbered.{numbered_shape}
-use Rattle.laws.specs.Theorems.{json_proper, standard_in_range}
+use Rattle.laws.proofs.Theorems.{json_proper, standard_in_range}
 use Rattle.slices.specs.Long.{three_long}
 use Rattle.text.specs.Writes.{Writes}
 use Rattle.text.specs.WritesLaws.{writes_then, writes_as}

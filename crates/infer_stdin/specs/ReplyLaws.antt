@@ -19,7 +19,7 @@ use Rattle.laws.specs.Tests.{lt-ltb}
 use Rattle.laws.specs.JoinLaws.{join_nothing_left}
 use Rattle.laws.specs.Judging.{bind_of, bind_stopped, second_stops, both_pass, text_long, text_refused, text-reads}
 use Rattle.laws.specs.Judging.{shape_over, shape_out_over, shape_out_fits, shape_fits, finish_written, front}
-use Rattle.laws.specs.Theorems.{json_proper}
+use Rattle.laws.proofs.Theorems.{json_proper}
 use Rattle.infer_stdin.specs.Reply.{refused_line, told, reply_to}
 
 -- ---- what is told of an operation

@@ -13,9 +13,9 @@ use Rattle.definitions.specs.Reader.{Result, read_reader}
 use Rattle.definitions.specs.Operations.{Reading, Source, judge_both, stopped, refusal}
 use Rattle.definitions.specs.WorkSlices.{name_words, text_words, most_reader_forms, reader_texts}
 use Rattle.laws.specs.Tests.{lt-ltb}
-use Rattle.laws.specs.ReaderForms.{reader_accepted_to}
-use Rattle.laws.specs.ReaderFacts.{reader_proper}
-use Rattle.laws.specs.RoundReaderRead.{reader_read_good}
+use Rattle.laws.proofs.ReaderForms.{reader_accepted_to}
+use Rattle.laws.proofs.ReaderFacts.{reader_proper}
+use Rattle.laws.proofs.RoundReaderRead.{reader_read_good}
 use Rattle.laws.specs.Judging.{text_long, text-reads, text_refused, first_stops, second_stops, both_pass}
 use Rattle.laws.specs.FormGrammar.{result_forms, result_levels, ReaderWithin, one_form, no_token}
 use Rattle.forms.specs.Forms.{FormRows}

@@ -11,7 +11,7 @@ use Rattle.definitions.specs.Shape.{Shape}
 use Rattle.definitions.specs.ShapeText.{read_shape}
 use Rattle.definitions.specs.WorkSlices.{name_words}
 use Rattle.laws.specs.Tests.{lt-ltb}
-use Rattle.laws.specs.ShapeForms.{shape_accepted_to, shape_ascending}
+use Rattle.laws.proofs.ShapeForms.{shape_accepted_to, shape_ascending}
 use Rattle.laws.specs.Judging.{text_long, text-reads, text_refused}
 use Rattle.shapes.specs.Shapes.{ShapeRows}
 use Rattle.shapes.specs.ShapesLaws.{shape_rows_grow}

@@ -12,8 +12,8 @@ use Rattle.definitions.specs.Bytes.{Bytes, bytes, look}
 use Rattle.definitions.specs.Number.{Numeral, most_coefficient, most_scale, no_digits, beyond, number_of, Phase, begin, after_minus}
 use Rattle.definitions.specs.Number.{after_zero, in_int, after_point, in_frac, after_e, after_sign, in_exp, next, complete, extend, shifted}
 use Rattle.definitions.specs.Plain.{decimal, minus, plain_number}
-use Rattle.laws.specs.NumberSteps as Steps
-use Rattle.laws.specs.NumberSteps.{Step, look_step}
+use Rattle.laws.proofs.NumberSteps as Steps
+use Rattle.laws.proofs.NumberSteps.{Step, look_step}
 use Rattle.number.specs.NumberRun.{longest}
 use Rattle.number.specs.NumberRead.{ReadsNumber, run_at, number_in}
 use Rattle.number.specs.NumberLaws.{longest_on, longest_off}

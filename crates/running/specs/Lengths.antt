@@ -5,7 +5,7 @@ use Rattle.definitions.specs.Bytes.{Bytes, bytes}
 use Rattle.definitions.specs.Value.{Value, Items, no_items, item, Members, no_members, member, size, size_items, size_members}
 use Rattle.definitions.specs.Json.{true_name, false_name, null_name}
 use Rattle.definitions.specs.Plain.{plain_text, plain_bool, plain}
-use Rattle.laws.specs.StringWritten.{plain_most}
+use Rattle.laws.proofs.StringWritten.{plain_most}
 use Rattle.pool.specs.Pool.{words}
 use Rattle.number.specs.DecimalLaws.{plain_short}
 use Rattle.nodes.specs.Nodes.{Refers, refers, Rows, null_row, bool_row, number_row, text_row, list_rows, rec_rows, ItemRows, no_item_rows, item_rows}

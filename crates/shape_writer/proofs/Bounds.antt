@@ -10,7 +10,7 @@ use Rattle.definitions.specs.Shape.{all_kinds, Shape, shape, Element, no_list, l
 use Rattle.definitions.specs.Shape.{Fields, no_fields, field, forms, forms_element, forms_record, forms_fields}
 use Rattle.definitions.specs.Plain.{plain_text}
 use Rattle.definitions.specs.ShapeText.{write, write_element, write_record, write_fields, write-kinds, new_line}
-use Rattle.laws.specs.StringWritten.{plain_most}
+use Rattle.laws.proofs.StringWritten.{plain_most}
 use Rattle.pool.specs.Pool.{words}
 use Rattle.nodes.specs.Nodes.{Refers, refers}
 use Rattle.shapes.specs.Shapes.{kind_bits, has_bit, ShapeRows, shape_rows, ElementRows, no_element_rows, element_rows}

@@ -13,7 +13,7 @@ use Rattle.definitions.specs.Text.{Inside, more, head_step, char_step, behind_ta
 use Rattle.definitions.specs.Plain.{escaped_all}
 use Rattle.laws.specs.Rfc3629.{In}
 use Rattle.laws.specs.Ranges.{look_hit, in_between, out_between, between_out, ne_is}
-use Rattle.laws.specs.StringRows.{Heads, head_c2, head_e0, head_e1, head_ed, head_ee, head_f0, head_f1, head_f4, hit_heads, heads_look, heads_above}
+use Rattle.laws.proofs.StringRows.{Heads, head_c2, head_e0, head_e1, head_ed, head_ee, head_f0, head_f1, head_f4, hit_heads, heads_look, heads_above}
 use Rattle.text.specs.TextRun.{text_run}
 use Rattle.text.specs.TextParts.{Breaks, WideRead, ReadsWide}
 use Rattle.text.specs.declared.wide.Wide.{Wide}

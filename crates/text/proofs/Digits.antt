@@ -12,7 +12,7 @@ use native.Mathlib.Omega.{arith}
 use Rattle.definitions.specs.Bytes.{Bytes, between, found}
 use Rattle.definitions.specs.Text.{Inside, wrong, digit_fits, unicode, digit_step, text_step}
 use Rattle.laws.specs.Ranges.{lt_or_le, le-leb, gt_leb, leb_le, eqb_eq, eq-eqb}
-use Rattle.laws.specs.StringThrough as through
+use Rattle.laws.proofs.StringThrough as through
 use Rattle.laws.specs.Bools.{and_left}
 use Rattle.text.specs.TextRun.{TextEnd, text_run}
 use Rattle.text.specs.TextParts.{hex_value, fits_as, onward, Breaks, DigitsRead}

@@ -12,9 +12,9 @@ use Rattle.definitions.specs.Bytes.{Bytes, bytes, look}
 use Rattle.definitions.specs.Utf8.{encode}
 use Rattle.definitions.specs.Plain.{short_escapes, escaped, escaped_all, plain_text}
 use Rattle.laws.specs.Ranges.{Hit, here, there, look_hit, le-leb, gt_leb, lt_or_le}
-use Rattle.laws.specs.StringUtf8.{encode_1, encode_2, encode_3, encode_4}
-use Rattle.laws.specs.StringWritten.{Written, as_short, as_hex, as_itself, written, written_length}
-use Rattle.laws.specs.StringWritten.{written_plain, escaped_high_2, escaped_high_3, escaped_high_4}
+use Rattle.laws.proofs.StringUtf8.{encode_1, encode_2, encode_3, encode_4}
+use Rattle.laws.proofs.StringWritten.{Written, as_short, as_hex, as_itself, written, written_length}
+use Rattle.laws.proofs.StringWritten.{written_plain, escaped_high_2, escaped_high_3, escaped_high_4}
 use Rattle.text.specs.TextParts.{short_form, hex_escape}
 use Rattle.text.proofs.Tables.{Misses, misses_look}
 

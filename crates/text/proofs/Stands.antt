@@ -14,8 +14,8 @@ use Rattle.definitions.specs.Text.{Inside, behind_tail}
 use Rattle.definitions.specs.Plain.{escaped_all}
 use Rattle.laws.specs.Rfc3629.{In}
 use Rattle.laws.specs.Ranges.{lt_or_le}
-use Rattle.laws.specs.StringRows.{Heads, head_c2, head_e0, head_e1, head_ed, head_ee, head_f0, head_f1, head_f4, heads_above}
-use Rattle.laws.specs.StringWritten.{escaped_high_2, escaped_high_3, escaped_high_4}
+use Rattle.laws.proofs.StringRows.{Heads, head_c2, head_e0, head_e1, head_ed, head_ee, head_f0, head_f1, head_f4, heads_above}
+use Rattle.laws.proofs.StringWritten.{escaped_high_2, escaped_high_3, escaped_high_4}
 use Rattle.pool.specs.Pool.{unpacked}
 use Rattle.pool.specs.PoolLaws.{length_unpacked}
 use Rattle.pool.specs.Lanes.{lane}

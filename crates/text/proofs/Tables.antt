@@ -17,8 +17,8 @@ use Rattle.laws.specs.Rfc3629.{In}
 use Rattle.laws.specs.Ranges.{Hits, hits_look, look_hit, out_between, in_between, between_in, eqb_ne, ne_eqb}
 use Rattle.laws.specs.Rfc8259 as Rfc
 use Rattle.laws.specs.Bools.{clash, and_left, and_right, not_true}
-use Rattle.laws.specs.StringRows.{Escapes, short_escape, hex_escape, hit_escapes, hit_hexdig}
-use Rattle.laws.specs.StringSound.{hexdig_under}
+use Rattle.laws.proofs.StringRows.{Escapes, short_escape, hex_escape, hit_escapes, hit_hexdig}
+use Rattle.laws.proofs.StringSound.{hexdig_under}
 use Rattle.text.specs.TextParts.{plain_ascii, hex_value, escape_value}
 
 -- ---- look

@@ -13,8 +13,8 @@ use Rattle.definitions.specs.Bytes.{Bytes}
 use Rattle.definitions.specs.Tokens.{no_word, outside, lex}
 use Rattle.laws.specs.Rfc8259.{ws_char}
 use Rattle.laws.specs.TokenGrammar.{WordByte, WordBytes, no_bytes}
-use Rattle.laws.specs.TokenLexing.{lex_white}
-use Rattle.laws.specs.TokenLaws.{word_bytes_more}
+use Rattle.laws.proofs.TokenLexing.{lex_white}
+use Rattle.laws.proofs.TokenLaws.{word_bytes_more}
 use Rattle.tokens.specs.TokenRead.{SpaceAnswer, BorderAnswer, tokens_from, Skips, Runs}
 
 -- ---- one byte

@@ -13,11 +13,11 @@ use Rattle.definitions.specs.Text.{Inside, TextMove, wrong, more, closed, text_s
 use Rattle.definitions.specs.Tokens.{Token, opening, closing, quoted, word, broken, Placed, at_place, Border, border_table}
 use Rattle.definitions.specs.Tokens.{no_word, word_from, outside, inside, ended, longer, lex}
 use Rattle.laws.specs.FormGrammar.{at}
-use Rattle.laws.specs.LexLaws.{lex_open, lex_close, lex_longer}
+use Rattle.laws.proofs.LexLaws.{lex_open, lex_close, lex_longer}
 use Rattle.laws.specs.Rfc8259.{ws_char}
 use Rattle.laws.specs.TokenGrammar.{WordByte, WordBytes, next_byte, Word, a_word, WordEnd, at_the_end, at_a_border}
-use Rattle.laws.specs.TokenLexing.{Bounds, bounds_space, bounds_open, bounds_close, bounds_quote, border_bounds, none_word_byte}
-use Rattle.laws.specs.TokenLexing.{lex_ended, lex_quote, lex_word_at}
+use Rattle.laws.proofs.TokenLexing.{Bounds, bounds_space, bounds_open, bounds_close, bounds_quote, border_bounds, none_word_byte}
+use Rattle.laws.proofs.TokenLexing.{lex_ended, lex_quote, lex_word_at}
 use Rattle.pool.specs.Pool.{words, text_in}
 use Rattle.pool.specs.PoolLaws.{words_mono}
 use Rattle.text.specs.TextRead.{TextClosed, TextBroken}

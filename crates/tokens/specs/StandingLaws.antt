@@ -7,11 +7,11 @@ use Rattle.std.proofs.Math.ListN.{length}
 use Rattle.definitions.specs.Bytes.{Bytes}
 use Rattle.definitions.specs.Tokens.{Token, opening, closing, word, at_place, no_word, outside, lex}
 use Rattle.laws.specs.Bools.{and_two}
-use Rattle.laws.specs.LexLaws.{lex_open, lex_close, lex_space}
+use Rattle.laws.proofs.LexLaws.{lex_open, lex_close, lex_space}
 use Rattle.laws.specs.Rfc8259.{ws_char}
 use Rattle.laws.specs.Tests.{ltb_lt}
 use Rattle.laws.specs.TokenGrammar.{WordByte, WordBytes, no_bytes, next_byte, Word, a_word, WordEnd, at_a_border}
-use Rattle.laws.specs.TokenLexing.{lex_word_at}
+use Rattle.laws.proofs.TokenLexing.{lex_word_at}
 use Rattle.tokens.specs.TokenRead.{tokens_from, Skips, Found}
 use Rattle.tokens.specs.Standing.{StandsAt}
 

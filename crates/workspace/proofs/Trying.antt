@@ -22,9 +22,9 @@ use Rattle.laws.specs.Chain.{ProperSource}
 use Rattle.laws.specs.Ends.{Comes, finishes_as}
 use Rattle.laws.specs.Judging.{Positive, finish_zero, deliver_short, deliver_room}
 use Rattle.laws.specs.Larger.{Larger, ReadsOn}
-use Rattle.laws.specs.LargerLimits.{json_reads_on, plain_kept, infer_kept, admits_kept, run_kept}
-use Rattle.laws.specs.Positives.{source_numbered, plain_positive, infer_positive, admits_positive, run_positive}
-use Rattle.laws.specs.Theorems.{json_proper}
+use Rattle.laws.proofs.LargerLimits.{json_reads_on, plain_kept, infer_kept, admits_kept, run_kept}
+use Rattle.laws.proofs.Positives.{source_numbered, plain_positive, infer_positive, admits_positive, run_positive}
+use Rattle.laws.proofs.Theorems.{json_proper}
 use Rattle.slices.specs.Fewer.{with_values}
 use Rattle.slices.specs.Small.{Small}
 use Rattle.slices.specs.Long.{two_long, three_long, five_long}

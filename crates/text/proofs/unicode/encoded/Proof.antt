@@ -1,7 +1,7 @@
 -- `text::unicode::encoded` meets its contract: a branch of `encode` for each answer. Assumes nothing.
 use mathlib.Core.List.{[], ◌∷◌}
 use Rattle.definitions.specs.Utf8.{encode}
-use Rattle.laws.specs.StringUtf8.{encode_1, encode_2, encode_3, encode_4}
+use Rattle.laws.proofs.StringUtf8.{encode_1, encode_2, encode_3, encode_4}
 use Rattle.text.proofs.Tables.{take_front}
 use borrow.Author.Rules.{rules}
 use native.Mathlib.Omega.{arith}

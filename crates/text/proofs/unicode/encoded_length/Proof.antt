@@ -1,7 +1,7 @@
 -- `text::unicode::encoded_length` meets its contract: a branch of `encode` for each answer. Assumes nothing.
 use mathlib.Core.Path.{sym, ap}
 use lib.ListN.{length}
-use Rattle.laws.specs.StringUtf8.{encode_1, encode_2, encode_3, encode_4}
+use Rattle.laws.proofs.StringUtf8.{encode_1, encode_2, encode_3, encode_4}
 use native.Mathlib.Omega.{arith}
 use Rattle.text.proofs.unicode.encoded_length.Statement.{statement}
 use Rattle.text.proofs.unicode.encoded_length.Tie as tie

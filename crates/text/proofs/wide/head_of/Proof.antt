@@ -1,7 +1,7 @@
 -- `text::wide::head_of` meets its contract: a row of `head_table` for each answer. Assumes nothing.
 use mathlib.Core.Path.{sym}
 use mathlib.Core.Logic.{inl, inr}
-use Rattle.laws.specs.StringRows.{head_c2, head_e0, head_e1, head_ed, head_ee, head_f0, head_f1, head_f4, heads_look}
+use Rattle.laws.proofs.StringRows.{head_c2, head_e0, head_e1, head_ed, head_ee, head_f0, head_f1, head_f4, heads_look}
 use Rattle.text.specs.TextParts.{head_as}
 use Rattle.text.proofs.Characters.{head_none}
 use native.Mathlib.Omega.{arith}
