@@ -1,12 +1,10 @@
 // Texts in a lent slice of 64-bit words: eight bytes to a word, the first in the highest place, so that words compare as their bytes do.
-ghost use mathlib.Core.Path.{_≡_};
-ghost use mathlib.Core.List.{[], _∷_, _++_};
-ghost use Prim.Native.Nat.{_+_, _-_, _*_, _/_, _%_, _^_, _≤_, _<_, min};
-ghost use lib.ListN.{length, take, drop, replicate};
-ghost use Rattle·definitions.specs.Bytes.{order, same};
-ghost use Rattle·pool·specs.specs.Pool.{Put, unpacked, text-in, ordering-of};
+ghost use Rattle.std.specs.Prelude.{◌≡◌, [], ◌∷◌, ◌++◌, ◌+◌, ◌-◌, ◌*◌, ◌/◌, ◌%◌, ◌^◌, ◌≤◌, ◌<◌, min, length, take, drop, replicate};
+ghost use Rattle.definitions.specs.Bytes.{order, same};
+ghost use Rattle.pool.specs.Pool.{Put, unpacked, text_in, ordering_of};
 
 // How two texts stand in byte order.
+#[derive(Drop)]
 pub enum Comparison {
     Less,
     Equal,
@@ -15,14 +13,14 @@ pub enum Comparison {
 
 // How far up in its word the byte at place k stands, in bits.
 fn shift(k: usize) -> usize
-    ensures shifted { λ r. ⌜ r ≡ 56 - 8 * (k % 8) ⌝ }
+    ensures shifted { result ≡ 56 - 8 * (k % 8) }
 {
     56 - 8 * (k % 8)
 }
 
 // Eight bytes as a word: joined by `|`, so that the compiler makes one load of eight bytes that stand in a row.
 fn packed(a: u8, b: u8, c: u8, d: u8, e: u8, f: u8, g: u8, h: u8) -> u64
-    ensures packed { λ r. ⌜ unpacked r ≡ a ∷ b ∷ c ∷ d ∷ e ∷ f ∷ g ∷ h ∷ [] ⌝ }
+    ensures packed { unpacked result ≡ a ∷ b ∷ c ∷ d ∷ e ∷ f ∷ g ∷ h ∷ [] }
 {
     ((a as u64) << 56)
         | ((b as u64) << 48)
@@ -36,8 +34,8 @@ fn packed(a: u8, b: u8, c: u8, d: u8, e: u8, f: u8, g: u8, h: u8) -> u64
 
 // The eight bytes from place i on, as a word.
 pub fn word_at(bytes: &[u8], i: usize) -> u64
-    requires { ⌜ i + 8 ≤ length (now bytes) ⌝ }
-    ensures packed { λ r. ⌜ unpacked r ≡ take 8 (drop i (now (bytes .entry))) ⌝ }
+    requires { i + 8 ≤ length bytes.now }
+    ensures packed { unpacked result ≡ take 8 (drop i bytes.now) }
 {
     packed(
         bytes[i],
@@ -53,8 +51,8 @@ pub fn word_at(bytes: &[u8], i: usize) -> u64
 
 // A word with its first m bytes full and zeros behind them: a table, so that no shift hides from the compiler what a load can be made of.
 fn front_mask(m: usize) -> u64
-    requires { ⌜ m ≤ 8 ⌝ }
-    ensures masks { λ r. ⌜ r ≡ 2 ^ 64 - 2 ^ (64 - 8 * m) ⌝ }
+    requires { m ≤ 8 }
+    ensures masks { result ≡ 2 ^ 64 - 2 ^ (64 - 8 * m) }
 {
     match m {
         0 => 0,
@@ -71,16 +69,16 @@ fn front_mask(m: usize) -> u64
 
 // The first m bytes of a word, with zeros behind them.
 pub fn front(x: u64, m: usize) -> u64
-    requires { ⌜ m ≤ 8 ⌝ }
-    ensures cut { λ r. ⌜ unpacked r ≡ take m (unpacked x) ++ replicate (8 - m) 0 ⌝ }
+    requires { m ≤ 8 }
+    ensures cut { unpacked result ≡ take m (unpacked x) ++ replicate (8 - m) 0 }
 {
     x & front_mask(m)
 }
 
 // Puts b at place k, and zeros behind it in its word: a text is put byte by byte and is padded at each.
 pub fn put_byte(pool: &mut [u64], k: usize, b: u8)
-    requires { ⌜ k / 8 < length (now pool) ⌝ }
-    ensures put { λ r. ⌜ Put (now (pool .entry)) (now (pool .exit)) k b ⌝ }
+    requires { k / 8 < length pool.old }
+    ensures put { Put pool.old pool.new k b }
 {
     let i = k / 8;
     let s = shift(k);
@@ -90,14 +88,14 @@ pub fn put_byte(pool: &mut [u64], k: usize, b: u8)
 
 // The smaller of two numbers.
 fn least(a: usize, b: usize) -> usize
-    ensures chosen { λ r. ⌜ r ≡ min a b ⌝ }
+    ensures chosen { result ≡ min a b }
 {
     if a < b { a } else { b }
 }
 
 // How many of the n bytes from word w on the pool has.
 pub fn held(pool: &[u64], w: usize, n: usize) -> usize
-    ensures counted { λ r. ⌜ r ≡ length (text-in (now (pool .entry)) w n) ⌝ }
+    ensures counted { result ≡ length (text_in pool.now w n) }
 {
     if w < pool.len() {
         least(n, 8 * (pool.len() - w))
@@ -109,7 +107,7 @@ pub fn held(pool: &[u64], w: usize, n: usize) -> usize
 // Two texts in byte order, a word at a time; of the last word that both have bytes of, by the bytes that both have. Where a text
 // runs past the pool's end it is what the pool has of it.
 pub fn compare(pool: &[u64], w: usize, n: usize, v: usize, m: usize) -> Comparison
-    ensures compared { λ r. ⌜ ordering-of r ≡ order (text-in (now (pool .entry)) w n) (text-in (now (pool .entry)) v m) ⌝ }
+    ensures compared { ordering_of result ≡ order (text_in pool.now w n) (text_in pool.now v m) }
 {
     let s = held(pool, w, n);
     let t = held(pool, v, m);
@@ -138,8 +136,8 @@ pub fn compare(pool: &[u64], w: usize, n: usize, v: usize, m: usize) -> Comparis
 
 // Whether two texts of n bytes, which the pool has whole, are the same: their whole words, then the first bytes of the words behind.
 fn same_whole(pool: &[u64], w: usize, v: usize, n: usize) -> bool
-    requires { ⌜ (length (text-in (now pool) w n) ≡ n) × (length (text-in (now pool) v n) ≡ n) ⌝ }
-    ensures compared { λ r. ⌜ r ≡ same (text-in (now (pool .entry)) w n) (text-in (now (pool .entry)) v n) ⌝ }
+    requires { (length (text_in pool.now w n) ≡ n) × (length (text_in pool.now v n) ≡ n) }
+    ensures compared { result ≡ same (text_in pool.now w n) (text_in pool.now v n) }
 {
     let whole = n / 8;
     let mut i: usize = 0;
@@ -159,8 +157,8 @@ fn same_whole(pool: &[u64], w: usize, v: usize, n: usize) -> bool
 
 // Whether two texts, which the pool has whole, have the same bytes; most that differ differ in length.
 pub fn same_held(pool: &[u64], w: usize, n: usize, v: usize, m: usize) -> bool
-    requires { ⌜ (length (text-in (now pool) w n) ≡ n) × (length (text-in (now pool) v m) ≡ m) ⌝ }
-    ensures compared { λ r. ⌜ r ≡ same (text-in (now (pool .entry)) w n) (text-in (now (pool .entry)) v m) ⌝ }
+    requires { (length (text_in pool.now w n) ≡ n) × (length (text_in pool.now v m) ≡ m) }
+    ensures compared { result ≡ same (text_in pool.now w n) (text_in pool.now v m) }
 {
     if n != m {
         return false;
@@ -170,7 +168,7 @@ pub fn same_held(pool: &[u64], w: usize, n: usize, v: usize, m: usize) -> bool
 
 // Whether two texts have the same bytes. Where a text runs past the pool's end it is what the pool has of it.
 pub fn same_text(pool: &[u64], w: usize, n: usize, v: usize, m: usize) -> bool
-    ensures compared { λ r. ⌜ r ≡ same (text-in (now (pool .entry)) w n) (text-in (now (pool .entry)) v m) ⌝ }
+    ensures compared { result ≡ same (text_in pool.now w n) (text_in pool.now v m) }
 {
     let s = held(pool, w, n);
     same_held(pool, w, s, v, held(pool, v, m))
