@@ -11,7 +11,7 @@ use Rattle.definitions.specs.Bytes.{Bytes, order}
 use Rattle.definitions.specs.Shape.{Shape, Fields, no_fields, field, before, behind, ascending_fields, forms, forms_fields}
 use Rattle.laws.specs.Names.{flip, order_refl, order_flip, same_eq, lt_before}
 use Rattle.laws.specs.Fields.{ascending_behind, ascending_rest, behind_trans}
-use Rattle.pool.specs.Pool.{text_in, ordering-of}
+use Rattle.pool.specs.Pool.{text_in, ordering_of}
 use Rattle.pool.specs.declared.Comparison.{Comparison}
 use Rattle.pool.specs.declared.Comparison.TheVariants.{Less, Equal, Greater}
 use Rattle.nodes.specs.Nodes.{Refers}
@@ -184,8 +184,8 @@ module _ {shapes : List ℕ} {first last : ℕ} {n : Bytes} {p : List ℕ} {fs :
     -- how the name stands to the member's, from the texts of their references
     pub order_told
         : (pool : List ℕ) (o : Comparison) (name k : ℕ) → Used pool p → Refers p n name → k ≡ get_or shapes (row + 1) 0
-        → ordering-of o ≡ order (text_in pool (name % 65536) (name / 65536)) (text_in pool (k % 65536) (k / 65536))
-        → order n m ≡ ordering-of o
+        → ordering_of o ≡ order (text_in pool (name % 65536) (name / 65536)) (text_in pool (k % 65536) (k / 65536))
+        → order n m ≡ ordering_of o
     order_told pool o name k u r e c =
         let f = fields_first a.stand in
         let g : text_in pool (k % 65536) (k / 65536) ≡ m
@@ -217,7 +217,7 @@ left_within {shapes} {p} {row} {last} l more = go (fields_left l.stand more) l.s
 module _
     {shapes pool : List ℕ} {used first last name row : ℕ} (k : ℕ) (o : Comparison) (w : Walking shapes pool used first last name row) (more : row < last)
     (named : k ≡ get_or shapes (row + 1) 0)
-    (told : ordering-of o ≡ order (text_in pool (name % 65536) (name / 65536)) (text_in pool (k % 65536) (k / 65536)))
+    (told : ordering_of o ≡ order (text_in pool (name % 65536) (name / 65536)) (text_in pool (k % 65536) (k / 65536)))
   where
     there
         : {p : List ℕ} {fs : Fields} {n : Bytes} → MeetsFields shapes pool used first last p fs → Refers p n name
@@ -227,17 +227,17 @@ module _
     pub answer_less
         : o ≡ Less → (p : List ℕ) (fs : Fields) (n : Bytes) → MeetsFields shapes pool used first last p fs → Refers p n name
         → Finds shapes first last n p fs row false
-    unfolding ordering-of
-    answer_less e p fs n m r = found_before (there m r).at (order_told (there m r).at pool o name k m.pooled r named told ∙ ap ordering-of e)
+    unfolding ordering_of
+    answer_less e p fs n m r = found_before (there m r).at (order_told (there m r).at pool o name k m.pooled r named told ∙ ap ordering_of e)
 
     pub answer_equal
         : o ≡ Equal → (p : List ℕ) (fs : Fields) (n : Bytes) → MeetsFields shapes pool used first last p fs → Refers p n name
         → Finds shapes first last n p fs row true
-    unfolding ordering-of
-    answer_equal e p fs n m r = found_there (there m r).at (order_told (there m r).at pool o name k m.pooled r named told ∙ ap ordering-of e)
+    unfolding ordering_of
+    answer_equal e p fs n m r = found_there (there m r).at (order_told (there m r).at pool o name k m.pooled r named told ∙ ap ordering_of e)
 
     pub walk_on : {size : ℕ} → o ≡ Greater → size ≡ size_at shapes row → Walking shapes pool used first last name (row + size)
-    unfolding ordering-of
+    unfolding ordering_of
     walk_on e f =
         subst (λ (x : ℕ). Walking shapes pool used first last name (row + x)) (sym f)
         (record {
@@ -246,7 +246,7 @@ module _
           going = λ p fs n m r.
               record {
                 back = (there m r).rest;
-                at = goes_on (there m r).at (order_told (there m r).at pool o name k m.pooled r named told ∙ ap ordering-of e);
+                at = goes_on (there m r).at (order_told (there m r).at pool o name k m.pooled r named told ∙ ap ordering_of e);
               };
         })
 

@@ -3,7 +3,7 @@ ghost use Rattle.std.specs.Prelude.{◌≡◌, true, List, ◌++◌, ◌∷◌, 
 ghost use Rattle.std.specs.Int.Bits.{bit_or};
 ghost use Rattle.definitions.specs.Bytes.{Bytes, order};
 ghost use Rattle.definitions.specs.Shape.{Fields, ascending_fields};
-ghost use Rattle.pool.specs.Pool.{text_in, ordering-of};
+ghost use Rattle.pool.specs.Pool.{text_in, ordering_of};
 ghost use Rattle.nodes.specs.Nodes.{Refers};
 ghost use Rattle.shapes.specs.Shapes.{head_of, size_at, kind_bits};
 ghost use Rattle.join.specs.Replacing.{Puts};
@@ -76,7 +76,7 @@ pub struct Place {
 
 // The texts of two references in byte order.
 fn compare_names(pool: &[u64], a: u64, b: u64) -> Comparison
-    ensures compared { ordering-of result
+    ensures compared { ordering_of result
         ≡ order (text_in pool.now (a % 65536) (a / 65536)) (text_in pool.now (b % 65536) (b / 65536)) }
 {
     pool::compare(

@@ -9,7 +9,7 @@ use Rattle.definitions.specs.Bytes.{Bytes, order}
 use Rattle.definitions.specs.Shape.{Shape, Fields, no_fields, field, behind}
 use Rattle.definitions.specs.Join.{with_null, join}
 use Rattle.laws.specs.Names.{order_refl, order_eq, before_lt, before_gt}
-use Rattle.pool.specs.Pool.{text_in, ordering-of}
+use Rattle.pool.specs.Pool.{text_in, ordering_of}
 use Rattle.pool.specs.declared.Comparison.{Comparison}
 use Rattle.pool.specs.declared.Comparison.TheVariants.{Less, Equal, Greater}
 use Rattle.shapes.specs.ShapesLaws.{stands_name, SomeFields, some_fields, fields_left, fields_none, fields_some, fields_first}
@@ -33,9 +33,9 @@ next_both {n} {m} {a} {b} {fs} {gs} e =
 
 -- a comparison of two names tells which member is next
 by_order
-    : (o : Comparison) {n m : Bytes} {a b : Shape} {fs gs : Fields} → ordering-of o ≡ order n m
+    : (o : Comparison) {n m : Bytes} {a b : Shape} {fs gs : Fields} → ordering_of o ≡ order n m
     → Next o (field n a fs) (field m b gs)
-unfolding ordering-of behind
+unfolding ordering_of behind
 by_order Less {n} {m} e = next_first (before_lt n m (sym e))
 by_order Equal {n} {m} e = next_both (order_eq n m (sym e))
 by_order Greater {n} {m} e = next_second (before_gt n m (sym e))
@@ -57,7 +57,7 @@ module _ {shapes second pool p : List ℕ} {row end other to : ℕ} where
 
   pub compared
       : (o : Comparison) {x y w v k m : ℕ} → x ≡ get_or shapes (row + 1) 0 → y ≡ get_or second (other + 1) 0 → w ≡ x % 65536 → v ≡ y % 65536
-      → k ≡ x / 65536 → m ≡ y / 65536 → ordering-of o ≡ order (text_in pool w k) (text_in pool v m) → row < end → other < to
+      → k ≡ x / 65536 → m ≡ y / 65536 → ordering_of o ≡ order (text_in pool w k) (text_in pool v m) → row < end → other < to
       → (fs gs : Fields) → MembersWalk shapes second pool p row end other to fs gs → Next o fs gs
   compared o e f ew ev ek em q h i fs gs w =
       go (fields_left w.ours h) (fields_left w.theirs i) w
@@ -78,7 +78,7 @@ module _ {shapes second pool p : List ℕ} {row end other to : ℕ} where
   pub one_name
       : {x y : ℕ} → x ≡ get_or shapes (row + 1) 0 → y ≡ get_or second (other + 1) 0 → x ≡ y → row < end → other < to → (fs gs : Fields)
       → MembersWalk shapes second pool p row end other to fs gs → Next Equal fs gs
-  unfolding ordering-of
+  unfolding ordering_of
   one_name {x} e f q h i fs gs w =
       compared Equal e f refl refl refl refl
       (sym (order_refl (text_in pool (x % 65536) (x / 65536)))

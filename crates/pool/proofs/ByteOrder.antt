@@ -16,17 +16,17 @@ use Rattle.definitions.specs.Bytes.{Bytes, order, same}
 
 compare_lt : (x y : ℕ) → x < y → compare x y ≡ Ordering.lt
 compare_lt x zero h = absurd (not-suc-le-zero h)
-compare_lt zero (suc y) h = compare.zero_suc y
-compare_lt (suc x) (suc y) h = compare.suc_suc x y ∙ compare_lt x y (le_of_suc-le-suc h)
+compare_lt zero (suc y) h = compare.zero-suc y
+compare_lt (suc x) (suc y) h = compare.suc-suc x y ∙ compare_lt x y (le_of_suc-le-suc h)
 
 compare_gt : (x y : ℕ) → y < x → compare x y ≡ Ordering.gt
 compare_gt zero y h = absurd (not-suc-le-zero h)
-compare_gt (suc x) zero h = compare.suc_zero x
-compare_gt (suc x) (suc y) h = compare.suc_suc x y ∙ compare_gt x y (le_of_suc-le-suc h)
+compare_gt (suc x) zero h = compare.suc-zero x
+compare_gt (suc x) (suc y) h = compare.suc-suc x y ∙ compare_gt x y (le_of_suc-le-suc h)
 
 compare_refl : (x : ℕ) → compare x x ≡ Ordering.eq
-compare_refl zero = compare.zero_zero
-compare_refl (suc x) = compare.suc_suc x x ∙ compare_refl x
+compare_refl zero = compare.zero-zero
+compare_refl (suc x) = compare.suc-suc x x ∙ compare_refl x
 
 -- what two first bytes decide
 abbrev by_first : Ordering → Ordering → Ordering

@@ -50,7 +50,7 @@ pub record Put (p p' : List ℕ) (k b : ℕ) : Type 0 where
 -- ---- comparing
 
 -- the order that a comparison tells
-unfoldable pub ordering-of : Comparison → Ordering
-ordering-of Less = Ordering.lt
-ordering-of Equal = Ordering.eq
-ordering-of Greater = Ordering.gt
+unfoldable pub ordering_of : Comparison → Ordering
+ordering_of Less = Ordering.lt
+ordering_of Equal = Ordering.eq
+ordering_of Greater = Ordering.gt

@@ -11,7 +11,7 @@ use Rattle.definitions.specs.Shape.{Kind, Element, Fields, field, before}
 use Rattle.definitions.specs.Tokens.{opening, closing, word, want_close, want_text, where_true}
 use Rattle.definitions.specs.ShapeText.{Parts, Around, member_open, member_word, member_name, member_close, want, name_fits, want_step, member_step}
 use Rattle.laws.specs.Bools.{clash}
-use Rattle.pool.specs.Pool.{text_in, ordering-of}
+use Rattle.pool.specs.Pool.{text_in, ordering_of}
 use Rattle.pool.specs.declared.Comparison.{Comparison}
 use Rattle.nodes.specs.Nodes.{reference, refers}
 use Rattle.nodes.specs.StandingLaws.{text_refers, text_referred_front}
@@ -65,8 +65,8 @@ before_less m n = pick (order m n)
 pub compared_fits
     : (pool : List ℕ) (w n : ℕ) {first : Bool} {latest v m : ℕ} (x : Comparison) → w ≤ length pool → w < 65536 → first ≡ false
     → v ≡ latest % 65536 → m ≡ latest / 65536
-    → ordering-of x ≡ order (text_in pool v m) (text_in pool w n)
-    → (fs : Fields) → Latest (take w pool) fs first latest → is_less (ordering-of x) ≡ name_fits fs (text_in pool w n)
+    → ordering_of x ≡ order (text_in pool v m) (text_in pool w n)
+    → (fs : Fields) → Latest (take w pool) fs first latest → is_less (ordering_of x) ≡ name_fits fs (text_in pool w n)
 unfolding name_fits
 compared_fits pool w n x h l f a b e fs none_yet = clash {b = true} refl f
 compared_fits pool w n {latest} {v} {m} x h l f a b e (field t s fs) (latest_is r) =

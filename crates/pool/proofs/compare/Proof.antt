@@ -6,7 +6,7 @@ use lib.ListN.{drop}
 use native.Mathlib.Omega.{arith}
 use borrow.Author.Rules.{rules}
 use Rattle.definitions.specs.Bytes.{order}
-use Rattle.pool.specs.Pool.{text_in, ordering-of}
+use Rattle.pool.specs.Pool.{text_in, ordering_of}
 use Rattle.pool.specs.PoolLaws.{length_text_in_min}
 use Rattle.pool.proofs.ByteOrder.{shorter_less, longer_greater, both_equal}
 use Rattle.pool.proofs.WordOrder.{words_start, words_less, words_greater, words_next}
@@ -92,7 +92,7 @@ shr-y : tie.Need-overflow-shr-y invariant-loop decreases-loop
 shr-y c = omega (arith, c.before.before.least2.ensures)
 
 returns : tie.Need-returns invariant-loop decreases-loop
-unfolding ordering-of
+unfolding ordering_of
 returns c =
     let after-least2 = c.before.before.before in
     let l = after-least2.before.before.loop in
@@ -106,7 +106,7 @@ returns c =
     c.if1.true)
 
 returns-2 : tie.Need-returns-2 invariant-loop decreases-loop
-unfolding ordering-of
+unfolding ordering_of
 returns-2 c =
     let after-shared-slice-known3 = c.before.before in
     let after-least2 = after-shared-slice-known3.before.before in
@@ -140,7 +140,7 @@ loop_again c =
     )
 
 returns-3 : tie.Need-returns-3 invariant-loop decreases-loop
-unfolding ordering-of
+unfolding ordering_of
 returns-3 c =
     let l = c.before.before.loop in
     let a = c.before.before.before.before.before.before.before.args in
@@ -149,7 +149,7 @@ returns-3 c =
     (omega arith) (omega arith))
 
 returns-4 : tie.Need-returns-4 invariant-loop decreases-loop
-unfolding ordering-of
+unfolding ordering_of
 returns-4 c =
     let after-least = c.before.before.before.before in
     let l = c.before.before.before.loop in
@@ -159,7 +159,7 @@ returns-4 c =
     (omega arith) (omega arith))
 
 returns-5 : tie.Need-returns-5 invariant-loop decreases-loop
-unfolding ordering-of
+unfolding ordering_of
 returns-5 c =
     let after-least = c.before.before.before.before in
     let l = c.before.before.before.loop in
