@@ -5,7 +5,7 @@ ghost use Rattle.checking.specs.Bindings.{binding, SomeBound, BindsElement};
 use shapes::Shape;
 
 // What is bound: the row of a shape, and the kinds that are left of it.
-#[derive(Drop)]
+#[derive(Clone, Copy)]
 pub struct Binding {
     pub row: usize,
     pub kinds: u64,

@@ -1,4 +1,5 @@
 // Checking a reader against a shape: which form is refused with 9 or 10, or which kinds its result has.
+#![tactic(auto)]
 ghost use Rattle.std.specs.Prelude.{◌%◌, ◌^◌, ◌<◌, ◌≡◌, length, get_or};
 ghost use Rattle.checking.specs.CheckContracts.{FormAsked, GivesForm, ReaderAsked, ChecksReader};
 
@@ -11,7 +12,7 @@ pub mod places;
 pub mod simple;
 
 // What checking a result comes to.
-#[derive(Drop)]
+#[derive(Clone, Copy)]
 pub enum Checked {
     // the kinds of its shape
     Kinds { kinds: u64 },

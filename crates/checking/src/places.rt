@@ -5,7 +5,7 @@ use crate::{bindings, kinds};
 use shapes::{Member, Shape};
 
 // What looking for a place's shape comes to.
-#[derive(Drop)]
+#[derive(Clone, Copy)]
 pub enum Located {
     At { row: usize, kinds: u64 },
     // a refusal's number and its place

@@ -1,7 +1,7 @@
 // The plain types that contracts and definitions share. There is no code here: what they mean stands in specs/.
 
 // The limits of document 01, handed to everything that judges one.
-#[derive(Drop)]
+#[derive(Clone, Copy)]
 pub struct Limits {
     // the most bytes of a text: refusals 2 and 11
     pub bytes: usize,
@@ -14,7 +14,7 @@ pub struct Limits {
 }
 
 // The answer of an operation; fields that a case does not use are 0 or false.
-#[derive(Drop)]
+#[derive(Clone, Copy)]
 pub struct Answer {
     // 0 for success, else the refusal's number
     pub number: u64,
@@ -31,7 +31,7 @@ pub struct Answer {
 }
 
 // What a document is written in; `source` of specs/Operations.antt says how each is read.
-#[derive(Drop)]
+#[derive(Clone, Copy)]
 pub enum Format {
     // RFC 8259
     Json,

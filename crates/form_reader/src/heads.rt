@@ -9,7 +9,7 @@ use crate::places::read_place;
 use crate::reading::{Cursor, Part};
 use crate::words::result_code;
 
-#[derive(Drop)]
+#[derive(Clone, Copy)]
 pub enum Worded {
     // a result of this code, whose bracket stands at a place
     Form { code: u64, place: usize, to: Cursor },
@@ -42,7 +42,7 @@ fn begin_result(text: &[u8], values: usize, left: usize, c: Cursor) -> Worded
 }
 
 // What a result's row holds, but for its size and its name.
-#[derive(Drop)]
+#[derive(Clone, Copy)]
 pub struct Row {
     pub code: u64,
     pub operand: u64,
@@ -51,7 +51,7 @@ pub struct Row {
     pub place: usize,
 }
 
-#[derive(Drop)]
+#[derive(Clone, Copy)]
 pub enum Headed {
     Form { row: Row, to: Cursor },
     Refused { number: u64, place: usize },

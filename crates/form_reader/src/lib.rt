@@ -1,4 +1,5 @@
 // Reader texts, read into a forms table: one row a form, in preorder, its names and texts in a pool.
+#![tactic(auto)]
 ghost use Rattle.std.specs.Prelude.{◌<◌};
 ghost use Rattle.form_reader.specs.FormReads.{Tables, HasToken, ReadsReader, ReadsLonePlace};
 
@@ -17,7 +18,7 @@ use tokens::expect;
 use tokens::expect::Ending;
 
 // What reading a text of forms comes to.
-#[derive(Drop)]
+#[derive(Clone, Copy)]
 pub enum FormsRead {
     // so many words of the forms table and of the pool hold its forms
     Read { words: usize, top: usize },

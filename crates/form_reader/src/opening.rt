@@ -6,7 +6,7 @@ use crate::reading::{Cursor, Part};
 use tokens::expect;
 use tokens::expect::{Bracket, Spelled};
 
-#[derive(Drop)]
+#[derive(Clone, Copy)]
 pub enum Opened {
     // the bracket stands at a place
     At { place: usize },
@@ -30,7 +30,7 @@ fn open_form(text: &[u8], values: usize, left: usize, c: Cursor) -> Opened
     }
 }
 
-#[derive(Drop)]
+#[derive(Clone, Copy)]
 pub enum Begun {
     // the bracket stands at a place, and a word from another up to an end
     Word { place: usize, at: usize, end: usize },

@@ -11,7 +11,7 @@ use number::word::WordRead;
 use tokens::expect;
 use tokens::expect::{Quotation, Spelled};
 
-#[derive(Drop)]
+#[derive(Clone, Copy)]
 enum Slot {
     Of { slot: u64 },
     // no binding has it
@@ -47,7 +47,7 @@ fn slot_of(text: &[u8], at: usize, end: usize, bound: usize) -> Slot
     }
 }
 
-#[derive(Drop)]
+#[derive(Clone, Copy)]
 pub enum Index {
     Read { slot: u64, to: Cursor },
     Refused { place: usize },
@@ -74,7 +74,7 @@ pub fn read_index(text: &[u8], bound: usize, c: Cursor) -> Index
     }
 }
 
-#[derive(Drop)]
+#[derive(Clone, Copy)]
 pub enum Name {
     // where it stands in the pool
     Read { reference: u64, to: Cursor },
@@ -104,7 +104,7 @@ pub fn read_text(text: &[u8], pool: &mut [u64], c: Cursor) -> Name
     }
 }
 
-#[derive(Drop)]
+#[derive(Clone, Copy)]
 pub enum Operand {
     Read {
         operand: u64,

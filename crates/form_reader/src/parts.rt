@@ -39,7 +39,7 @@ pub fn inner_bound(code: u64, bound: usize) -> usize
 }
 
 // What comes next: a result at a place, under a name, and how many more behind it; or the answer.
-#[derive(Drop)]
+#[derive(Clone, Copy)]
 pub enum Turn {
     More {
         from: Cursor,

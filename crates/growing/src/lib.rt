@@ -1,4 +1,5 @@
 // A shape that grows in place: rows opened, kinds added, the place of a name among its members.
+#![tactic(auto)]
 ghost use Rattle.std.specs.Prelude.{◌≡◌, true, List, ◌++◌, ◌∷◌, ℕ, ◌+◌, ◌/◌, ◌%◌, ◌^◌, ◌≤◌, ◌<◌, length, get_or, take, drop};
 ghost use Rattle.std.specs.Int.Bits.{bit_or};
 ghost use Rattle.definitions.specs.Bytes.{Bytes, order};
@@ -66,7 +67,7 @@ pub fn start_kinds(had: bool) -> Shape
 }
 
 // Where a name has its place among members.
-#[derive(Drop)]
+#[derive(Clone, Copy)]
 pub struct Place {
     // the row of the first member that does not stand before the name
     pub row: usize,

@@ -1,4 +1,5 @@
 // The texts of an operation, judged in order and read: all of the first one's causes go before any of the second's.
+#![tactic(auto)]
 ghost use Rattle.definitions.specs.ShapeText.{read_shape};
 ghost use Rattle.definitions.specs.Reader.{read_reader};
 ghost use Rattle.definitions.specs.Operations.{source};
@@ -13,7 +14,7 @@ use json_reader::DocumentRead;
 use shape_reader::ShapeRead;
 
 // The texts were read, each into a table of which it took so many words, and took so many of the pool; or a text is refused.
-#[derive(Drop)]
+#[derive(Clone, Copy)]
 pub enum Texts {
     Read {
         first: usize,

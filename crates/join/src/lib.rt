@@ -1,4 +1,5 @@
 // Joining a shape into another in place: what is new takes its place in byte order, and what stands behind it moves up.
+#![tactic(auto)]
 ghost use Rattle.std.specs.Prelude.{◌≡◌, ◌++◌, ◌∷◌, ◌+◌, ◌*◌, ◌%◌, ◌^◌, ◌≤◌, ◌<◌, true, false, length, get_or, take, drop};
 ghost use Rattle.definitions.specs.Join.{join};
 ghost use Rattle.shapes.specs.Shapes.{has_bit};
@@ -10,7 +11,7 @@ use pool::Comparison;
 use shapes::Shape;
 
 // How a table takes a change in place: it uses so many words more, or it can't hold what is to stand in it.
-#[derive(Drop)]
+#[derive(Clone, Copy)]
 pub enum Joined {
     Grown { words: usize },
     Full,

@@ -1,4 +1,5 @@
 // JSON documents (RFC 8259), read into a node table: one row a value, in preorder, its texts in a pool.
+#![tactic(auto)]
 ghost use Rattle.json_reader.specs.JsonRead.{Tables, ReadsDocument};
 
 mod name; // names of members
@@ -12,7 +13,7 @@ use definitions::Limits;
 use reading::{Cursor, ValueRead};
 
 // What reading a document comes to.
-#[derive(Drop)]
+#[derive(Clone, Copy)]
 pub enum DocumentRead {
     // so many words of the node table and of the pool hold its value
     Read { words: usize, top: usize },

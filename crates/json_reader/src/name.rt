@@ -8,7 +8,7 @@ use crate::reading::Cursor;
 use crate::space::{peek, skip_white};
 use text::TextRead;
 
-#[derive(Drop)]
+#[derive(Clone, Copy)]
 pub enum NameRead {
     // behind the colon, where the name stands, how long it is in plain JSON, and the bits of the names seen
     Done {
@@ -73,7 +73,7 @@ fn is_taken(
     has_name(nodes, pool, 3 * first, 3 * c.begun, c.top, n)
 }
 
-#[derive(Drop)]
+#[derive(Clone, Copy)]
 enum Colon {
     // right before a place
     At { next: usize },

@@ -7,7 +7,7 @@ use crate::reading::{Cursor, done, refused};
 use crate::space::{COMMA, peek, skip_white};
 
 // What comes next: a part at a place, where what stands before is so long in plain JSON; or the answer.
-#[derive(Drop)]
+#[derive(Clone, Copy)]
 pub enum Turn {
     More { from: Cursor, written: usize },
     Stop { answer: u64 },

@@ -4,7 +4,7 @@ ghost use Rattle.json_reader.specs.declared.reading.ValueRead.TheVariants.{Done,
 ghost use Rattle.json_reader.specs.JsonParts.{Packs, answer_of};
 
 // How far reading has come.
-#[derive(Drop)]
+#[derive(Clone, Copy)]
 pub struct Cursor {
     // in the text
     pub at: usize,
@@ -15,7 +15,7 @@ pub struct Cursor {
 }
 
 // What reading a value comes to. Functions answer it as one word, since an enum goes through memory.
-#[derive(Drop)]
+#[derive(Clone, Copy)]
 pub enum ValueRead {
     // behind a value
     Done { to: Cursor },

@@ -7,7 +7,7 @@ ghost use Rattle.number.specs.NumberGroups.{Lows, GroupsOf, Halves, Quarters};
 use crate::decimal::power;
 
 // The digits of a coefficient: the last eight, the eight before them, and those before these.
-#[derive(Drop)]
+#[derive(Clone, Copy)]
 pub struct Groups {
     pub low: u64,
     pub middle: u64,

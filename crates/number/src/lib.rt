@@ -1,4 +1,5 @@
 // Numbers: read from a document as RFC 8259 has them, here, and written as plain JSON (`write`).
+#![tactic(auto)]
 ghost use Rattle.std.specs.Prelude.{◌≡◌, false, ℕ, ◌+◌, ◌/◌, ◌^◌, ◌≤◌, ◌<◌, min, length, get_or};
 ghost use Rattle.definitions.specs.Number.{Numeral, most_scale};
 ghost use Rattle.number.specs.NumberRead.{ReadsNumber, ReadsOn, numeral};
@@ -20,7 +21,7 @@ use phase::{NumberPhase, NumberStep};
 pub use write::{number_length, write_number};
 
 // What reading a number comes to.
-#[derive(Drop)]
+#[derive(Clone, Copy)]
 pub struct NumberRead {
     // behind the longest run of bytes that begins a number
     pub end: usize,

@@ -6,7 +6,7 @@ ghost use Rattle.number.specs.NumberCode.{StandsFor, Takes, Digit, phase_of, pas
 
 use crate::phase::NumberPhase;
 
-#[derive(Drop)]
+#[derive(Clone, Copy)]
 pub struct CappedNumeral {
     pub negative: bool,
     pub coefficient: u64,

@@ -5,7 +5,7 @@ ghost use Rattle.definitions.specs.Number.{next, e_rows, int_rows, complete, beg
 ghost use Rattle.number.specs.NumberCode.{Quiet, phase_of, step_of};
 
 // What has been read of a number.
-#[derive(Drop)]
+#[derive(Clone, Copy)]
 pub enum NumberPhase {
     Begin,
     AfterMinus,
@@ -19,7 +19,7 @@ pub enum NumberPhase {
 }
 
 // Where a byte leads.
-#[derive(Drop)]
+#[derive(Clone, Copy)]
 pub enum NumberStep {
     Stop,
     To(NumberPhase),

@@ -4,7 +4,7 @@ ghost use Rattle.number.specs.NumberWord.{WordAnswer};
 use crate::slow_number;
 
 // What a word spells.
-#[derive(Drop)]
+#[derive(Clone, Copy)]
 pub enum WordRead {
     Number {
         negative: bool,

@@ -1,4 +1,5 @@
 // Whether a shape lies below another: the order goes down both together.
+#![tactic(auto)]
 ghost use Rattle.shapes.specs.Members.{SomeListed};
 ghost use Rattle.order.specs.Comparing.{ShapesAsked, ShapesTold, PartsAsked, ElementTold, RecordTold};
 ghost use Rattle.order.specs.Comparing.{FieldsAsked, FieldsTold, NullsTold, ListedAsked, Lacks};

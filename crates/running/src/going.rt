@@ -5,7 +5,7 @@ ghost use Rattle.running.specs.declared.going.Seen.TheVariants as SeenIs;
 ghost use Rattle.running.specs.Words.{part_of, seen_of};
 
 // A form that is to be run.
-#[derive(Drop)]
+#[derive(Clone, Copy)]
 pub struct Cursor {
     // where its row stands in the forms table
     pub row: usize,
@@ -20,7 +20,7 @@ pub struct Cursor {
 }
 
 // What running a form comes to. Functions answer it as one word, since an enum goes through memory.
-#[derive(Drop)]
+#[derive(Clone, Copy)]
 pub enum Part {
     // the code of the value's kind, and how many rows are begun and steps counted behind it
     Done {
@@ -35,7 +35,7 @@ pub enum Part {
 }
 
 // The value of a place, which functions answer as one word too.
-#[derive(Drop)]
+#[derive(Clone, Copy)]
 pub enum Seen {
     // at a row of the document's table, behind so many steps
     At { row: usize, steps: usize },

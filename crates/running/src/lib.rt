@@ -1,4 +1,5 @@
 // Running a reader on a document: a walk over its forms, an environment of the document's rows, and a table of results.
+#![tactic(auto)]
 ghost use Rattle.running.specs.Run.{Runnable, RunsReader};
 
 mod depth; // how deep a result is nested
@@ -13,7 +14,7 @@ use definitions::Limits;
 use going::{Cursor, Part};
 
 // What running a reader comes to.
-#[derive(Drop)]
+#[derive(Clone, Copy)]
 pub enum Came {
     // the first rows of the results hold a value, made in so many steps
     Ran { steps: usize },

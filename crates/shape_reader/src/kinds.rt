@@ -38,7 +38,7 @@ fn may_come(kinds: Shape, kind: Shape) -> bool
     kinds.kinds < kind.kinds
 }
 
-#[derive(Drop)]
+#[derive(Clone, Copy)]
 pub enum Kinds {
     // up to a place, behind which no kind word stands
     Read { kinds: Shape, at: usize },

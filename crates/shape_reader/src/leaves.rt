@@ -7,7 +7,7 @@ ghost use Rattle.shape_reader.specs.Leaves.{Other-kinds, StandsLeaf, FindsLeaf};
 use crate::reading::Cursor;
 use shapes::Shape;
 
-#[derive(Drop)]
+#[derive(Clone, Copy)]
 pub enum Leaf {
     // of these kinds, up to a place
     Of { kinds: Shape, end: usize },

@@ -1,4 +1,5 @@
 // Shape texts, read into a shape table: one row a form, in preorder, the names of its members in a pool.
+#![tactic(auto)]
 ghost use Rattle.shape_reader.specs.ShapeReads.{Tables, ReadsShape};
 
 mod forms; // shapes, their elements and their members
@@ -13,7 +14,7 @@ use reading::{Cursor, FormRead};
 use tokens::expect::Ending;
 
 // What reading a shape text comes to.
-#[derive(Drop)]
+#[derive(Clone, Copy)]
 pub enum ShapeRead {
     // so many words of the shape table and of the pool hold its shape
     Read { words: usize, top: usize },

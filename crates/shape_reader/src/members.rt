@@ -33,7 +33,7 @@ fn ascends(pool: &[u64], first: bool, latest: u64, w: usize, n: usize) -> bool
     }
 }
 
-#[derive(Drop)]
+#[derive(Clone, Copy)]
 pub enum Named {
     // a name from a place up to an end, of so many bytes decoded
     Name { at: usize, end: usize, bytes: usize },
@@ -59,7 +59,7 @@ fn read_name(text: &[u8], pool: &mut [u64], at: usize, top: usize) -> Named
 }
 
 // What comes next: a member's shape at a place, under a name; or the answer.
-#[derive(Drop)]
+#[derive(Clone, Copy)]
 pub enum Turn {
     More { from: Cursor, name: u64 },
     Stop { answer: FormRead },

@@ -9,7 +9,7 @@ use crate::reading::Cursor;
 use shapes::Shape;
 use tokens::expect::{Bracket, Spelled};
 
-#[derive(Drop)]
+#[derive(Clone, Copy)]
 pub enum Expected {
     // up to a place
     At { end: usize },
@@ -55,7 +55,7 @@ pub fn member_word(text: &[u8], at: usize) -> Expected
     expect(text, at, 0x6D656D62657206)
 }
 
-#[derive(Drop)]
+#[derive(Clone, Copy)]
 pub enum ShapeOpening {
     // up to a place behind the word `shape`
     Behind { at: usize },
@@ -84,7 +84,7 @@ fn begin(text: &[u8], values: usize, left: usize, c: Cursor) -> ShapeOpening
     }
 }
 
-#[derive(Drop)]
+#[derive(Clone, Copy)]
 pub enum ShapeHead {
     // of these kinds, up to a place behind them
     Form { kinds: Shape, at: usize },

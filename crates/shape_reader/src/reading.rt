@@ -1,7 +1,7 @@
 // Where reading stands, and what it comes to.
 
 // How far reading has come.
-#[derive(Drop)]
+#[derive(Clone, Copy)]
 pub struct Cursor {
     // in the text
     pub at: usize,
@@ -11,7 +11,7 @@ pub struct Cursor {
     pub top: usize,
 }
 
-#[derive(Drop)]
+#[derive(Clone, Copy)]
 pub enum FormRead {
     // behind a part of a shape
     Done { to: Cursor },

@@ -1,5 +1,6 @@
 // A shape of a shape table and a pool as a shape text: how long it is, writing it, and the end of an operation that writes
 // a shape.
+#![tactic(auto)]
 ghost use Rattle.std.specs.Prelude.{◌≡◌, false, ◌+◌, ◌^◌, length};
 ghost use Rattle.shape_writer.specs.Writing.{Printable, WritesForm, LengthOfForm, PrintableFields, WritesFields, LengthOfFields};
 ghost use Rattle.shape_writer.specs.Writing.{Standing, TellsDeeper, Deliverable, Measures, DeliversAnswer, DeliversOutput};
@@ -12,7 +13,7 @@ use plain::write_bytes;
 use shapes::Shape;
 
 // What judging a shape for refusal 11 comes to.
-#[derive(Drop)]
+#[derive(Clone, Copy)]
 pub enum Measured {
     Over,
     Fits { length: usize },

@@ -1,4 +1,5 @@
 // The table of a shape: two words a form, in preorder. The functions that read it are total: past its end stands 0.
+#![tactic(auto)]
 ghost use Rattle.std.specs.Prelude.{◌≡◌, List, ◌++◌, ◌∷◌, ℕ, ◌+◌, ◌%◌, ◌^◌, ◌≤◌, ◌<◌, eqb, length, get_or, take, drop};
 ghost use Rattle.std.specs.Int.Bits.{bit_or};
 ghost use Rattle.definitions.specs.Shape.{Fields};
@@ -6,7 +7,7 @@ ghost use Rattle.shapes.specs.Shapes.{has_bit, head_of, size_at, members_at, Fie
 ghost use Rattle.shapes.specs.Members.{SomeListed, Names, SomeStand, field_count};
 
 // The kinds of a shape, a set that is the sum of the kinds' bits.
-#[derive(Drop)]
+#[derive(Clone, Copy)]
 pub struct Shape {
     pub kinds: u64,
 }
@@ -120,7 +121,7 @@ pub fn put_row(shapes: &mut [u64], row: usize, kinds: Shape, size: usize, name: 
 }
 
 // Whether there is a member, and at which row.
-#[derive(Drop)]
+#[derive(Clone, Copy)]
 pub enum Member {
     Found { row: usize },
     Missing,

@@ -1,4 +1,5 @@
 // JSON texts (RFC 8259 section 7): read from a document, decoded into the pool, and written from the pool as plain JSON.
+#![tactic(auto)]
 ghost use Rattle.std.specs.Prelude.{◌≡◌, ◌+◌, ◌-◌, ◌^◌, ◌≤◌, ◌<◌, length};
 ghost use Rattle.definitions.specs.Plain.{plain_text};
 ghost use Rattle.pool.specs.Pool.{words, text_in};
@@ -18,7 +19,7 @@ mod write; // what stands between the quotes, written and measured
 use pieces::Piece;
 
 // How reading a text ends.
-#[derive(Drop)]
+#[derive(Clone, Copy)]
 pub enum TextRead {
     // behind the closing quote, with so many bytes decoded, and as long in plain JSON
     Closed {

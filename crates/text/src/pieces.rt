@@ -12,7 +12,7 @@ use super::unicode::{Code, encoded, encoded_length, peek, read_unicode};
 use super::wide::{Wide, past_wides, wide_end};
 
 // A piece of a text: the place behind it, the bytes that the text has with it, and what it adds to plain JSON; or where it breaks off.
-#[derive(Drop)]
+#[derive(Clone, Copy)]
 pub enum Piece {
     Went {
         next: usize,

@@ -6,7 +6,7 @@ ghost use Rattle.definitions.specs.Utf8.{encode};
 ghost use Rattle.text.specs.TextParts.{hex_value, fits_as, ReadsDigits, ReadsCode};
 
 // A number that digits name, and the place behind them; or where they break off.
-#[derive(Drop)]
+#[derive(Clone, Copy)]
 pub enum Code {
     Read { value: usize, next: usize },
     Wrong { place: usize },

@@ -8,14 +8,14 @@ ghost use Rattle.text.specs.TextParts.{head_as, ReadsWide, FrontStands};
 use super::unicode::peek;
 
 // What a first byte says: the lowest and the highest second byte, and how many bytes follow that.
-#[derive(Drop)]
+#[derive(Clone, Copy)]
 enum Head {
     Tails(usize, usize, usize),
     Not,
 }
 
 // Where a character ends, or the place of a byte that it cannot have.
-#[derive(Drop)]
+#[derive(Clone, Copy)]
 pub enum Wide {
     Whole { next: usize },
     Cut { place: usize },

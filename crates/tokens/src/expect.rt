@@ -6,7 +6,7 @@ ghost use Rattle.tokens.specs.Expecting.{ExpectsOpening, ExpectsClosing, Expects
 use crate::{first_byte, skip_space, word_end};
 use text::TextRead;
 
-#[derive(Drop)]
+#[derive(Clone, Copy)]
 pub enum Bracket {
     At { place: usize },
     Missing { place: usize },
@@ -38,7 +38,7 @@ pub fn next_closing(text: &[u8], at: usize) -> Bracket
     }
 }
 
-#[derive(Drop)]
+#[derive(Clone, Copy)]
 pub enum Brackets {
     Opening { place: usize },
     Closing { place: usize },
@@ -61,7 +61,7 @@ pub fn next_bracket(text: &[u8], at: usize) -> Brackets
     Brackets::Missing { place }
 }
 
-#[derive(Drop)]
+#[derive(Clone, Copy)]
 pub enum Spelled {
     // up to an end
     At { place: usize, end: usize },
@@ -82,7 +82,7 @@ pub fn next_word(text: &[u8], at: usize) -> Spelled
     }
 }
 
-#[derive(Drop)]
+#[derive(Clone, Copy)]
 pub enum Quotation {
     // up to an end, of so many bytes decoded
     At {
@@ -118,7 +118,7 @@ pub fn next_text(text: &[u8], at: usize, pool: &mut [u64], w: usize) -> Quotatio
     }
 }
 
-#[derive(Drop)]
+#[derive(Clone, Copy)]
 pub enum Ending {
     Whole,
     More { place: usize },
