@@ -34,7 +34,7 @@ zeros_to {c} {r = r} (Rfc.digit {b} {d = d} {n = n} {s} i h) e =
     subst (λ (a : ℕ). Zeros (suc n) (a ∷ s) r) digit_is (a_zero (zeros_to h rest))
 
 zeros_from : {c d n : ℕ} {s r : Bytes} → Rfc.digits c s d n r → Zeros n s r → d ≡ c * 10 ^ n
-zeros_from Rfc.no_digits no_zeros = omega arith
+zeros_from Rfc.no_digits z = omega arith
 zeros_from {c} (Rfc.digit {n = n} i h) (a_zero zs) =
     let shifted : (c * 10 + 0) * 10 ^ n ≡ c * (10 * 10 ^ n) = omega arith in
     zeros_from h zs ∙ shifted ∙ ap (λ (q : ℕ). c * q) (sym (pow-succ' 10 n))
@@ -45,7 +45,7 @@ zero_frac_to Rfc.no_frac e = no_frac
 zero_frac_to (Rfc.point i h) e = point (zeros_to h e)
 
 zero_frac_from : {c d n : ℕ} {s r : Bytes} → Rfc.frac c s d n r → ZeroFrac n s r → d ≡ c * 10 ^ n
-zero_frac_from Rfc.no_frac no_frac = omega arith
+zero_frac_from Rfc.no_frac z = omega arith
 zero_frac_from (Rfc.point i h) (point zs) = zeros_from h zs
 
 -- "a number whose fraction digits are all zero is an int"

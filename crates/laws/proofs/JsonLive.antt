@@ -145,7 +145,7 @@ pub walk_sound
     : {s kept : Bytes} {n : ℕ} {p q : State} {xs : Bytes} (r : Bytes) → Walk p xs q → Reached s n kept p (xs ++ r)
     → (n' : ℕ) × (kept' : Bytes) × Reached s n' kept' q r
 walk_sound {kept} {n} r stay x = (n, kept, x)
-walk_sound r (step e f) x = let (n', kept', y) = sound_after (move_sound x) e in walk_sound r f y
+walk_sound {kept} {n} r (step e f) x = let (n', kept', y) = sound_after (move_sound x) e in walk_sound {kept = kept'} {n = n'} r f y
 
 -- where a document begins
 abbrev pub start : State

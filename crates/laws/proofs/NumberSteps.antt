@@ -38,24 +38,33 @@ unfolding next int_rows e_rows
 of_hit begin (here i) = at_one (λ x. Step begin x after_minus) i minus
 of_hit begin (there n (here i)) = at_one (λ x. Step begin x after_zero) i zero_first
 of_hit begin (there n (there m (here i))) = digit_first i
+of_hit begin (there n (there m (there o x))) = elim x [ ]
 of_hit after_minus (here i) = at_one (λ x. Step after_minus x after_zero) i minus_zero
 of_hit after_minus (there m (here i)) = minus_digit i
+of_hit after_minus (there m (there _ x)) = elim x [ ]
 of_hit after_zero (here i) = at_one (λ x. Step after_zero x after_point) i zero_point
 of_hit after_zero (there n (here i)) = zero_e (at_one Rfc.e i Rfc.lower_e)
 of_hit after_zero (there n (there m (here i))) = zero_e (at_one Rfc.e i Rfc.upper_e)
+of_hit after_zero (there n (there m (there o x))) = elim x [ ]
 of_hit in_int (here i) = int_digit i
 of_hit in_int (there n (here i)) = at_one (λ x. Step in_int x after_point) i int_point
 of_hit in_int (there n (there m (here i))) = int_e (at_one Rfc.e i Rfc.lower_e)
 of_hit in_int (there n (there m (there o (here i)))) = int_e (at_one Rfc.e i Rfc.upper_e)
+of_hit in_int (there n (there m (there o (there _ x)))) = elim x [ ]
 of_hit after_point (here i) = point_digit i
+of_hit after_point (there n x) = elim x [ ]
 of_hit in_frac (here i) = frac_digit i
 of_hit in_frac (there n (here i)) = frac_e (at_one Rfc.e i Rfc.lower_e)
 of_hit in_frac (there n (there m (here i))) = frac_e (at_one Rfc.e i Rfc.upper_e)
+of_hit in_frac (there n (there m (there o x))) = elim x [ ]
 of_hit after_e (here i) = at_one (λ x. Step after_e x after_sign) i e_minus
 of_hit after_e (there n (here i)) = at_one (λ x. Step after_e x after_sign) i e_plus
 of_hit after_e (there n (there m (here i))) = e_digit i
+of_hit after_e (there n (there m (there o x))) = elim x [ ]
 of_hit after_sign (here i) = sign_digit i
+of_hit after_sign (there n x) = elim x [ ]
 of_hit in_exp (here i) = exp_digit i
+of_hit in_exp (there n x) = elim x [ ]
 
 -- the rows with an e stand behind others, all below it
 e_hits : {b : ℕ} → Rfc.e b → Hits e_rows b after_e

@@ -45,6 +45,12 @@ module _ (published lent : List ℕ) (l : Limits) where
     abbrev PlainCauses : Refusal → Type 0
     PlainCauses = CauseOf published lent l (Cause l document) document NoCause [] After-plain
 
+    plain_end_to
+        : (v : Value) → read_json l document ≡ ok v → (k : Refusal) → EndCause 15 false (plain v) output k
+        → PlainCause published lent l document output k
+    plain_end_to v e k (over c) = absurd (true≢false (sym c))
+    plain_end_to v e k (short c) = PlainCause.row_15 e c
+
     plain_to : (k : Refusal) → PlainCauses k → PlainCause published lent l document output k
     plain_to k (limits e) = PlainCause.row_18 e
     plain_to k (slices e) = PlainCause.row_1 e
@@ -52,8 +58,7 @@ module _ (published lent : List ℕ) (l : Limits) where
     plain_to k (in_1 c) = PlainCause.rows_3_to_6 c
     plain_to k (long_2 e) = absurd (let z : ⊥ = omega arith in z)
     plain_to k (in_2 c) = absurd c
-    plain_to k (later (v, e, over c)) = absurd (true≢false (sym c))
-    plain_to k (later (v, e, short c)) = PlainCause.row_15 e c
+    plain_to k (later (v, e, c)) = plain_end_to v e k c
 
     plain_from : (k : Refusal) → PlainCause published lent l document output k → PlainCauses k
     plain_from k (PlainCause.row_18 e) = limits e
@@ -92,6 +97,12 @@ module _ (published lent : List ℕ) (l : Limits) where
     abbrev InferCauses : Refusal → Type 0
     InferCauses = CauseOf published lent l (ShapeCause l first) first (Cause l document) document After-infer
 
+    infer_end_to
+        : (s : Shape) (v : Value) → read_shape l first ≡ ok s → read_json l document ≡ ok v → (k : Refusal)
+        → ShapeEnd l output (join s (shape_of v)) k → InferCause published lent l first document output k
+    infer_end_to s v e f k (over c) = InferCause.row_11 e f c
+    infer_end_to s v e f k (short c) = InferCause.row_15 e f c
+
     infer_to : (k : Refusal) → InferCauses k → InferCause published lent l first document output k
     infer_to k (limits e) = InferCause.row_18 e
     infer_to k (slices e) = InferCause.row_1 e
@@ -99,8 +110,7 @@ module _ (published lent : List ℕ) (l : Limits) where
     infer_to k (in_1 c) = InferCause.rows_7_and_8 c
     infer_to k (long_2 e) = InferCause.row_2_second e
     infer_to k (in_2 c) = InferCause.rows_3_to_6 c
-    infer_to k (later (s, v, e, f, over c)) = InferCause.row_11 e f c
-    infer_to k (later (s, v, e, f, short c)) = InferCause.row_15 e f c
+    infer_to k (later (s, v, e, f, c)) = infer_end_to s v e f k c
 
     infer_from : (k : Refusal) → InferCause published lent l first document output k → InferCauses k
     infer_from k (InferCause.row_18 e) = limits e
@@ -145,6 +155,12 @@ module _ (published lent : List ℕ) (l : Limits) where
     abbrev JoinCauses : Refusal → Type 0
     JoinCauses = CauseOf published lent l (ShapeCause l first) first (ShapeCause l second) second After-join
 
+    join_end_to
+        : (s t : Shape) → read_shape l first ≡ ok s → read_shape l second ≡ ok t → (k : Refusal) → ShapeEnd l output (join s t) k
+        → JoinCause published lent l first second output k
+    join_end_to s t e f k (over c) = JoinCause.row_11 e f c
+    join_end_to s t e f k (short c) = JoinCause.row_15 e f c
+
     join_to : (k : Refusal) → JoinCauses k → JoinCause published lent l first second output k
     join_to k (limits e) = JoinCause.row_18 e
     join_to k (slices e) = JoinCause.row_1 e
@@ -152,8 +168,7 @@ module _ (published lent : List ℕ) (l : Limits) where
     join_to k (in_1 c) = JoinCause.rows_7_and_8_first c
     join_to k (long_2 e) = JoinCause.row_2_second e
     join_to k (in_2 c) = JoinCause.rows_7_and_8_second c
-    join_to k (later (s, t, e, f, over c)) = JoinCause.row_11 e f c
-    join_to k (later (s, t, e, f, short c)) = JoinCause.row_15 e f c
+    join_to k (later (s, t, e, f, c)) = join_end_to s t e f k c
 
     join_from : (k : Refusal) → JoinCause published lent l first second output k → JoinCauses k
     join_from k (JoinCause.row_18 e) = limits e

@@ -85,6 +85,12 @@ module _ (published lent : List ℕ) (l : Limits) where
     abbrev CheckCauses : Refusal → Type 0
     CheckCauses = CauseOf published lent l (ReaderCause l reader) reader (ShapeCause l second) second After-check
 
+    check_end_to
+        : (r : Result) (s u : Shape) → read_reader l reader ≡ ok r → read_shape l second ≡ ok s → Checks (s ∷ []) r u → (k : Refusal)
+        → ShapeEnd l output u k → CheckCause published lent l reader second output k
+    check_end_to r s u e f d k (over c) = CheckCause.row_11 e f d c
+    check_end_to r s u e f d k (short c) = CheckCause.row_15 e f d c
+
     check_to : (k : Refusal) → CheckCauses k → CheckCause published lent l reader second output k
     check_to k (limits e) = CheckCause.row_18 e
     check_to k (slices e) = CheckCause.row_1 e
@@ -93,8 +99,7 @@ module _ (published lent : List ℕ) (l : Limits) where
     check_to k (long_2 e) = CheckCause.row_2_second e
     check_to k (in_2 c) = CheckCause.rows_7_and_8_second c
     check_to k (later (r, s, e, f, refuses c)) = CheckCause.rows_9_and_10 e f c
-    check_to k (later (r, s, e, f, gives d (over c))) = CheckCause.row_11 e f d c
-    check_to k (later (r, s, e, f, gives d (short c))) = CheckCause.row_15 e f d c
+    check_to k (later (r, s, e, f, gives {u} d c)) = check_end_to r s u e f d k c
 
     check_from : (k : Refusal) → CheckCause published lent l reader second output k → CheckCauses k
     check_from k (CheckCause.row_18 e) = limits e
@@ -170,6 +175,12 @@ module _ (published lent : List ℕ) (l : Limits) where
     abbrev RunCauses : Refusal → Type 0
     RunCauses = CauseOf published lent l (ReaderCause l reader) reader (Cause l document) document After-run
 
+    run_end_to
+        : (r : Result) (v w : Value) (m : ℕ) → read_reader l reader ≡ ok r → read_json l document ≡ ok v → Runs l (v ∷ []) 0 r w m
+        → (k : Refusal) → ResultEnd l output w k → RunCause published lent l reader document output k
+    run_end_to r v w m e f d k (over c) = RunCause.row_14 e f d c
+    run_end_to r v w m e f d k (short c) = RunCause.row_15 e f d c
+
     run_to : (k : Refusal) → RunCauses k → RunCause published lent l reader document output k
     run_to k (limits e) = RunCause.row_18 e
     run_to k (slices e) = RunCause.row_1 e
@@ -178,8 +189,7 @@ module _ (published lent : List ℕ) (l : Limits) where
     run_to k (long_2 e) = RunCause.row_2_second e
     run_to k (in_2 c) = RunCause.rows_3_to_6 c
     run_to k (later (r, v, e, f, halts c)) = RunCause.rows_12_and_13 e f c
-    run_to k (later (r, v, e, f, runs d (over c))) = RunCause.row_14 e f d c
-    run_to k (later (r, v, e, f, runs d (short c))) = RunCause.row_15 e f d c
+    run_to k (later (r, v, e, f, runs {w} {m} d c)) = run_end_to r v w m e f d k c
 
     run_from : (k : Refusal) → RunCause published lent l reader document output k → RunCauses k
     run_from k (RunCause.row_18 e) = limits e

@@ -54,8 +54,8 @@ live_open o = live_enter (at 0 opening) (shape_opens o 0) (live_word o)
 
 -- a name behind every name
 compare_same : (x : ℕ) → compare x x ≡ Ordering.eq
-compare_same zero = compare.zero_zero
-compare_same (suc x) = compare.suc_suc x x ∙ compare_same x
+compare_same zero = compare.zero-zero
+compare_same (suc x) = compare.suc-suc x x ∙ compare_same x
 
 longer_behind : (n : Bytes) → order n (n ++ 0 ∷ []) ≡ Ordering.lt
 unfolding order

@@ -31,6 +31,7 @@ hit_heads (there _ (there _ (there _ (there _ (here i))))) = head_ee i
 hit_heads (there _ (there _ (there _ (there _ (there _ (here i)))))) = head_f0 i
 hit_heads (there _ (there _ (there _ (there _ (there _ (there _ (here i))))))) = head_f1 i
 hit_heads (there _ (there _ (there _ (there _ (there _ (there _ (there _ (here i)))))))) = head_f4 i
+hit_heads (there _ (there _ (there _ (there _ (there _ (there _ (there _ (there _ x)))))))) = elim x [ ]
 
 heads_hits : {b lo hi n : ℕ} → Heads b lo hi n → Hits head_table b (tails lo hi n)
 unfolding head_table
@@ -65,6 +66,7 @@ hit_escapes (there _ (there _ (there _ (there _ (there _ (there _ (here i)))))))
 hit_escapes (there _ (there _ (there _ (there _ (there _ (there _ (there _ (here i)))))))) =
     short_escape (at_one (λ x. Rfc.escaped_char x 0x09) i Rfc.escaped_char.tab)
 hit_escapes (there _ (there _ (there _ (there _ (there _ (there _ (there _ (there _ (here i))))))))) = at_one (λ x. Escapes x none) i hex_escape
+hit_escapes (there _ (there _ (there _ (there _ (there _ (there _ (there _ (there _ (there _ x))))))))) = elim x [ ]
 
 pub escapes_look : {b : ℕ} {e : Option ℕ} → Escapes b e → look escape_table b ≡ some e
 unfolding look between escape_table
@@ -84,6 +86,7 @@ unfolding hex_table
 hit_hexdig (here i) = Rfc.hex_digit i
 hit_hexdig (there _ (here i)) = Rfc.hex_upper i
 hit_hexdig (there _ (there _ (here i))) = Rfc.hex_lower i
+hit_hexdig (there _ (there _ (there _ x))) = elim x [ ]
 
 pub hexdig_hits : {b d : ℕ} → Rfc.HEXDIG b d → (k : ℕ) × Hits hex_table b k × (b - k ≡ d)
 unfolding hex_table

@@ -47,12 +47,28 @@ data Four (o : Option ℕ) : Bytes → ℕ → Bytes → Type 0 where
       → digit_fits o 0 0 i ≡ true → digit_fits o 1 (0 * 16 + i) j ≡ true
       → Four o (a ∷ b ∷ c ∷ d ∷ r) ((((0 * 16 + i) * 16 + j) * 16 + k) * 16 + l) r
 
+hexes_1
+    : {o : Option ℕ} {a b c i j k : ℕ} {s u : Bytes} {v : ℕ} → Rfc.HEXDIG a i → Rfc.HEXDIG b j → Rfc.HEXDIG c k
+    → digit_fits o 0 0 i ≡ true → digit_fits o 1 (0 * 16 + i) j ≡ true
+    → Hexes o 3 (((0 * 16 + i) * 16 + j) * 16 + k) s v u → Four o (a ∷ b ∷ c ∷ s) v u
+hexes_1 x y z f g (last_digit w i o) = four x y z w f g
+hexes_1 x y z f g (more_digits w i o t) = absurd (let z : ⊥ = omega arith in z)
+
+hexes_2
+    : {o : Option ℕ} {a b i j : ℕ} {s u : Bytes} {v : ℕ} → Rfc.HEXDIG a i → Rfc.HEXDIG b j → digit_fits o 0 0 i ≡ true
+    → digit_fits o 1 (0 * 16 + i) j ≡ true → Hexes o 2 ((0 * 16 + i) * 16 + j) s v u → Four o (a ∷ b ∷ s) v u
+hexes_2 x y f g (last_digit z h n) = absurd (let z : ⊥ = omega arith in z)
+hexes_2 x y f g (more_digits z h n t) = hexes_1 x y z f g t
+
+hexes_3
+    : {o : Option ℕ} {a i : ℕ} {s u : Bytes} {v : ℕ} → Rfc.HEXDIG a i → digit_fits o 0 0 i ≡ true → Hexes o 1 (0 * 16 + i) s v u
+    → Four o (a ∷ s) v u
+hexes_3 x f (last_digit y g m) = absurd (let z : ⊥ = omega arith in z)
+hexes_3 x f (more_digits y g m t) = hexes_2 x y f g t
+
 hexes_four : {o : Option ℕ} {s u : Bytes} {v : ℕ} → Hexes o 0 0 s v u → Four o s v u
 hexes_four (last_digit x f l) = absurd (let z : ⊥ = omega arith in z)
-hexes_four (more_digits x f l (last_digit y g m)) = absurd (let z : ⊥ = omega arith in z)
-hexes_four (more_digits x f l (more_digits y g m (last_digit z h n))) = absurd (let z : ⊥ = omega arith in z)
-hexes_four (more_digits x f l (more_digits y g m (more_digits z h n (last_digit w i o)))) = four x y z w f g
-hexes_four (more_digits x f l (more_digits y g m (more_digits z h n (more_digits w i o t)))) = absurd (let z : ⊥ = omega arith in z)
+hexes_four (more_digits x f l t) = hexes_3 x f t
 
 four_unicode : {o : Option ℕ} {s u : Bytes} {v : ℕ} → Four o s v u → Rfc.unicode (0x5C ∷ 0x75 ∷ s) v u
 four_unicode (four {a} {b} {c} {d} {i} {j} {k} {l} {r} x y z w f g) =

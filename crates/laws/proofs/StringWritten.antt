@@ -34,6 +34,7 @@ hit_short (there _ (there _ (there _ (there _ (there _ (here i)))))) =
     as_short (at_one (λ x. Rfc.escaped_char 0x72 x) i Rfc.escaped_char.carriage_return) (λ l q n. below i l (omega arith))
 hit_short (there _ (there _ (there _ (there _ (there _ (there _ (here i))))))) =
     as_short (at_one (λ x. Rfc.escaped_char 0x74 x) i Rfc.escaped_char.tab) (λ l q n. below i l (omega arith))
+hit_short (there _ (there _ (there _ (there _ (there _ (there _ (there _ x))))))) = elim x [ ]
 
 quote_found : look short_escapes 0x22 ≡ some (bytes "\\\"")
 unfolding look between short_escapes

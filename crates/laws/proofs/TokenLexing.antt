@@ -41,6 +41,7 @@ border_bounds b c e = of_hit (look_hit border_table b c e)
     of_hit (there n (there m (there k (there l (here i))))) = at_byte i bounds_open
     of_hit (there n (there m (there k (there l (there o (here i)))))) = at_byte i bounds_close
     of_hit (there n (there m (there k (there l (there o (there q (here i))))))) = at_byte i bounds_quote
+    of_hit (there n (there m (there k (there l (there o (there q (there _ x))))))) = elim x [ ]
 
 bounds_border : {b : ℕ} {c : Border} → Bounds b c → look border_table b ≡ some c
 unfolding look between border_table

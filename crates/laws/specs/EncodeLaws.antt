@@ -5,7 +5,7 @@ use Rattle.std.proofs.Common.{sym, subst, inl, inr, arith}
 use Rattle.definitions.specs.Bytes.{Bytes}
 use Rattle.definitions.specs.Utf8.{encode}
 use Rattle.laws.specs.Ranges.{lt_or_le, le-leb, gt_leb}
-use Rattle.laws.specs.Rfc3629.{In, UTF8Tail, utf8_2, utf8_3a, utf8_3b, utf8_3c, utf8_3d, utf8_4a, utf8_4b}
+use Rattle.laws.specs.Rfc3629.{In, UTF8Tail, UTF82, UTF83, UTF84, utf8_2, utf8_3a, utf8_3b, utf8_3c, utf8_3d, utf8_4a, utf8_4b}
 use Rattle.laws.specs.Rfc3629.{utf8_4c, Encodes, one_octet, two_octets, three_octets, four_octets}
 
 -- ---- encode, by the length of what it writes
@@ -151,18 +151,26 @@ four_same n a b c d i j k m l e =
     let s : 0x80 + n % 64 ≡ d = omega arith in
     rw (encode_4 n l, p, q, r, s)
 
+of_two : (c a b : ℕ) {t r : Bytes} → UTF82 (a ∷ b ∷ []) t r → c ≡ (a - 0xC0) * 64 + (b - 0x80) → a ∷ b ∷ [] ≡ encode c
+of_two c a b (utf8_2 i j) e = two_same c a b i j e
+
+of_three
+    : (c a b d : ℕ) {t r : Bytes} → UTF83 (a ∷ b ∷ d ∷ []) t r → c ≡ (a - 0xE0) * 4096 + (b - 0x80) * 64 + (d - 0x80)
+    → a ∷ b ∷ d ∷ [] ≡ encode c
+of_three c a b d (utf8_3a i j k) e = three_same c a b d (omega arith) (omega arith) k (omega arith) e
+of_three c a b d (utf8_3b i j k) e = three_same c a b d (omega arith) j k (omega arith) e
+of_three c a b d (utf8_3c i j k) e = three_same c a b d (omega arith) (omega arith) k (omega arith) e
+of_three c a b d (utf8_3d i j k) e = three_same c a b d (omega arith) j k (omega arith) e
+
+of_four
+    : (c a b x d : ℕ) {t r : Bytes} → UTF84 (a ∷ b ∷ x ∷ d ∷ []) t r
+    → c ≡ (a - 0xF0) * 262144 + (b - 0x80) * 4096 + (x - 0x80) * 64 + (d - 0x80) → a ∷ b ∷ x ∷ d ∷ [] ≡ encode c
+of_four c a b x d (utf8_4a i j k l) e = four_same c a b x d (omega arith) (omega arith) k l (omega arith) e
+of_four c a b x d (utf8_4b i j k l) e = four_same c a b x d (omega arith) j k l (omega arith) e
+of_four c a b x d (utf8_4c i j k l) e = four_same c a b x d (omega arith) (omega arith) k l (omega arith) e
+
 pub encodes_encode : {c : ℕ} {t : Bytes} → Encodes c t → t ≡ encode c
 encodes_encode {c} (one_octet l) = sym (encode_1 c (omega arith))
-encodes_encode {c} (two_octets {a} {b} (utf8_2 i j) e) = two_same c a b i j e
-encodes_encode {c} (three_octets {a} {b} {c = d} (utf8_3a i j k) e) =
-    three_same c a b d (omega arith) (omega arith) k (omega arith) e
-encodes_encode {c} (three_octets {a} {b} {c = d} (utf8_3b i j k) e) = three_same c a b d (omega arith) j k (omega arith) e
-encodes_encode {c} (three_octets {a} {b} {c = d} (utf8_3c i j k) e) =
-    three_same c a b d (omega arith) (omega arith) k (omega arith) e
-encodes_encode {c} (three_octets {a} {b} {c = d} (utf8_3d i j k) e) = three_same c a b d (omega arith) j k (omega arith) e
-encodes_encode {c} (four_octets {a} {b} {c = x} {d} (utf8_4a i j k l) e) =
-    four_same c a b x d (omega arith) (omega arith) k l (omega arith) e
-encodes_encode {c} (four_octets {a} {b} {c = x} {d} (utf8_4b i j k l) e) =
-    four_same c a b x d (omega arith) j k l (omega arith) e
-encodes_encode {c} (four_octets {a} {b} {c = x} {d} (utf8_4c i j k l) e) =
-    four_same c a b x d (omega arith) (omega arith) k l (omega arith) e
+encodes_encode {c} (two_octets {a} {b} u e) = of_two c a b u e
+encodes_encode {c} (three_octets {a} {b} {c = d} u e) = of_three c a b d u e
+encodes_encode {c} (four_octets {a} {b} {c = x} {d} u e) = of_four c a b x d u e

@@ -28,26 +28,26 @@ eq_gt p q = clash (ap is_le p) (ap is_le q)
 -- ---- compare
 
 compare_refl : (x : ℕ) → compare x x ≡ Ordering.eq
-compare_refl zero = compare.zero_zero
-compare_refl (suc x) = compare.suc_suc x x ∙ compare_refl x
+compare_refl zero = compare.zero-zero
+compare_refl (suc x) = compare.suc-suc x x ∙ compare_refl x
 
 compare_eq : (x y : ℕ) → compare x y ≡ Ordering.eq → x ≡ y
 compare_eq x y e = eqb→eq x y (subst (λ (o : Ordering). T (compare_is_eq o)) (sym e) tt)
 
 compare_flip : (x y : ℕ) → compare y x ≡ flip (compare x y)
-compare_flip zero zero = compare.zero_zero ∙ ap flip (sym compare.zero_zero)
-compare_flip zero (suc y) = compare.suc_zero y ∙ ap flip (sym (compare.zero_suc y))
-compare_flip (suc x) zero = compare.zero_suc x ∙ ap flip (sym (compare.suc_zero x))
-compare_flip (suc x) (suc y) = compare.suc_suc y x ∙ compare_flip x y ∙ ap flip (sym (compare.suc_suc x y))
+compare_flip zero zero = compare.zero-zero ∙ ap flip (sym compare.zero-zero)
+compare_flip zero (suc y) = compare.suc-zero y ∙ ap flip (sym (compare.zero-suc y))
+compare_flip (suc x) zero = compare.zero-suc x ∙ ap flip (sym (compare.suc-zero x))
+compare_flip (suc x) (suc y) = compare.suc-suc y x ∙ compare_flip x y ∙ ap flip (sym (compare.suc-suc x y))
 
 compare_trans : (x y z : ℕ) → compare x y ≡ Ordering.lt → compare y z ≡ Ordering.lt → compare x z ≡ Ordering.lt
-compare_trans zero zero z p q = lt_eq p compare.zero_zero
-compare_trans zero (suc y) zero p q = lt_gt q (compare.suc_zero y)
-compare_trans zero (suc y) (suc z) p q = compare.zero_suc z
-compare_trans (suc x) zero z p q = lt_gt p (compare.suc_zero x)
-compare_trans (suc x) (suc y) zero p q = lt_gt q (compare.suc_zero y)
+compare_trans zero zero z p q = lt_eq p compare.zero-zero
+compare_trans zero (suc y) zero p q = lt_gt q (compare.suc-zero y)
+compare_trans zero (suc y) (suc z) p q = compare.zero-suc z
+compare_trans (suc x) zero z p q = lt_gt p (compare.suc-zero x)
+compare_trans (suc x) (suc y) zero p q = lt_gt q (compare.suc-zero y)
 compare_trans (suc x) (suc y) (suc z) p q =
-    compare.suc_suc x z ∙ compare_trans x y z (sym (compare.suc_suc x y) ∙ p) (sym (compare.suc_suc y z) ∙ q)
+    compare.suc-suc x z ∙ compare_trans x y z (sym (compare.suc-suc x y) ∙ p) (sym (compare.suc-suc y z) ∙ q)
 
 -- ---- order
 

@@ -154,6 +154,7 @@ module _ (l : Limits) where
       : (r : Result) (env : List Value) → BodyGives r env → BodyHalts r env → (vs : Items) {n m q : ℕ} → ItemsHalt l env n r vs m q
       → run_items (λ v i. run r l (v ∷ env) i) vs n ≡ refused m q
   unfolding run_items gives
+  items_halt r env body halt no_items x = elim x [ ]
   items_halt r env body halt (item v vs) (this_item h) = bind_refused _ (halt v _ _ _ h)
   items_halt r env body halt (item v vs) (later_item d h) = bind_ok _ (body v _ _ _ d) ∙ bind_refused _ (items_halt r env body halt vs h)
 
@@ -268,6 +269,7 @@ module _ (l : Limits) where
     run_halts (Result.pack at ps) {n = n} (pack_part e h) = bind_ok _ (enter_within l at n e) ∙ bind_refused _ (pairs_halt ps h)
 
     pairs_halt : (ps : Pairs) {env : List Value} {n m q : ℕ} → PairsHalt l env n ps m q → run_pairs ps l env n ≡ refused m q
+    pairs_halt no_pairs x = elim x [ ]
     pairs_halt (pair name r ps) (this_pair h) = bind_refused _ (run_halts r h)
     pairs_halt (pair name r ps) (later_pair d h) = bind_ok _ (run_gives r d) ∙ bind_refused _ (pairs_halt ps h)
 
