@@ -1,5 +1,5 @@
 -- The seven C calls: "hold the work slices themselves, as long as published, return the number, and write text, place,
--- length, steps and yes as five 8-byte little_endian words into an answer buffer". Assumes nothing.
+-- length, steps and yes as five 8-byte little-endian words into an answer buffer". Assumes nothing.
 use Rattle.std.specs.Prelude.{ℕ, zero, suc, ◌/◌, ◌%◌, Bool, true, false, List, [], ◌∷◌, ◌++◌, ltb, length, drop}
 use Rattle.definitions.specs.declared.Limits.{Limits}
 use Rattle.definitions.specs.declared.Answer.{Answer}
@@ -23,7 +23,7 @@ unfoldable pub as_word : Bool → ℕ
 as_word true = 1
 as_word false = 0
 
--- "text, place, length, steps and yes as five 8-byte little_endian words"
+-- "text, place, length, steps and yes as five 8-byte little-endian words"
 unfoldable pub answer_words : Answer → Bytes
 answer_words a =
     little_endian 8 a.text
