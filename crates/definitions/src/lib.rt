@@ -1,5 +1,7 @@
 // The plain types that contracts and definitions share. There is no code here: what they mean stands in specs/.
 
+#![tactic(auto)]
+
 // The limits of document 01, handed to everything that judges one.
 #[derive(Clone, Copy)]
 pub struct Limits {

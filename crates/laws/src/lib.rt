@@ -1,1 +1,3 @@
-// Theorems over the definitions alone. There is no code here: the statements and their proofs stand in specs/.
+// Theorems over the definitions alone. There is no code here: the statements and their proofs stand in specs/ and proofs/.
+
+#![tactic(auto)]
