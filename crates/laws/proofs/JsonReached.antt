@@ -7,7 +7,7 @@ use Rattle.definitions.specs.Text.{Inside}
 use Rattle.definitions.specs.Number.{Numeral, no_digits, Phase, begin, next, complete}
 use Rattle.definitions.specs.Value.{size}
 use Rattle.definitions.specs.Json.{Gap, Role, State, put, Move}
-use Rattle.laws.specs.Tree.{Tree, no_trees, tree, Named, no_named, meaning, meaning_named}
+use Rattle.laws.specs.Tree.{Tree, no_trees, Named, no_named, meaning, meaning_named}
 use Rattle.laws.specs.Rfc8259 as Rfc
 use Rattle.laws.specs.Rfc8259.{ws_char, ws, JSONText}
 use Rattle.laws.specs.Steps.{TextSteps, NumberSteps}

@@ -3,7 +3,7 @@ use Rattle.std.specs.Prelude.{ℕ, suc, ◌+◌, max, ◌≡◌, refl, Bool, tru
 use Rattle.std.proofs.Common.{sym, ◌∙◌, ap, ap₂, subst, length-append, arith}
 use Rattle.definitions.specs.Bytes.{Bytes, bytes, order, same}
 use Rattle.definitions.specs.Shape.{Kind, among, Numeric, Shape, shape, Element, no_list, list_of, Record, no_rec}
-use Rattle.definitions.specs.Shape.{rec_of, Fields, no_fields, field, has, has_list, has_rec, behind, forms, forms_element}
+use Rattle.definitions.specs.Shape.{rec_of, Fields, no_fields, field, has, has_list, has_rec, forms, forms_element}
 use Rattle.definitions.specs.Shape.{forms_record, forms_fields, levels, levels_element, levels_record, levels_fields}
 use Rattle.definitions.specs.ShapeText.{Parts, Around, as_element, as_member, shape_open, shape_word, kind_word, member_open}
 use Rattle.definitions.specs.ShapeText.{member_word, member_name, member_close, State, want, no_parts, with_kind, with_element}
