@@ -107,9 +107,9 @@ module _ (shapes : List ℕ) (from to : ℕ) (nodes : List ℕ) (at end : ℕ) (
                 };
           })
 
-    pub WalkEnds
+    pub walk_ends
         : to ≤ i → (fs : Fields) → HoldsFields shapes pool from to fs → (ms : Members) → HoldsMembers nodes pool at end ms
         → true ≡ missing_have_null ms fs
     unfolding missing_have_null
-    WalkEnds past fs h ms k =
+    walk_ends past fs h ms k =
         let m = w.left fs h ms k in sym (m.alike ∙ ap (missing_have_null ms) (no_field_left m.holds past))

@@ -9,7 +9,7 @@ use Rattle.definitions.specs.Outcome.{Outcome, ok, refused, ◌>>=◌}
 use Rattle.definitions.specs.Shape.{Shape, among, rank}
 use Rattle.definitions.specs.Join.{join}
 use Rattle.definitions.specs.Reader.{Result}
-use Rattle.definitions.specs.Checking.{wants, if-kinds, check}
+use Rattle.definitions.specs.Checking.{wants, if_kinds, check}
 use Rattle.laws.specs.FormGrammar.{result_levels}
 use Rattle.shapes.specs.Shapes.{bit}
 use Rattle.shapes.specs.ShapesLaws.{union_bits}
@@ -26,8 +26,8 @@ use Rattle.checking.specs.CheckContracts.{Checks, MeetsForm, FormAsked, GivesFor
 use Rattle.checking.proofs.SimpleForms.{conversion_code_le, literal_code_ge}
 use Rattle.checking.proofs.FormWalk.{kept_then, coded_as, part_told}
 
-bool_wanted : 2 ≡ wanted if-kinds
-unfolding flags among rank if-kinds bit
+bool_wanted : 2 ≡ wanted if_kinds
+unfolding flags among rank if_kinds bit
 bool_wanted = refl
 
 -- the form that has the code of `if`
@@ -83,10 +83,10 @@ module _ (forms shapes pool b : List ℕ) (row d : ℕ) (choose : get_or forms r
 
   -- what comes behind the first result, and behind the second
   abbrev behind_first : (at : ℕ) (r₂ r₃ : Result) (env : List Shape) → Outcome ℕ Shape → Outcome ℕ Shape
-  behind_first at r₂ r₃ env o = o >>= λ t₁. check r₂ env >>= λ t₂. check r₃ env >>= λ t₃. wants at if-kinds t₁ (ok (join t₂ t₃))
+  behind_first at r₂ r₃ env o = o >>= λ t₁. check r₂ env >>= λ t₂. check r₃ env >>= λ t₃. wants at if_kinds t₁ (ok (join t₂ t₃))
 
   abbrev behind_second : (at : ℕ) (r₃ : Result) (env : List Shape) (t₁ : Shape) → Outcome ℕ Shape → Outcome ℕ Shape
-  behind_second at r₃ env t₁ o = o >>= λ t₂. check r₃ env >>= λ t₃. wants at if-kinds t₁ (ok (join t₂ t₃))
+  behind_second at r₃ env t₁ o = o >>= λ t₂. check r₃ env >>= λ t₃. wants at if_kinds t₁ (ok (join t₂ t₃))
 
   first_meets
       : {p : List ℕ} {m deep at : ℕ} {r₁ r₂ r₃ : Result} {env : List Shape} → Meets p m deep (Result.choose at r₁ r₂ r₃) env
@@ -198,7 +198,7 @@ module _ (forms shapes pool b : List ℕ) (row d : ℕ) (choose : get_or forms r
               whole_is
                   : {p : List ℕ} {m deep at : ℕ} {r₁ r₂ r₃ : Result} {env : List Shape} (h : Meets p m deep (Result.choose at r₁ r₂ r₃) env)
                   → check (Result.choose at r₁ r₂ r₃) env
-                  ≡ (check r₃ env >>= λ t₃. wants at if-kinds (told_first h).0 (ok (join (told_second h).0 t₃)))
+                  ≡ (check r₃ env >>= λ t₃. wants at if_kinds (told_first h).0 (ok (join (told_second h).0 t₃)))
               unfolding check ◌>>=◌
               whole_is {at} {r₂} {r₃} {env} h =
                   ap (behind_first at r₂ r₃ env) (told_first h).1 ∙ ap (behind_second at r₃ env (told_first h).0) (told_second h).1
@@ -209,7 +209,7 @@ module _ (forms shapes pool b : List ℕ) (row d : ℕ) (choose : get_or forms r
               unfolding ◌>>=◌
               third_refuses {number} {place} k (Result.choose at r₁ r₂ r₃) h is_choose =
                   whole_is h
-                  ∙ ap (λ (o : Outcome ℕ Shape). o >>= λ t₃. wants at if-kinds (told_first h).0 (ok (join (told_second h).0 t₃)))
+                  ∙ ap (λ (o : Outcome ℕ Shape). o >>= λ t₃. wants at if_kinds (told_first h).0 (ok (join (told_second h).0 t₃)))
                   (part_told forms shapes pool part₃ (checked.Refused number place) answer₃ k (third_meets h))
 
               pub third_refused : {number place : ℕ} → part₃ ≡ checked.Refused number place → GivesForm forms shapes pool b b₃ row d part₃
@@ -228,13 +228,13 @@ module _ (forms shapes pool b : List ℕ) (row d : ℕ) (choose : get_or forms r
                     let t = told_first h in
                     let u = told_second h in
                     let v = part_told forms shapes pool part₃ (checked.Kinds given₃) answer₃ k (third_meets h) in
-                    let same : wants place if-kinds t.0 (ok (join u.0 v.0)) ≡ check (Result.choose at r₁ r₂ r₃) env
-                    = ap (λ (y : ℕ). wants y if-kinds t.0 (ok (join u.0 v.0))) (near ∙ stands_at h.stands)
-                    ∙ sym (whole_is h ∙ ap (λ (o : Outcome ℕ Shape). o >>= λ t₃. wants at if-kinds t.0 (ok (join u.0 t₃))) v.1) in
+                    let same : wants place if_kinds t.0 (ok (join u.0 v.0)) ≡ check (Result.choose at r₁ r₂ r₃) env
+                    = ap (λ (y : ℕ). wants y if_kinds t.0 (ok (join u.0 v.0))) (near ∙ stands_at h.stands)
+                    ∙ sym (whole_is h ∙ ap (λ (o : Outcome ℕ Shape). o >>= λ t₃. wants at if_kinds t.0 (ok (join u.0 t₃))) v.1) in
                     subst
                     (λ (o : Outcome ℕ Shape). Checks o x)
                     same
-                    (w if-kinds t.0 (join u.0 v.0) t.2 bool_wanted
+                    (w if_kinds t.0 (join u.0 v.0) t.2 bool_wanted
                     (sym (union_bits u.0 v.0) ∙ ap₂ (λ (y z : ℕ). bit_or y z) u.2 v.2))
 
                 pub choose_told : GivesForm forms shapes pool b b₃ row d x

@@ -7,7 +7,7 @@ use lib.ListN.{length, get_or}
 use Rattle.definitions.specs.Outcome.{Outcome, ok, refused, ◌>>=◌}
 use Rattle.definitions.specs.Shape.{Shape, list_of, only_list, element_of, has_list, has_rec}
 use Rattle.definitions.specs.Reader.{Place, Result}
-use Rattle.definitions.specs.Checking.{wants, list-kinds, element_shape, check_place, check}
+use Rattle.definitions.specs.Checking.{wants, list_kinds, element_shape, check_place, check}
 use Rattle.laws.specs.FormGrammar.{result_levels}
 use Rattle.shapes.specs.Shapes.{bit, numeric_bits, kind_bits}
 use Rattle.forms.specs.Forms.{form_code, form_at, FormStands}
@@ -100,7 +100,7 @@ module _ (forms shapes pool b : List ℕ) (row d : ℕ) (each : get_or forms row
     unfolding check ◌>>=◌
     refuses {number} {place} e {env} (Result.each at q r) h is_each =
         ap
-        (λ (o : Outcome ℕ Shape). o >>= λ s. check r (element_shape (element_of s) ∷ env) >>= λ t. wants at list-kinds s (ok (only_list (list_of t))))
+        (λ (o : Outcome ℕ Shape). o >>= λ s. check r (element_shape (element_of s) ∷ env) >>= λ t. wants at list_kinds s (ok (only_list (list_of t))))
         (found h (located.Refused number place) e)
 
     pub each_refused
@@ -154,10 +154,10 @@ module _ (forms shapes pool b : List ℕ) (row d : ℕ) (each : get_or forms row
           body_refuses {number} {place} f {env} (Result.each at q r) h is_each =
               let s = found h (located.At at_row kinds) e in
               ap
-              (λ (o : Outcome ℕ Shape). o >>= λ s. check r (element_shape (element_of s) ∷ env) >>= λ t. wants at list-kinds s (ok (only_list (list_of t))))
+              (λ (o : Outcome ℕ Shape). o >>= λ s. check r (element_shape (element_of s) ∷ env) >>= λ t. wants at list_kinds s (ok (only_list (list_of t))))
               s.1
               ∙ ap
-              (λ (o : Outcome ℕ Shape). o >>= λ t. wants at list-kinds s.0 (ok (only_list (list_of t))))
+              (λ (o : Outcome ℕ Shape). o >>= λ t. wants at list_kinds s.0 (ok (only_list (list_of t))))
               (part_told forms shapes pool part (checked.Refused number place) answer f (body_meets h))
 
           pub body_refused : {number place : ℕ} → part ≡ checked.Refused number place → GivesForm forms shapes pool b b₂ row d part
@@ -175,17 +175,17 @@ module _ (forms shapes pool b : List ℕ) (row d : ℕ) (each : get_or forms row
             gives_list {env} (Result.each at q r) h is_each =
                 let s = found h (located.At at_row kinds) e in
                 let t = part_told forms shapes pool part (checked.Kinds given) answer f (body_meets h) in
-                let same : wants place list-kinds s.0 (ok (only_list (list_of t.0))) ≡ check (Result.each at q r) env
-                = ap (λ (y : ℕ). wants y list-kinds s.0 (ok (only_list (list_of t.0)))) (near ∙ stands_at h.stands)
+                let same : wants place list_kinds s.0 (ok (only_list (list_of t.0))) ≡ check (Result.each at q r) env
+                = ap (λ (y : ℕ). wants y list_kinds s.0 (ok (only_list (list_of t.0)))) (near ∙ stands_at h.stands)
                 ∙ sym
                 (ap
-                (λ (o : Outcome ℕ Shape). o >>= λ s. check r (element_shape (element_of s) ∷ env) >>= λ t. wants at list-kinds s (ok (only_list (list_of t))))
+                (λ (o : Outcome ℕ Shape). o >>= λ s. check r (element_shape (element_of s) ∷ env) >>= λ t. wants at list_kinds s (ok (only_list (list_of t))))
                 s.1
-                ∙ ap (λ (o : Outcome ℕ Shape). o >>= λ t. wants at list-kinds s.0 (ok (only_list (list_of t)))) t.1) in
+                ∙ ap (λ (o : Outcome ℕ Shape). o >>= λ t. wants at list_kinds s.0 (ok (only_list (list_of t)))) t.1) in
                 subst
                 (λ (o : Outcome ℕ Shape). Checks o x)
                 same
-                (w list-kinds s.0 (only_list (list_of t.0)) s.2.left list_wanted (list_given t.0))
+                (w list_kinds s.0 (only_list (list_of t.0)) s.2.left list_wanted (list_given t.0))
 
             pub each_told : GivesForm forms shapes pool b b₂ row d x
             each_told = record { told = λ p m deep r env h. gives_list r h (as_each h); kept = kept }

@@ -17,10 +17,10 @@ pub row_within : {shapes : List ℕ} {row kinds : ℕ} → SomeBound shapes row 
 row_within h = stands_row h.bound.stands
 
 -- whether list is left
-ListLeft
+list_left
     : {shapes p : List ℕ} {deep row kinds : ℕ} {s : Shape} → Bound shapes p deep row kinds s → has_bit kinds 32 ≡ has Kind.list s
 unfolding kind_bit
-ListLeft {s} h = ap (λ (x : ℕ). has_bit x 32) (sym h.left) ∙ has_kind Kind.list s
+list_left {s} h = ap (λ (x : ℕ). has_bit x 32) (sym h.left) ∙ has_kind Kind.list s
 
 by_element
     : (shapes b b' : List ℕ) (d row kinds : ℕ) → d < length b → (k : ℕ) → k ≡ get_or shapes (row + 2) 0 % 128
@@ -44,7 +44,7 @@ module _ (shapes b b' : List ℕ) (d row kinds : ℕ) (there : d < length b) whe
       : (k : ℕ) → has_bit kinds 32 ≡ true → k ≡ get_or shapes (row + 2) 0 % 128 → b' ≡ set b d (binding (row + 2) k)
       → BindsElement shapes b b' d row kinds
   element_bound k has_it e put p deep s h =
-      by_element shapes b b' d row kinds there k e put (omega arith) p deep s h (sym (ListLeft h) ∙ has_it)
+      by_element shapes b b' d row kinds there k e put (omega arith) p deep s h (sym (list_left h) ∙ has_it)
 
   pub nothing_bound : has_bit kinds 32 ≡ false → b' ≡ set b d (binding row 0) → BindsElement shapes b b' d row kinds
-  nothing_bound lacks put p deep s h = without_element shapes b b' d row kinds there put p deep s h (sym (ListLeft h) ∙ lacks)
+  nothing_bound lacks put p deep s h = without_element shapes b b' d row kinds there put p deep s h (sym (list_left h) ∙ lacks)

@@ -7,7 +7,7 @@ use lib.Bits.{bit_and, bit_or}
 use lib.Pow.{pow_mono}
 use Rattle.definitions.specs.Shape.{Kind, among, rank, Shape, has}
 use Rattle.definitions.specs.Reader.{Test}
-use Rattle.definitions.specs.Checking.{gain_null, test-kinds, taken_out}
+use Rattle.definitions.specs.Checking.{gain_null, test_kinds, taken_out}
 use Rattle.shapes.specs.Shapes.{bit, kind_bit, kind_bits, has_bit}
 use Rattle.shapes.specs.ShapesLaws.{has_kind, bits_with_null}
 use Rattle.forms.specs.Forms.{test_code}
@@ -16,7 +16,7 @@ use Rattle.checking.specs.KindSets.{flags, test_flags, other_flags, cut_bits, ou
 
 -- that of `num`
 pub num_flags : TellsTest 3 12
-unfolding test_code flags among rank test-kinds bit
+unfolding test_code flags among rank test_kinds bit
 num_flags Test.null e = omega arith
 num_flags Test.bool e = omega arith
 num_flags Test.int e = omega arith
@@ -27,7 +27,7 @@ num_flags Test.rec e = omega arith
 
 -- that of every other test
 pub kind_flags : (test : ℕ) → (test ≡ 3 → ⊥) → TellsTest test (1 * 2 ^ test % 18446744073709551616)
-unfolding test_code flags among rank test-kinds bit
+unfolding test_code flags among rank test_kinds bit
 kind_flags test ne Test.null e = ap (λ (x : ℕ). 1 * 2 ^ x % 18446744073709551616) e
 kind_flags test ne Test.bool e = ap (λ (x : ℕ). 1 * 2 ^ x % 18446744073709551616) e
 kind_flags test ne Test.int e = ap (λ (x : ℕ). 1 * 2 ^ x % 18446744073709551616) e
@@ -54,7 +54,7 @@ no_flags test h Test.list e = omega arith
 no_flags test h Test.rec e = omega arith
 
 others : (k : Test) → other_flags k ≡ 127 - test_flags k
-unfolding flags among rank test-kinds bit
+unfolding flags among rank test_kinds bit
 others Test.null = refl
 others Test.bool = refl
 others Test.int = refl
@@ -89,7 +89,7 @@ int_stays kinds test i d k s e f =
     ∙ int_of_decimals s (sym (has_kind Kind.dec s) ∙ ap (λ (y : ℕ). has_bit y 8) (sym f) ∙ d)))
 
 pub int_out : (kinds test : ℕ) → test ≡ 2 → has_bit kinds 8 ≡ false → TellsOut kinds test (bit_and kinds 123)
-unfolding kind_bit flags among rank test-kinds bit
+unfolding kind_bit flags among rank test_kinds bit
 int_out kinds test i d k s e f =
     ap (λ (y : ℕ). bit_and y 123) f
     ∙ sym

@@ -9,7 +9,7 @@ use lib.Dec.{eqb}
 use lib.ListN.{length, get_or}
 use Rattle.definitions.specs.Bytes.{Bytes}
 use Rattle.definitions.specs.Shape.{Kind, Shape, rec_of, Fields, within, record_of, has}
-use Rattle.definitions.specs.Checking.{field-kinds, gain_null}
+use Rattle.definitions.specs.Checking.{field_kinds, gain_null}
 use Rattle.pool.specs.Pool.{text_in}
 use Rattle.nodes.specs.StandingLaws.{text_referred}
 use Rattle.shapes.specs.Shapes.{kind_bit, has_bit, members_at, size_at}
@@ -34,8 +34,8 @@ pub row_ends : {shapes p : List ℕ} {deep row kinds : ℕ} {s : Shape} → Boun
 row_ends h = omega (arith, stands_within h.stands, stands_size h.stands)
 
 module _ (shapes pool : List ℕ) (row kinds k place : ℕ) {w : Bool} (told : w ≡ eqb (bit_and kinds 65) kinds) where
-  is_wanted : {p : List ℕ} {deep : ℕ} {s : Shape} → Bound shapes p deep row kinds s → w ≡ within field-kinds s
-  is_wanted {s} h = told ∙ within_told field-kinds s kinds 65 h.left field_wanted
+  is_wanted : {p : List ℕ} {deep : ℕ} {s : Shape} → Bound shapes p deep row kinds s → w ≡ within field_kinds s
+  is_wanted {s} h = told ∙ within_told field_kinds s kinds 65 h.left field_wanted
 
   pub unmet : w ≡ false → GivesField shapes pool row kinds k place (located.Refused 9 place)
   unmet e p deep n s h = field_unmet place n s (sym (is_wanted h.bound) ∙ e)

@@ -13,7 +13,7 @@ use Rattle.definitions.specs.Value.{Value}
 use Rattle.definitions.specs.Shape.{among, rank, Shape, int_only, int_and_dec, has_list, has_rec, only_null, only_bool, only_numeric, only_text}
 use Rattle.definitions.specs.Join.{numeric_of, shape_of}
 use Rattle.definitions.specs.Reader.{Place, Conversion, to_int, to_dec, to_bool, to_text, Result}
-use Rattle.definitions.specs.Checking.{wants, convert-kinds, convert_shape, list-kinds, check_place, check}
+use Rattle.definitions.specs.Checking.{wants, convert_kinds, convert_shape, list_kinds, check_place, check}
 use Rattle.nodes.specs.Nodes.{number_bits}
 use Rattle.shapes.specs.Shapes.{bit, numeric_bits, kind_bits}
 use Rattle.forms.specs.Forms.{conversion_code, literal_code, form_code, form_operand, form_at}
@@ -65,8 +65,8 @@ conversion_bits to_dec = 12
 conversion_bits to_bool = 2
 conversion_bits to_text = 16
 
-conversion_told : (c : Conversion) → (conversion_bits c ≡ wanted (convert-kinds c)) × (kind_bits (convert_shape c) ≡ conversion_bits c)
-unfolding conversion_bits flags among rank convert-kinds bit kind_bits convert_shape only_bool only_numeric only_text numeric_bits has_list has_rec
+conversion_told : (c : Conversion) → (conversion_bits c ≡ wanted (convert_kinds c)) × (kind_bits (convert_shape c) ≡ conversion_bits c)
+unfolding conversion_bits flags among rank convert_kinds bit kind_bits convert_shape only_bool only_numeric only_text numeric_bits has_list has_rec
 conversion_told to_int = (refl, refl)
 conversion_told to_dec = (refl, refl)
 conversion_told to_bool = (refl, refl)
@@ -117,8 +117,8 @@ bool_converts code e = converts code 2 (bool_bits code e)
 pub text_converts : (code : ℕ) → (code ≡ 3 → ⊥) → (code ≡ 4 → ⊥) → (code ≡ 5 → ⊥) → TellsConversion code 16
 text_converts code a b d = converts code 16 (text_bits code a b d)
 
-pub list_wanted : 33 ≡ wanted list-kinds
-unfolding flags among rank list-kinds bit
+pub list_wanted : 33 ≡ wanted list_kinds
+unfolding flags among rank list_kinds bit
 list_wanted = refl
 
 int_given : kind_bits (only_numeric int_only) ≡ 4
@@ -266,11 +266,11 @@ module _ (forms shapes pool bindings : List ℕ) (row : ℕ) {code : ℕ} (coded
             → Simple r → check r env ≡ refused number place
         unfolding check ◌>>=◌
         refuses {number} {place} e (Result.convert at c q) h simple_convert =
-            ap (λ (o : Outcome ℕ Shape). o >>= λ s. wants at (convert-kinds c) s (ok (convert_shape c)))
+            ap (λ (o : Outcome ℕ Shape). o >>= λ s. wants at (convert_kinds c) s (ok (convert_shape c)))
             (told (located.Refused number place) e h (convert_place h.stands))
         refuses {number} {place} e (Result.keep at q) h simple_keep = told (located.Refused number place) e h (keep_place h.stands)
         refuses {number} {place} e (Result.count at q) h simple_count =
-            ap (λ (o : Outcome ℕ Shape). o >>= λ s. wants at list-kinds s (ok (only_numeric int_only)))
+            ap (λ (o : Outcome ℕ Shape). o >>= λ s. wants at list_kinds s (ok (only_numeric int_only)))
             (told (located.Refused number place) e h (count_place h.stands))
         refuses e (Result.literal at v) h simple_literal = absurd (let z : ⊥ = omega (arith, literal_coded h.stands) in z)
 
@@ -296,10 +296,10 @@ module _ (forms shapes pool bindings : List ℕ) (row : ℕ) {code : ℕ} (coded
             counts f w (Result.keep at q) h simple_keep = absurd (let z : ⊥ = omega (arith, keep_coded h.stands) in z)
             counts f w (Result.count at q) h simple_count =
                 let t = told (located.At at_row kinds) e h (count_place h.stands) in
-                let same : wants place list-kinds t.0 (ok (only_numeric int_only)) ≡ check (Result.count at q) env
-                = ap (λ (y : ℕ). wants y list-kinds t.0 (ok (only_numeric int_only))) (near ∙ stands_at h.stands)
-                ∙ sym (ap (λ (o : Outcome ℕ Shape). o >>= λ s. wants at list-kinds s (ok (only_numeric int_only))) t.1) in
-                subst (λ (o : Outcome ℕ Shape). Checks o x) same (w list-kinds t.0 (only_numeric int_only) t.2.left list_wanted int_given)
+                let same : wants place list_kinds t.0 (ok (only_numeric int_only)) ≡ check (Result.count at q) env
+                = ap (λ (y : ℕ). wants y list_kinds t.0 (ok (only_numeric int_only))) (near ∙ stands_at h.stands)
+                ∙ sym (ap (λ (o : Outcome ℕ Shape). o >>= λ s. wants at list_kinds s (ok (only_numeric int_only))) t.1) in
+                subst (λ (o : Outcome ℕ Shape). Checks o x) same (w list_kinds t.0 (only_numeric int_only) t.2.left list_wanted int_given)
             counts f w (Result.literal at v) h simple_literal = absurd (let z : ⊥ = omega (arith, literal_coded h.stands) in z)
 
             converts_to
@@ -309,10 +309,10 @@ module _ (forms shapes pool bindings : List ℕ) (row : ℕ) {code : ℕ} (coded
             converts_to a b g w (Result.convert at c q) h simple_convert =
                 let t = told (located.At at_row kinds) e h (convert_place h.stands) in
                 let u = g c (convert_coded h.stands) in
-                let same : wants place (convert-kinds c) t.0 (ok (convert_shape c)) ≡ check (Result.convert at c q) env
-                = ap (λ (y : ℕ). wants y (convert-kinds c) t.0 (ok (convert_shape c))) (near ∙ stands_at h.stands)
-                ∙ sym (ap (λ (o : Outcome ℕ Shape). o >>= λ s. wants at (convert-kinds c) s (ok (convert_shape c))) t.1) in
-                subst (λ (o : Outcome ℕ Shape). Checks o x) same (w (convert-kinds c) t.0 (convert_shape c) t.2.left u.0 u.1)
+                let same : wants place (convert_kinds c) t.0 (ok (convert_shape c)) ≡ check (Result.convert at c q) env
+                = ap (λ (y : ℕ). wants y (convert_kinds c) t.0 (ok (convert_shape c))) (near ∙ stands_at h.stands)
+                ∙ sym (ap (λ (o : Outcome ℕ Shape). o >>= λ s. wants at (convert_kinds c) s (ok (convert_shape c))) t.1) in
+                subst (λ (o : Outcome ℕ Shape). Checks o x) same (w (convert_kinds c) t.0 (convert_shape c) t.2.left u.0 u.1)
             converts_to a b g w (Result.keep at q) h simple_keep = absurd (a (keep_coded h.stands))
             converts_to a b g w (Result.count at q) h simple_count = absurd (b (count_coded h.stands))
             converts_to a b g w (Result.literal at v) h simple_literal = absurd (let z : ⊥ = omega (arith, literal_coded h.stands) in z)

@@ -6,7 +6,7 @@ use Rattle.definitions.specs.Value.{Value}
 use Rattle.definitions.specs.Shape.{Kind, Shape, ascending, levels}
 use Rattle.definitions.specs.Join.{shape_of}
 use Rattle.definitions.specs.Reader.{Place, Conversion, Result}
-use Rattle.definitions.specs.Checking.{wants, convert-kinds, convert_shape, field_shape, check_place, check, check_reader}
+use Rattle.definitions.specs.Checking.{wants, convert_kinds, convert_shape, field_shape, check_place, check, check_reader}
 use Rattle.laws.specs.FormGrammar.{result_levels}
 use Rattle.nodes.specs.Nodes.{number_bits, Refers}
 use Rattle.plain.specs.Table.{Used}
@@ -127,7 +127,7 @@ TellsWant kinds want given place x =
 -- a conversion wants the kinds that it gives
 abbrev pub TellsConversion : (code kinds : ℕ) → Type 0
 TellsConversion code kinds =
-    (c : Conversion) → code ≡ conversion_code c → (kinds ≡ wanted (convert-kinds c)) × (kind_bits (convert_shape c) ≡ kinds)
+    (c : Conversion) → code ≡ conversion_code c → (kinds ≡ wanted (convert_kinds c)) × (kind_bits (convert_shape c) ≡ kinds)
 
 abbrev pub TellsLiteral : (code operand payload kinds : ℕ) → Type 0
 TellsLiteral code operand payload kinds =

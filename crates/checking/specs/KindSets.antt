@@ -9,7 +9,7 @@ use Rattle.definitions.specs.Shape.{Kind, among, Numeric, no_number, int_only, i
 use Rattle.definitions.specs.Shape.{Record, Fields, no_rec, rec_of, has, has_int, has_dec, has_list}
 use Rattle.definitions.specs.Shape.{has_rec, within, every, all_kinds, rank, element_of, record_of}
 use Rattle.definitions.specs.Reader.{Test}
-use Rattle.definitions.specs.Checking.{gain_null, test-kinds, stay, stay_numeric, stay_element, stay_record, cut_to, taken_out}
+use Rattle.definitions.specs.Checking.{gain_null, test_kinds, stay, stay_numeric, stay_element, stay_record, cut_to, taken_out}
 use Rattle.shapes.specs.Shapes.{bit, kind_bits}
 use Rattle.shapes.specs.ShapesLaws.{numeric_sum}
 use Rattle.forms.specs.Forms.{test_code}
@@ -205,13 +205,13 @@ stay_bits kept s h =
 
 -- the bits of K's kinds, and of those that aren't K's
 abbrev pub test_flags : Test → ℕ
-test_flags k = flags (λ j. among j (test-kinds k))
+test_flags k = flags (λ j. among j (test_kinds k))
 
 abbrev pub other_flags : Test → ℕ
-other_flags k = flags (λ j. not (among j (test-kinds k)))
+other_flags k = flags (λ j. not (among j (test_kinds k)))
 
-cut_stays : (k : Test) (s : Shape) → Stays (λ j. among j (test-kinds k)) s
-unfolding among rank test-kinds
+cut_stays : (k : Test) (s : Shape) → Stays (λ j. among j (test_kinds k)) s
+unfolding among rank test_kinds
 cut_stays Test.null s = refl
 cut_stays Test.bool s = refl
 cut_stays Test.int s = refl
@@ -222,10 +222,10 @@ cut_stays Test.rec s = refl
 
 pub cut_bits : (k : Test) (s : Shape) → kind_bits (cut_to k s) ≡ bit_and (kind_bits s) (test_flags k)
 unfolding cut_to
-cut_bits k s = stay_bits (λ j. among j (test-kinds k)) s (cut_stays k s)
+cut_bits k s = stay_bits (λ j. among j (test_kinds k)) s (cut_stays k s)
 
-out_stays : (k : Test) (s : Shape) → (k ≡ Test.int → has Kind.dec s ≡ false) → Stays (λ j. not (among j (test-kinds k))) s
-unfolding among rank test-kinds
+out_stays : (k : Test) (s : Shape) → (k ≡ Test.int → has Kind.dec s ≡ false) → Stays (λ j. not (among j (test_kinds k))) s
+unfolding among rank test_kinds
 out_stays Test.null s h = refl
 out_stays Test.bool s h = refl
 out_stays Test.int s h = ap not (h refl)
@@ -239,11 +239,11 @@ pub out_bits
     : (k : Test) (s : Shape) → (k ≡ Test.int → has Kind.dec s ≡ false)
     → kind_bits (taken_out k s) ≡ bit_and (kind_bits s) (other_flags k)
 unfolding taken_out
-out_bits k s h = stay_bits (λ j. not (among j (test-kinds k))) s (out_stays k s h)
+out_bits k s h = stay_bits (λ j. not (among j (test_kinds k))) s (out_stays k s h)
 
 -- "except that taking out int leaves int and dec where dec is there"
 pub int_of_decimals : (s : Shape) → has Kind.dec s ≡ true → taken_out Test.int s ≡ s
-unfolding taken_out stay among rank test-kinds stay_numeric stay_element stay_record has has_dec
+unfolding taken_out stay among rank test_kinds stay_numeric stay_element stay_record has has_dec
 int_of_decimals (shape n b no_number t e r) h = clash {b = false} h refl
 int_of_decimals (shape n b int_only t e r) h = clash {b = false} h refl
 int_of_decimals (shape n b int_and_dec t e r) h = refl

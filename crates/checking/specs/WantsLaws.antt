@@ -8,7 +8,7 @@ use Rattle.std.specs.Int.Bits.{bit_and}
 use Rattle.definitions.specs.Bytes.{Bytes}
 use Rattle.definitions.specs.Outcome.{Outcome, ok, refused, ◌>>=◌}
 use Rattle.definitions.specs.Shape.{Kind, among, rank, Shape, shape, no_rec, rec_of, Fields, find, within, record_of, has, has_rec}
-use Rattle.definitions.specs.Checking.{field-kinds, wants, listed, gain_null, field_shape}
+use Rattle.definitions.specs.Checking.{field_kinds, wants, listed, gain_null, field_shape}
 use Rattle.laws.specs.Bools.{clash}
 use Rattle.shapes.specs.Shapes.{bit, kind_bits}
 use Rattle.checking.specs.KindSets.{flags, within_bits}
@@ -33,23 +33,23 @@ module _ {A : Type 0} (at : ℕ) (ks : List Kind) (s : Shape) (out : Outcome ℕ
 
 -- ---- members
 
-pub field_wanted : 65 ≡ wanted field-kinds
-unfolding flags among rank field-kinds bit
+pub field_wanted : 65 ≡ wanted field_kinds
+unfolding flags among rank field_kinds bit
 field_wanted = refl
 
 module _ (at : ℕ) (n : Bytes) (s : Shape) where
-  pub field_unmet : within field-kinds s ≡ false → field_shape at n s ≡ refused 9 at
+  pub field_unmet : within field_kinds s ≡ false → field_shape at n s ≡ refused 9 at
   unfolding field_shape
-  field_unmet e = wants_unmet at field-kinds s _ e
+  field_unmet e = wants_unmet at field_kinds s _ e
 
-  module _ (e : within field-kinds s ≡ true) where
+  module _ (e : within field_kinds s ≡ true) where
     -- what is listed, with the null that it gains
     gained : Outcome ℕ Shape → Outcome ℕ Shape
     gained o = o >>= λ t. ok (gain_null (has Kind.null s) t)
 
     field_met : {o : Outcome ℕ Shape} → listed at n (record_of s) ≡ o → field_shape at n s ≡ gained o
     unfolding field_shape gained
-    field_met l = wants_met at field-kinds s _ e ∙ ap gained l
+    field_met l = wants_met at field_kinds s _ e ∙ ap gained l
 
     pub field_nothing : record_of s ≡ no_rec → field_shape at n s ≡ refused 10 at
     unfolding listed gained ◌>>=◌

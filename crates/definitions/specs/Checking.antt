@@ -13,23 +13,23 @@ use Rattle.definitions.specs.Reader.{Place, Conversion, to_int, to_dec, to_bool,
 -- ---- the kinds that each form wants
 
 -- request Q-2: "Let `field` accept kinds within rec and null."
-unfoldable pub field-kinds : List Kind
-field-kinds = Kind.rec ∷ Kind.null ∷ []
+unfoldable pub field_kinds : List Kind
+field_kinds = Kind.rec ∷ Kind.null ∷ []
 
 -- "`int`, `bool`, `text` want kinds within their own ..; `dec` wants kinds within int and dec"
-unfoldable pub convert-kinds : Conversion → List Kind
-convert-kinds to_int = Kind.int ∷ []
-convert-kinds to_dec = Kind.int ∷ Kind.dec ∷ []
-convert-kinds to_bool = Kind.bool ∷ []
-convert-kinds to_text = Kind.text ∷ []
+unfoldable pub convert_kinds : Conversion → List Kind
+convert_kinds to_int = Kind.int ∷ []
+convert_kinds to_dec = Kind.int ∷ Kind.dec ∷ []
+convert_kinds to_bool = Kind.bool ∷ []
+convert_kinds to_text = Kind.text ∷ []
 
 -- "`count` and `each` want kinds within list and null"
-unfoldable pub list-kinds : List Kind
-list-kinds = Kind.list ∷ Kind.null ∷ []
+unfoldable pub list_kinds : List Kind
+list_kinds = Kind.list ∷ Kind.null ∷ []
 
 -- "`if` wants its first R within bool"
-unfoldable pub if-kinds : List Kind
-if-kinds = Kind.bool ∷ []
+unfoldable pub if_kinds : List Kind
+if_kinds = Kind.bool ∷ []
 
 -- "at one form 9 before 10": refusal 9 at the form unless the shape's kinds are within these
 unfoldable pub wants : {A : Type 0} → (at : ℕ) → List Kind → Shape → Outcome ℕ A → Outcome ℕ A
@@ -49,7 +49,7 @@ gain_null false s = s
 
 -- "`field` wants .. the name listed, and gives that member's shape", with null where the place has it
 unfoldable pub field_shape : (at : ℕ) → Bytes → Shape → Outcome ℕ Shape
-field_shape at n s = wants at field-kinds s (listed at n (record_of s) >>= λ t. ok (gain_null (has Kind.null s) t))
+field_shape at n s = wants at field_kinds s (listed at n (record_of s) >>= λ t. ok (gain_null (has Kind.null s) t))
 
 -- "and give it; `dec` .. gives both"
 unfoldable pub convert_shape : Conversion → Shape
@@ -66,14 +66,14 @@ element_shape (list_of s) = s
 -- ---- what `when` binds
 
 -- the kinds that K means: "(num: int and dec; int: int alone)"
-unfoldable pub test-kinds : Test → List Kind
-test-kinds Test.null = Kind.null ∷ []
-test-kinds Test.bool = Kind.bool ∷ []
-test-kinds Test.int = Kind.int ∷ []
-test-kinds Test.num = Kind.int ∷ Kind.dec ∷ []
-test-kinds Test.text = Kind.text ∷ []
-test-kinds Test.list = Kind.list ∷ []
-test-kinds Test.rec = Kind.rec ∷ []
+unfoldable pub test_kinds : Test → List Kind
+test_kinds Test.null = Kind.null ∷ []
+test_kinds Test.bool = Kind.bool ∷ []
+test_kinds Test.int = Kind.int ∷ []
+test_kinds Test.num = Kind.int ∷ Kind.dec ∷ []
+test_kinds Test.text = Kind.text ∷ []
+test_kinds Test.list = Kind.list ∷ []
+test_kinds Test.rec = Kind.rec ∷ []
 
 -- where int stays, or dec
 unfoldable pub stay_numeric : (int dec : Bool) → Numeric → Numeric
@@ -109,11 +109,11 @@ stay kept (shape n b m t e r) =
 
 -- "P's shape cut to K"
 unfoldable pub cut_to : Test → Shape → Shape
-cut_to k s = stay (λ j. among j (test-kinds k)) s
+cut_to k s = stay (λ j. among j (test_kinds k)) s
 
 -- "K's kinds taken out"
 unfoldable pub taken_out : Test → Shape → Shape
-taken_out k s = stay (λ j. not (among j (test-kinds k))) s
+taken_out k s = stay (λ j. not (among j (test_kinds k))) s
 
 -- ---- checking, with the shapes of the bindings, innermost first
 
@@ -125,17 +125,17 @@ check_place (Place.field at n p) env = check_place p env >>= λ s. field_shape a
 -- the shape of a result; "`keep` gives the place's shape", "Literals give their value's shape; `pack` gives rec"
 unfoldable mutual
   pub check : Result → List Shape → Outcome ℕ Shape
-  check (Result.convert at c p) env = check_place p env >>= λ s. wants at (convert-kinds c) s (ok (convert_shape c))
+  check (Result.convert at c p) env = check_place p env >>= λ s. wants at (convert_kinds c) s (ok (convert_shape c))
   check (Result.keep at p) env = check_place p env
-  check (Result.count at p) env = check_place p env >>= λ s. wants at list-kinds s (ok (only_numeric int_only))
+  check (Result.count at p) env = check_place p env >>= λ s. wants at list_kinds s (ok (only_numeric int_only))
   check (Result.each at p r) env =
       check_place p env
-      >>= λ s. check r (element_shape (element_of s) ∷ env) >>= λ t. wants at list-kinds s (ok (only_list (list_of t)))
+      >>= λ s. check r (element_shape (element_of s) ∷ env) >>= λ t. wants at list_kinds s (ok (only_list (list_of t)))
   check (Result.when at k p r₁ r₂) env =
       check_place p env
       >>= λ s. check r₁ (cut_to k s ∷ env) >>= λ t₁. check r₂ (taken_out k s ∷ env) >>= λ t₂. ok (join t₁ t₂)
   check (Result.choose at r₁ r₂ r₃) env =
-      check r₁ env >>= λ t₁. check r₂ env >>= λ t₂. check r₃ env >>= λ t₃. wants at if-kinds t₁ (ok (join t₂ t₃))
+      check r₁ env >>= λ t₁. check r₂ env >>= λ t₂. check r₃ env >>= λ t₃. wants at if_kinds t₁ (ok (join t₂ t₃))
   check (Result.literal at v) env = ok (shape_of v)
   check (Result.pack at ps) env = check_pairs ps env >>= λ fs. ok (only_rec (rec_of fs))
 

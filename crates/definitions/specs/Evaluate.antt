@@ -43,8 +43,8 @@ unfolding Limits.standard Limits.smallest Limits.in_range Bytes.bytes Bytes.betw
     Reader.put_place Reader.use_result Reader.put_result Reader.depth Reader.place_depth Reader.binds Reader.bindings Reader.place_bindings Reader.word_number
     Reader.index_fits Reader.among_pairs Reader.pairs_onto Reader.test_words Reader.place_words Reader.result_words Reader.index_step Reader.literal_step
     Reader.pack_step Reader.want_step Reader.step Reader.finished_result Reader.finished_place Reader.empty_reader Reader.read_result Reader.read_reader
-    Reader.read_place Checking.field-kinds Checking.convert-kinds Checking.list-kinds Checking.if-kinds Checking.wants Checking.listed Checking.gain_null
-    Checking.field_shape Checking.convert_shape Checking.element_shape Checking.test-kinds Checking.stay_numeric Checking.stay_element Checking.stay_record
+    Reader.read_place Checking.field_kinds Checking.convert_kinds Checking.list_kinds Checking.if_kinds Checking.wants Checking.listed Checking.gain_null
+    Checking.field_shape Checking.convert_shape Checking.element_shape Checking.test_kinds Checking.stay_numeric Checking.stay_element Checking.stay_record
     Checking.stay Checking.cut_to Checking.taken_out Checking.check_place Checking.check Checking.check_reader Running.gives Running.enter Running.stuck_unless
     Running.member_of Running.members_of Running.field_value Running.whole_value Running.converted Running.items_of Running.int_value Running.truth
     Running.run_place Running.run_items Running.run Running.run_reader Operations.refusal Operations.output_short Operations.written Operations.said

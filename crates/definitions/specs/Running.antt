@@ -10,7 +10,7 @@ use Rattle.definitions.specs.Value.{Value, Items, no_items, item, Members, no_me
 use Rattle.definitions.specs.Shape.{Kind, among}
 use Rattle.definitions.specs.Admits.{kind_of}
 use Rattle.definitions.specs.Reader.{Place, Conversion, to_int, to_dec, to_bool, to_text, Result, Pairs, no_pairs, pair}
-use Rattle.definitions.specs.Checking.{field-kinds, convert-kinds, list-kinds, test-kinds}
+use Rattle.definitions.specs.Checking.{field_kinds, convert_kinds, list_kinds, test_kinds}
 
 -- what ran, and the steps counted when it had
 pub record Ran (A : Type 0) : Type 0 where
@@ -47,7 +47,7 @@ members_of (Value.rec ms) = ms
 
 -- "`field` on a non-record .. is stuck", but on null
 unfoldable pub field_value : (at : ℕ) → Bytes → Value → Outcome ℕ Value
-field_value at n v = stuck_unless at field-kinds v (ok (member_of n (members_of v)))
+field_value at n v = stuck_unless at field_kinds v (ok (member_of n (members_of v)))
 
 -- an int without its fraction; of anything but a number, itself
 unfoldable pub whole_value : Value → Value
@@ -108,19 +108,19 @@ unfoldable mutual
   run (Result.convert at c p) l env n =
       enter l at n
       >>= λ n₁. run_place p l env n₁
-      >>= λ x. stuck_unless at (convert-kinds c) x.result (gives (converted c x.result) x.steps)
+      >>= λ x. stuck_unless at (convert_kinds c) x.result (gives (converted c x.result) x.steps)
   run (Result.keep at p) l env n = enter l at n >>= λ n₁. run_place p l env n₁
   run (Result.count at p) l env n =
       enter l at n
       >>= λ n₁. run_place p l env n₁
-      >>= λ x. stuck_unless at list-kinds x.result (gives (int_value (count (items_of x.result))) x.steps)
+      >>= λ x. stuck_unless at list_kinds x.result (gives (int_value (count (items_of x.result))) x.steps)
   run (Result.each at p r) l env n =
       enter l at n
       >>= λ n₁. run_place p l env n₁
       >>= λ x.
       stuck_unless
       at
-      list-kinds
+      list_kinds
       x.result
       (run_items (λ v n₂. run r l (v ∷ env) n₂) (items_of x.result) x.steps
       >>= λ xs. gives (Value.list xs.result) xs.steps)
@@ -128,7 +128,7 @@ unfoldable mutual
       enter l at n
       >>= λ n₁. run_place p l env n₁
       >>= λ x.
-      elim (among (kind_of x.result) (test-kinds k)) [
+      elim (among (kind_of x.result) (test_kinds k)) [
         | true ↦ run r₁ l (x.result ∷ env) x.steps
         | false ↦ run r₂ l (x.result ∷ env) x.steps
       ]

@@ -239,13 +239,13 @@ module _ (l l' : Limits) (bytes most : ℕ) (a : most ≤ l.values) (b : most �
   gap_end_same (Gap.after_member ms o) n kept on = refl
   gap_end_same (Gap.whole v) n kept on = refl
 
-  EndSame
+  end_same
       : (q : State) (n : ℕ) (kept : Bytes) (on : ℕ → Bytes → State → Outcome Bytes Value) → 2 * n ≤ bytes + owes q
       → judge l n kept [] (end_move q) on ≡ judge l' n kept [] (end_move q) on
   unfolding judge end_move number_end
-  EndSame (gap g) n kept on h = gap_end_same g n kept on
-  EndSame (in_text r i acc) n kept on h = refl
-  EndSame (in_number p d o) n kept on h = told (complete p)
+  end_same (gap g) n kept on h = gap_end_same g n kept on
+  end_same (in_text r i acc) n kept on h = refl
+  end_same (in_number p d o) n kept on h = told (complete p)
     where
       behind : Move
       behind = gap_end (put (Value.number (number_of d)) o)
@@ -259,12 +259,12 @@ module _ (l l' : Limits) (bytes most : ℕ) (a : most ≤ l.values) (b : most �
           (on_false (full l n o) (refused 6 kept) (gap_end_same (put (Value.number (number_of d)) o) n kept on)
           ∙ rw (full_same n o h, judge) refl)
       told false = rw (full_same n o h, judge) refl
-  EndSame (in_literal c cs v o) n kept on h = refl
+  end_same (in_literal c cs v o) n kept on h = refl
 
   scan_same
       : (s : Bytes) (n : ℕ) (kept : Bytes) (q : State) → 2 * n + length s ≤ bytes + owes q → scan l n kept q s ≡ scan l' n kept q s
   unfolding scan
-  scan_same [] n kept q h = EndSame q n kept _ (omega arith)
+  scan_same [] n kept q h = end_same q n kept _ (omega arith)
   scan_same (x ∷ r) n kept q h =
       judge_same (move q x) (owes q) n (length r) kept (x ∷ r) _ _ (move_pays q x) h (λ n' kept' q' i. scan_same r n' kept' q' i)
 

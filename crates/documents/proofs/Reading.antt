@@ -11,7 +11,7 @@ use Rattle.definitions.specs.Json.{read_json}
 use Rattle.definitions.specs.declared.Format.{Format}
 use Rattle.definitions.specs.declared.Format.TheVariants.{Json}
 use Rattle.definitions.specs.Operations.{Source, source}
-use Rattle.laws.specs.Judging.{text_long, text-reads, text_refused}
+use Rattle.laws.specs.Judging.{text_long, text_reads, text_refused}
 use Rattle.laws.specs.Tests.{lt-ltb}
 use Rattle.laws.proofs.RoundLaws.{json_read_good}
 use Rattle.laws.proofs.JsonAdequate.{json_distinct}
@@ -75,7 +75,7 @@ pub judges_json
     → ReadsAs read_json l doc p nodes' p' top r → JudgesDocument (source f) l doc p nodes' p' top r
 unfolding source
 judges_json Json l doc p nodes' p' top (Read words top') h (v, e, d) =
-    record { answer = (v, λ k. text-reads k l read_json doc v h e, d) }
+    record { answer = (v, λ k. text_reads k l read_json doc v h e, d) }
 judges_json Json l doc p nodes' p' top (Refused n q) h e = record { answer = λ k. text_refused k l read_json doc n q h e }
 
 pub judges_long

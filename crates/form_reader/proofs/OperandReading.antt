@@ -248,11 +248,11 @@ module _ (c : Cursor) {text : Bytes} {s : Spelled} (y : ExpectsWord text c.at s)
               };
         }
 
-pub ScaleSmall
+pub scale_small
     : (w : Bytes) {r : WordRead} {negative : Bool} {coefficient scale : ℕ} → WordAnswer w r
     → r ≡ WordIs.Number negative coefficient scale → scale ≤ 9
 unfolding most_scale
-ScaleSmall w z f = (subst (WordAnswer w) f z).bounded.scale
+scale_small w z f = (subst (WordAnswer w) f z).bounded.scale
 
 -- ---- texts
 

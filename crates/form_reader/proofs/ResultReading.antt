@@ -39,10 +39,10 @@ use Rattle.form_reader.proofs.LeadLaws.{inner_le, start_filled, test_small, whol
 
 -- ---- going on
 
-GoesThen
+goes_then
     : {values : ℕ} {s p s' p' s'' p'' : List ℕ} {first : ℕ} {a b c : Cursor} {rs qs : List ℕ} → Goes values s p s' p' first a b rs
     → Goes values s' p' s'' p'' b.begun b c qs → a.top ≤ b.top → Goes values s p s'' p'' first a c (rs ++ qs)
-GoesThen {s} {first} {rs} {qs} g h l =
+goes_then {s} {first} {rs} {qs} g h l =
     record {
       table = h.table ∙ ap (λ (t : List ℕ). t ++ qs) g.table ∙ append_assoc (take (3 * first) s) rs qs;
       counted = omega (arith, g.counted, h.counted, length-append rs qs);
@@ -291,7 +291,7 @@ module _
 
       goes : Goes values s₀ p₀ s' p' c.begun c to rows
       unfolding rows
-      goes = GoesThen m.read.goes part_done.goes m.read.grows
+      goes = goes_then m.read.goes part_done.goes m.read.grows
 
       so_far : SoFar s' (take to.top p') c.begun to.begun lead parts
       unfolding rows
@@ -484,7 +484,7 @@ module _
         done = subst (PartsAnswer led.lead (left - 1) values bound text s p s' p' behind) i of_lead.answer
 
         both : Goes values forms p₀ s' p' (suc c.begun) c to (led.rows ++ done.read.rows)
-        both = GoesThen led.goes done.read.goes led.grows
+        both = goes_then led.goes done.read.goes led.grows
 
         -- bounds for the row
         pub row_bounds

@@ -84,10 +84,10 @@ module _ (forms pool : List ℕ) (from end w n : ℕ) where
                 };
           })
 
-    pub WalkEnds
+    pub walk_ends
         : end ≤ i → (p : List ℕ) (d : ℕ) (ps : Pairs) → take (length p) pool ≡ p → length p < 65536
         → PairsStand forms p from end d ps → false ≡ among_pairs (text_in pool w n) ps
     unfolding among_pairs
-    WalkEnds past p d ps front small s =
+    walk_ends past p d ps front small s =
         let l = x.left p d ps front small s in
         sym (l.found ∙ ap (among_pairs (text_in pool w n)) (no_pair_left l.stand past))

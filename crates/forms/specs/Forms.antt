@@ -127,7 +127,7 @@ mutual
         : {d m at h : ℕ} {q : Place} {rs : List ℕ} → FormHead (Result.count at q) h → PlaceRows p d q rs
         → FormRows p d m (Result.count at q) (h ∷ 0 ∷ m ∷ rs)
     -- "`each` binds the element in its R"
-    EachRows
+    each_rows
         : {d m at h : ℕ} {q : Place} {r : Result} {rs qs : List ℕ} → FormHead (Result.each at q r) h → PlaceRows p d q rs
         → FormRows p (suc d) 0 r qs → FormRows p d m (Result.each at q r) (h ∷ 0 ∷ m ∷ rs ++ qs)
     -- "`when` binds P's value in both its R"

@@ -274,13 +274,13 @@ comes_to {n = n} {m = m} (behind_first {n = q} {s} {fs = gs} l) a h e f =
     let later : order q m ≡ Ordering.lt = lt_before q m (last_behind q l (ascending_rest q s gs h) (ascending_behind q s gs h)) in
     comes_to l (goes_on a (ap (λ (x : Bytes). order x q) e ∙ order_flip q m ∙ ap flip later)) (ascending_rest q s gs h) e f
 
-ListedOf
+listed_of
     : {shapes pool : List ℕ} {used first last : ℕ} {p : List ℕ} {fs : Fields} → MeetsFields shapes pool used first last p fs
     → Listed shapes pool first last p fs
-ListedOf m = record { stand = m.stand; front = m.pooled.front; small = m.pooled.small }
+listed_of m = record { stand = m.stand; front = m.pooled.front; small = m.pooled.small }
 
 pub held_listed : {shapes pool : List ℕ} {used first last : ℕ} → FieldsHeld shapes pool used first last → SomeListed shapes pool first last
-held_listed h = record { used = h.part; fields = h.fields; listed = ListedOf h.meets }
+held_listed h = record { used = h.part; fields = h.fields; listed = listed_of h.meets }
 
 pub named_found
     : {shapes pool : List ℕ} {used first last name : ℕ} (r : Member) → Names shapes first last pool name r
@@ -288,7 +288,7 @@ pub named_found
     → Refers p n name → FindsNamed shapes first last n p fs r
 named_found {shapes} {pool} {used} {first} {last} {name} r h p fs n m i e =
     go r (subst (λ (t : Bytes). Tells shapes p last t fs r) (text_referred pool m.pooled.front m.pooled.small e)
-    (h p fs (ListedOf m)))
+    (h p fs (listed_of m)))
   where
     go : (r : Member) → Tells shapes p last n fs r → FindsNamed shapes first last n p fs r
     go (Found row) t = comes_to t.last (all_left m.stand) i (same_eq n t.label t.alike) (fields_end t.stand)

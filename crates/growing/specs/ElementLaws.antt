@@ -105,10 +105,10 @@ module _
             small = omega (arith, room.small, q.replaced.same);
           }
 
-      pub ListOver
+      pub list_over
           : {shapes₂ : List ℕ} (reached : Shape) → Over shapes₁ shapes₂ (used + opened) (2 * forms start) (2 * forms reached)
           → Over shapes shapes₂ used (2 * forms s) (2 * forms (with_element reached s))
-      ListOver reached o =
+      list_over reached o =
           record {
             over =
                 omega (

@@ -22,7 +22,7 @@ use Rattle.growing.specs.Growing.{element_start, with_element}
 use Rattle.growing.specs.GrowingLaws.{element_start_ascending}
 use Rattle.growing.specs.Rows.{Room, Readies}
 use Rattle.growing.specs.HeadLaws.{bits_with_element, Risen, risen_fits, risen_put}
-use Rattle.growing.specs.ElementLaws.{list_unready, list_stands, list_within, list_room, ListOver, list_risen, ready_put, ready_full}
+use Rattle.growing.specs.ElementLaws.{list_unready, list_stands, list_within, list_room, list_over, list_risen, ready_put, ready_full}
 use Rattle.infer.specs.Infer.{infer_into, infer_items}
 use Rattle.infer.specs.InferForms.{forms_infer_items}
 use Rattle.infer.specs.Inferring.{Meets, Inferable, Infers, MeetsItems, ItemsInferable, InfersItems}
@@ -126,7 +126,7 @@ module _ {shapes nodes pool : List ℕ} {used row at : ℕ} (room : Room shapes 
               subst
               (λ (u : Shape). Over shapes shapes₂ used (2 * forms s) (2 * forms u))
               (into_is h room list)
-              (ListOver h.stands h.within room (put₁ h) (reached h room list)
+              (list_over h.stands h.within room (put₁ h) (reached h room list)
               (subst
               (λ (x : Joined). Becomes shapes₁ shapes₂ p (used + opened) (row + 2) 0 (start h room list) (reached h room list) x)
               e

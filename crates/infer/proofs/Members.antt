@@ -108,10 +108,10 @@ module _
               (subst (λ (x : Joined). Puts shapes shapes₁ used row 0 2 (NewRow kinds (get_or nodes (at + 2) 0)) x) e q₁)
 
           module _ {opened : ℕ} (e₁ : o₁ ≡ Grown opened) where
-            new-Meets
+            new_meets
                 : {p : List ℕ} {fs : Fields} {n : Bytes} {k : ℕ} {v : Value} → MeetsMember shapes nodes pool used first last at p fs n k v
                 → Meets shapes₁ nodes pool (used + opened) row at p k (member_start had) k v
-            new-Meets {v = v} h =
+            new_meets {v = v} h =
                 let g : Shape → Shape = λ s. infer_into v s in
                 record {
                   pooled = h.fields.pooled;
@@ -135,7 +135,7 @@ module _
                   old = member_start had;
                   label = w.word;
                   value = w.value;
-                  meets = new-Meets w.meets;
+                  meets = new_meets w.meets;
                 }
 
             pub new_room_then : MemberInferable shapes nodes pool used first last at → Room shapes₁ (used + opened)
@@ -149,7 +149,7 @@ module _
                   : {p : List ℕ} {fs : Fields} {n : Bytes} {k : ℕ} {v : Value} (h : MeetsMember shapes nodes pool used first last at p fs n k v)
                   → Becomes shapes₁ shapes₂ p (used + opened) row k (member_start had) (infer_into v (member_start had)) o₂
               become₂ {p} {fs} {n} {k} {v} h =
-                  q₂ p k (member_start had) k v (new-Meets h)
+                  q₂ p k (member_start had) k v (new_meets h)
 
               pub new_full_then : o₂ ≡ Full → InfersMember shapes nodes pool shapes₂ used first last at had Full
               new_full_then e p fs n k v h =

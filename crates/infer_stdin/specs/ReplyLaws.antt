@@ -17,7 +17,7 @@ use Rattle.definitions.specs.Operations.{Done, Judged, passed, stopped, refusal,
 use Rattle.definitions.specs.Evaluate.{evaluate}
 use Rattle.laws.specs.Tests.{lt-ltb}
 use Rattle.laws.specs.JoinLaws.{join_nothing_left}
-use Rattle.laws.specs.Judging.{bind_of, bind_stopped, second_stops, both_pass, text_long, text_refused, text-reads}
+use Rattle.laws.specs.Judging.{bind_of, bind_stopped, second_stops, both_pass, text_long, text_refused, text_reads}
 use Rattle.laws.specs.Judging.{shape_over, shape_out_over, shape_out_fits, shape_fits, finish_written, front}
 use Rattle.laws.proofs.Theorems.{json_proper}
 use Rattle.infer_stdin.specs.Reply.{refused_line, told, reply_to}
@@ -47,7 +47,7 @@ module _ (document : Bytes) where
   judged = infer_judged read_json standard (bytes "(shape)") document
 
   starts : judge_text 1 standard read_shape (bytes "(shape)") ≡ passed nothing
-  starts = text-reads 1 standard read_shape (bytes "(shape)") nothing short_text from_nothing
+  starts = text_reads 1 standard read_shape (bytes "(shape)") nothing short_text from_nothing
 
   -- a refused document
   document_stops : {r : Answer} → judge_text 2 standard read_json document ≡ stopped r → judged ≡ stopped r
@@ -87,7 +87,7 @@ module _ (document : Bytes) where
       shown : judged ≡ shape_out standard (shape_of v)
       unfolding standard infer_judged
       shown =
-          bind_of _ (both_pass standard read_shape (bytes "(shape)") read_json document starts (text-reads 2 standard read_json document v h e))
+          bind_of _ (both_pass standard read_shape (bytes "(shape)") read_json document starts (text_reads 2 standard read_json document v h e))
           ∙ ap (λ s. shape_out standard s) (join_nothing_left (shape_of v))
 
       -- one whose shape is too large

@@ -16,7 +16,7 @@ use Rattle.laws.specs.Tests.{lt-ltb}
 use Rattle.laws.proofs.ReaderForms.{reader_accepted_to}
 use Rattle.laws.proofs.ReaderFacts.{reader_proper}
 use Rattle.laws.proofs.RoundReaderRead.{reader_read_good}
-use Rattle.laws.specs.Judging.{text_long, text-reads, text_refused, first_stops, second_stops, both_pass}
+use Rattle.laws.specs.Judging.{text_long, text_reads, text_refused, first_stops, second_stops, both_pass}
 use Rattle.laws.specs.FormGrammar.{result_forms, result_levels, ReaderWithin, one_form, no_token}
 use Rattle.forms.specs.Forms.{FormRows}
 use Rattle.forms.specs.FormsLaws.{form_rows_grow}
@@ -116,7 +116,7 @@ module _ {l : Limits} {text : Bytes} where
             let fewer : result_forms a.form ≤ few.values = within_forms (reader_accepted_to few text a.form a.read) some in
             record {
               reader = a.form;
-              judged = λ k. text-reads k l read_reader text a.form h read;
+              judged = λ k. text_reads k l read_reader text a.form h read;
               table =
                   record {
                     rows = a.held;

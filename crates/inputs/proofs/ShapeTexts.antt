@@ -12,7 +12,7 @@ use Rattle.definitions.specs.ShapeText.{read_shape}
 use Rattle.definitions.specs.WorkSlices.{name_words}
 use Rattle.laws.specs.Tests.{lt-ltb}
 use Rattle.laws.proofs.ShapeForms.{shape_accepted_to, shape_ascending}
-use Rattle.laws.specs.Judging.{text_long, text-reads, text_refused}
+use Rattle.laws.specs.Judging.{text_long, text_reads, text_refused}
 use Rattle.shapes.specs.Shapes.{ShapeRows}
 use Rattle.shapes.specs.ShapesLaws.{shape_rows_grow}
 use Rattle.shape_reader.specs.declared.ShapeRead.{ShapeRead}
@@ -77,7 +77,7 @@ judges_read {l} {few} {text} {shapes} {p} {shapes'} {p'} {top} {r} e h d = recor
         let read = same ∙ a.read in
         record {
           shape = a.form;
-          judged = λ k. text-reads k l read_shape text a.form h read;
+          judged = λ k. text_reads k l read_shape text a.form h read;
           table =
               record {
                 rows = a.held;

@@ -106,12 +106,12 @@ module _ {shapes p : List ℕ} {used row m : ℕ} {s : Shape} where
 
 -- a first word with a kind more and words more
 module _ (n b : Bool) (k : Numeric) (t : Bool) (e e' : Element) (r r' : Record) where
-  HeadMore
+  head_more
       : (kind words : ℕ) → 32 * bit (has_list e') + 64 * bit (has_rec r') ≡ 32 * bit (has_list e) + 64 * bit (has_rec r) + kind
       → 2 * forms_element e' + 2 * forms_record r' ≡ 2 * forms_element e + 2 * forms_record r + words
       → head_word (shape n b k t e r) + kind + 128 * words ≡ head_word (shape n b k t e' r')
   unfolding head_word kind_bits forms
-  HeadMore kind words f g = omega arith
+  head_more kind words f g = omega arith
 
 module _ {shapes shapes₁ shapes₂ p : List ℕ} {used words row m : ℕ} {n b t : Bool} {k : Numeric} {e : Element} {r : Record} where
   pub record_changed
@@ -132,7 +132,7 @@ module _ {shapes shapes₁ shapes₂ p : List ℕ} {used words row m : ℕ} {n b
       let g : inner ≡ length o.members = omega arith in
       let x : get_or shapes₁ row 0 ≡ head_word (shape n b k t e r) = inside_head (m ∷ o.elements) o.members [] w put.replaced f g in
       let y : get_or shapes₁ row 0 + kind + 128 * words ≡ head_word (shape n b k t e r')
-      = ap (λ (z : ℕ). z + kind + 128 * words) x ∙ HeadMore n b k t e e r r' kind words (omega arith) (omega (arith, put.replaced.grown)) in
+      = ap (λ (z : ℕ). z + kind + 128 * words) x ∙ head_more n b k t e e r r' kind words (omega arith) (omega (arith, put.replaced.grown)) in
       record {
         rows = head_word (shape n b k t e r') ∷ m ∷ (o.elements ++ put.rows);
         encoded = shape_rows o.element put.encoded;
@@ -158,7 +158,7 @@ module _ {shapes shapes₁ shapes₂ p : List ℕ} {used words row m : ℕ} {n b
       let g : inner ≡ length o.elements = omega arith in
       let x : get_or shapes₁ row 0 ≡ head_word (shape n b k t e r) = inside_head (m ∷ []) o.elements o.members w put.replaced f g in
       let y : get_or shapes₁ row 0 + kind + 128 * words ≡ head_word (shape n b k t e' r)
-      = ap (λ (z : ℕ). z + kind + 128 * words) x ∙ HeadMore n b k t e e' r r kind words (omega arith) (omega (arith, put.replaced.grown)) in
+      = ap (λ (z : ℕ). z + kind + 128 * words) x ∙ head_more n b k t e e' r r kind words (omega arith) (omega (arith, put.replaced.grown)) in
       record {
         rows = head_word (shape n b k t e' r) ∷ m ∷ (put.rows ++ o.members);
         encoded = shape_rows put.encoded o.record_of;

@@ -141,12 +141,12 @@ module _ (nodes pool : List ℕ) (from to w n row : ℕ) (within : to ≤ length
       ∙ ap (has_name (text_in pool w n)) f.split
       ∙ ap (λ (y : Bool). y || has_name (text_in pool w n) f.others) (sym (compared h left.named s) ∙ t))
 
-  pub WalkedOn
+  pub walked_on
       : Walking nodes pool from to w n row → row < to → Walkable nodes pool from to → {b : Bool}
       → b ≡ same (text_in pool w n) (text_in pool (name_here % 65536) (name_here / 65536)) → b ≡ false
       → Walking nodes pool from to w n (row + row_size nodes row)
   unfolding has_name
-  WalkedOn v h k s t =
+  walked_on v h k s t =
       record {
         ordered = (step_sizes k v h).1;
         left = λ ms r.

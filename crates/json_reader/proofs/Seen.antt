@@ -12,7 +12,7 @@ use Rattle.definitions.specs.Value.{Value, Members, no_members, member, members_
 use Rattle.laws.specs.Names.{same_eq}
 use Rattle.pool.specs.Pool.{text_in}
 use Rattle.pool.specs.PoolLaws.{length_text_in_min, get_or_text_in, get_or_pool_word}
-use Rattle.json_reader.specs.JsonParts.{name_place, Covers, covers_none, CoversMore}
+use Rattle.json_reader.specs.JsonParts.{name_place, Covers, covers_none, covers_more}
 
 -- ---- the bit of a name
 
@@ -44,14 +44,14 @@ bit_or_of a b k =
 
 covers_or : {seen : ℕ} (b : ℕ) {ms : Members} → Covers seen ms → Covers (bit_or seen b) ms
 covers_or b covers_none = covers_none
-covers_or {seen} b (CoversMore {n} e cs) = CoversMore (bit_or_of seen b (name_place n) ∙ omega (arith, e)) (covers_or b cs)
+covers_or {seen} b (covers_more {n} e cs) = covers_more (bit_or_of seen b (name_place n) ∙ omega (arith, e)) (covers_or b cs)
 
 -- a name's bit is added
 pub covers_with
     : {seen place x : ℕ} {n : Bytes} (v : Value) {ms : Members} → place ≡ name_place n → x ≡ 1 * 2 ^ place → Covers seen ms
     → Covers (bit_or seen x) (member n v ms)
 covers_with {seen} {place} {x} {n} v e f cs =
-    CoversMore (bit_or_of seen x (name_place n) ∙ omega (arith, set)) (covers_or x cs)
+    covers_more (bit_or_of seen x (name_place n) ∙ omega (arith, set)) (covers_or x cs)
   where
     set : x / 2 ^ name_place n % 2 ≡ 1
     set = ap (λ (y : ℕ). y % 2) (ap (λ (y : ℕ). y / 2 ^ name_place n) (f ∙ ap (λ (k : ℕ). 1 * 2 ^ k) e) ∙ shl-shr 1 (name_place n))
@@ -59,13 +59,13 @@ covers_with {seen} {place} {x} {n} v e f cs =
 pub covers_onto : {seen : ℕ} (ms : Members) {os : Members} → Covers seen ms → Covers seen os → Covers seen (members_onto ms os)
 unfolding members_onto
 covers_onto no_members c d = d
-covers_onto (member n v ms) (CoversMore e c) d = covers_onto ms c (CoversMore e d)
+covers_onto (member n v ms) (covers_more e c) d = covers_onto ms c (covers_more e d)
 
 pub not_seen
     : {seen : ℕ} (t : Bytes) (ms : Members) → seen / 2 ^ name_place t % 2 ≡ 0 → Covers seen ms → false ≡ has_name t ms
 unfolding has_name
 not_seen t no_members h covers_none = refl
-not_seen {seen} t (member n v ms) h (CoversMore e c) = go (same t n) refl (not_seen t ms h c)
+not_seen {seen} t (member n v ms) h (covers_more e c) = go (same t n) refl (not_seen t ms h c)
   where
     go : (b : Bool) → same t n ≡ b → false ≡ has_name t ms → false ≡ (same t n || has_name t ms)
     go true q others =

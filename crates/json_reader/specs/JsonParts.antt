@@ -222,7 +222,7 @@ name_place n = (get_or n 0 0 + 5 * length n) % 64
 -- the bits of these names are set
 pub data Covers (seen : ℕ) : Members → Type 0 where
   covers_none : Covers seen no_members
-  CoversMore
+  covers_more
       : {n : Bytes} {v : Value} {ms : Members} → seen / 2 ^ name_place n % 2 ≡ 1 → Covers seen ms → Covers seen (member n v ms)
 
 -- where a name may begin behind some members

@@ -50,12 +50,12 @@ rec_below fs (shape n b m t e (rec_of gs)) i j h =
 
 -- ---- values
 
-ListedBelow
+listed_below
     : (v : Value) (o : Option Shape) → InOption Ascending o
     → ((s : Shape) → Ascending s → admitted v s ≡ true → below (shape_of v) s ≡ true) → admitted_by_listed v o ≡ true
     → AtName (some (shape_of v)) o
-ListedBelow v none i f h = absurd (false≢true h)
-ListedBelow v (some s) i f h = f s i h
+listed_below v none i f h = absurd (false≢true h)
+listed_below v (some s) i f h = f s i h
 
 -- the elements' shape from that of each
 list_admitted_below
@@ -154,7 +154,7 @@ mutual
       m
       v
       ms
-      (ListedBelow
+      (listed_below
       v
       (find m fs)
       (ascending_found fs i m)

@@ -25,7 +25,7 @@ use Rattle.laws.proofs.ReaderForms.{reader_accepted_from}
 use Rattle.laws.specs.RunRules.{runs_literal}
 use Rattle.laws.specs.RunRulesHold.{runs_exactly}
 use Rattle.laws.specs.LimitRanges.{bounds_of}
-use Rattle.laws.specs.Judging.{text-reads, prelude_out}
+use Rattle.laws.specs.Judging.{text_reads, prelude_out}
 
 -- ---- the texts without a token
 
@@ -41,8 +41,8 @@ no_token_blank s = (λ e. blank ((tokens_are_derived s []).0 e), λ w. (tokens_a
     tokenless (ws_more x w) = white_space x (tokenless w)
 
 -- each is a reader that means `(none)`, whatever the limits
-pub blank-reads : (l : Limits) (s : Bytes) → ws s [] → read_reader l s ≡ ok (Result.literal 0 Value.null)
-blank-reads l s w =
+pub blank_reads : (l : Limits) (s : Bytes) → ws s [] → read_reader l s ≡ ok (Result.literal 0 Value.null)
+blank_reads l s w =
     reader_accepted_from l s (Result.literal 0 Value.null)
     (subst (λ ts. ReaderWithin l ts (Result.literal 0 Value.null)) (sym ((no_token_blank s).1 w)) no_token)
 
@@ -79,8 +79,8 @@ module _ (l : Limits) (reader : Bytes) (blank : ws reader []) (short : length re
   unfolding evaluate
   first_alike range =
       let b = bounds_of {l = l} range in
-      text-reads 1 l read_reader reader (Result.literal 0 Value.null) short (blank-reads l reader blank)
-      ∙ sym (text-reads 1 l read_reader (bytes "(none)") (Result.literal 0 Value.null) (omega (arith, b.bytes.0))
+      text_reads 1 l read_reader reader (Result.literal 0 Value.null) short (blank_reads l reader blank)
+      ∙ sym (text_reads 1 l read_reader (bytes "(none)") (Result.literal 0 Value.null) (omega (arith, b.bytes.0))
       (none_reads l (omega (arith, b.values.0)) (omega (arith, b.nesting.0))))
 
   -- and so does what is judged behind them

@@ -46,8 +46,8 @@ pub record Stands (l : Limits) (t : Bytes) (s : Shape) : Type 0 where
   pub good : GoodShape s
   pub fits : shape_over l s ≡ false
 
-pub stands-reads : {l : Limits} {t : Bytes} {s : Shape} → Stands l t s → read_shape l t ≡ ok s
-stands-reads {l} {t} {s} h =
+pub stands_reads : {l : Limits} {t : Bytes} {s : Shape} → Stands l t s → read_shape l t ≡ ok s
+stands_reads {l} {t} {s} h =
     let f = shape_fits l s h.fits in
     ap (λ (x : Bytes). read_shape l x) h.text ∙ shape_reads_back l s h.good h.sorted f.0 f.1
 
@@ -194,7 +194,7 @@ module _ (source : Source) (proper : ProperSource source) (published : List ℕ)
       : {c : Call} {t : Bytes} {s z : Shape} {v : Value} → Stands l t s → Accepted source published l c t z v
       → Accepted source published l c t s v
   same_shape {c} {t} {s} {z} {v} h a =
-      subst (λ (x : Shape). Accepted source published l c t x v) (ok_same a.reads_shape (stands-reads h)) a
+      subst (λ (x : Shape). Accepted source published l c t x v) (ok_same a.reads_shape (stands_reads h)) a
 
   -- the first call, given what the rest reaches from any text
   reaches_first
@@ -219,11 +219,11 @@ module _ (source : Source) (proper : ProperSource source) (published : List ℕ)
   -- ---- another order
 
   -- a call below a shape that fits, with long enough buffers, is accepted
-  FitsBelow
+  fits_below
       : (top : Shape) (text : Bytes) → Stands l text top → (c : Call) (t : Bytes) (s : Shape) (v : Value) → Stands l t s
       → Reads source l c.sample v → below s top ≡ true → below (shape_of v) top ≡ true → LongEnough published text c
       → Accepted source published l c t s v
-  FitsBelow top text k c t s v h r p q long =
+  fits_below top text k c t s v h r p q long =
       let sv : ascending (shape_of v) ≡ true = shape_of_ascending v in
       let j : ascending (join s (shape_of v)) ≡ true = join_ascending s (shape_of v) h.sorted sv in
       let m : below (join s (shape_of v)) top ≡ true = join_least s (shape_of v) top h.sorted sv k.sorted p q in
@@ -233,7 +233,7 @@ module _ (source : Source) (proper : ProperSource source) (published : List ℕ)
         range = h.range;
         work = long.work;
         short_text = stands_short h;
-        reads_shape = stands-reads h;
+        reads_shape = stands_reads h;
         reads_sample = r;
         fits =
             fits_shape l (join s (shape_of v)) (le_trans (forms_mono _ top j k.sorted m) f.0)
@@ -251,7 +251,7 @@ module _ (source : Source) (proper : ProperSource source) (published : List ℕ)
   all_accepted top text k (c ∷ cs) t s h p each long =
       let (v, r, m) = each_first each in
       let q : below (shape_of v) top ≡ true = sample_below top k.sorted r m in
-      let a = FitsBelow top text k c t s v h r p q (each_first long) in
+      let a = fits_below top text k c t s v h r p q (each_first long) in
       accepted_taken c cs t (accepted_left source published l c t s v a).0
       ∙ ap (λ (xs : List Bytes). c.sample ∷ xs)
       (all_accepted top text k cs (left_by source published l c t) (join s (shape_of v)) (join_Stands h a)

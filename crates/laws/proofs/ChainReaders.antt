@@ -33,7 +33,7 @@ use Rattle.laws.specs.Judging.{shape_fits, result_over, result_out_over, result_
 use Rattle.laws.specs.Judging.{finish_written, front}
 use Rattle.laws.proofs.Positives.{check_positive}
 use Rattle.laws.specs.Chain.{Reads, Ends, gives, short_work, out_of_steps, too_large, no_room, Passes, ProperSource}
-use Rattle.laws.proofs.ChainReached.{Stands, stands-reads, ok_same}
+use Rattle.laws.proofs.ChainReached.{Stands, stands_reads, ok_same}
 
 module _ (published lent : List ℕ) (l : Limits) where
   -- ---- check
@@ -175,7 +175,7 @@ pub passes
     → Passes source for_check for_run l s reader lent output text
 passes source proper for_check for_run l text s h reader output lent e =
     let p = check_passed for_check lent l reader text output e in
-    go p.0 p.2 (subst (λ (x : Shape). Passed for_check lent l reader text output p.0 x p.2) (ok_same p.3.reads_shape (stands-reads h)) p.3)
+    go p.0 p.2 (subst (λ (x : Shape). Passed for_check lent l reader text output p.0 x p.2) (ok_same p.3.reads_shape (stands_reads h)) p.3)
   where
     go : (r : Result) (u : Shape) → Passed for_check lent l reader text output r s u → Passes source for_check for_run l s reader lent output text
     go r u p =

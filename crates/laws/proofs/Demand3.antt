@@ -5,7 +5,7 @@ use Rattle.definitions.specs.Shape.{nothing}
 use Rattle.definitions.specs.Operations.{Source}
 use Rattle.laws.specs.OrderLaws.{nothing_below}
 use Rattle.laws.specs.Chain.{Call, start, ProperSource, In-range, Demand3}
-use Rattle.laws.proofs.ChainReached.{Reaches, reaches, stands_start, stands-reads, stands_short, another_order}
+use Rattle.laws.proofs.ChainReached.{Reaches, reaches, stands_start, stands_reads, stands_short, another_order}
 use Rattle.laws.proofs.ChainReaders.{passes}
 
 pub demand_3
@@ -15,7 +15,7 @@ demand_3 source proper for_infer for_check for_run l range calls =
     record {
       shape = r.shape;
       well-formed = r.stands.sorted;
-      reads_as = stands-reads r.stands;
+      reads_as = stands_reads r.stands;
       short_enough = stands_short r.stands;
       admits_each = r.admits_each;
       lies_below = λ u a e. r.least u a (nothing_below u) e;

@@ -17,7 +17,7 @@ use Rattle.laws.specs.Causes.{First, earlier, same_place}
 use Rattle.laws.specs.Tests.{ltb_le}
 use Rattle.laws.specs.FormPlaces.{Ascends, tokens_ascend, ascends_split}
 use Rattle.laws.specs.FormRuns.{opens_depth, misplaced_go, misplaced_opens, go_opens, Walk}
-use Rattle.laws.specs.FormRuns.{stay, on, enter, most, walk_append, WalkMore, Fits, refused_ok}
+use Rattle.laws.specs.FormRuns.{stay, on, enter, most, walk_append, walk_more, Fits, refused_ok}
 
 -- ---- what a refusal says
 
@@ -194,7 +194,7 @@ module _ {Q : Type 0} {step : Q → Placed → Step Q} where
   pub walk_join
       : {q r u : Q} {pre post : List Placed} {ds es : List ℕ} → Walk step q pre ds r [] → Walk step r post es u []
       → Walk step q (pre ++ post) (ds ++ es) u []
-  walk_join {post = post} w v = walk_append (WalkMore w post) v
+  walk_join {post = post} w v = walk_append (walk_more w post) v
 
   -- no walk goes over a misplaced token
   pub walk_misplaced {ℓ} : {X : Type ℓ} {q u : Q} {t : Placed} {ts : List Placed} {ds : List ℕ} → Walk step q (t ∷ ts) ds u [] → step q t ≡ misplaced → X

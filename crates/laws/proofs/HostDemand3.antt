@@ -28,7 +28,7 @@ use Rattle.laws.proofs.ChainReaders.{Passed, check_passed}
 use Rattle.laws.proofs.Demand3.{demand_3}
 use Rattle.laws.specs.AnswerWords.{word_at, In-word}
 use Rattle.laws.specs.AnswerWordsRead.{answered_long, length_back}
-use Rattle.laws.specs.CallLaws.{lent_long, short_lent, long_lent, CallLong, call_short}
+use Rattle.laws.specs.CallLaws.{lent_long, short_lent, long_lent, call_long, call_short}
 use Rattle.laws.specs.HostChain.{InferCall, handed_on, calls, accepts, kept_text, reached_text, accepted_samples, LongBuffers}
 use Rattle.laws.specs.HostChain.{CallEnds, PassesCall, Demand3OverCalls}
 use Rattle.laws.specs.HostChain as Host
@@ -145,15 +145,15 @@ ends_call
     → Ends buffer_published (buffer_lent answer) l r v u output d → CallEnds l r v u output answer (call answer d)
 unfolding written refusal output_short
 ends_call {l} {r} {v} {u} {output} answer (gives x w e a f room) =
-    subst (CallEnds l r v u output answer) (sym (CallLong answer _ (long_lent answer w))) (Host.gives x (long_lent answer w) e a f room)
+    subst (CallEnds l r v u output answer) (sym (call_long answer _ (long_lent answer w))) (Host.gives x (long_lent answer w) e a f room)
 ends_call {l} {r} {v} {u} {output} answer (short_work w) =
     subst (CallEnds l r v u output answer) (sym (call_short answer _ (short_lent answer w))) (Host.short_answer (short_lent answer w))
 ends_call {l} {r} {v} {u} {output} answer (out_of_steps p w e) =
-    subst (CallEnds l r v u output answer) (sym (CallLong answer _ (long_lent answer w))) (Host.out_of_steps p (long_lent answer w) e)
+    subst (CallEnds l r v u output answer) (sym (call_long answer _ (long_lent answer w))) (Host.out_of_steps p (long_lent answer w) e)
 ends_call {l} {r} {v} {u} {output} answer (too_large x w e f) =
-    subst (CallEnds l r v u output answer) (sym (CallLong answer _ (long_lent answer w))) (Host.too_large x (long_lent answer w) e f)
+    subst (CallEnds l r v u output answer) (sym (call_long answer _ (long_lent answer w))) (Host.too_large x (long_lent answer w) e f)
 ends_call {l} {r} {v} {u} {output} answer (no_room x w e f short) =
-    subst (CallEnds l r v u output answer) (sym (CallLong answer _ (long_lent answer w))) (Host.no_room x (long_lent answer w) e f short)
+    subst (CallEnds l r v u output answer) (sym (call_long answer _ (long_lent answer w))) (Host.no_room x (long_lent answer w) e f short)
 
 -- what the host reads behind a run that gave 0 is the plain JSON of what the reader gave
 pub result_handed_on

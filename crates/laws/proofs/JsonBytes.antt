@@ -26,10 +26,10 @@ pub pick_none
     : {A B : Type 0} {z : Option A} (n : B) (s : A → B) → z ≡ none → (elim z as (λ y. B) [ none ↦ n | some a ↦ s a ]) ≡ n
 pick_none {A} {B} n s e = ap (λ (z : Option A). elim z as (λ y. B) [ none ↦ n | some a ↦ s a ]) e
 
-pub pick-Some
+pub pick_some
     : {A B : Type 0} {z : Option A} {a : A} (n : B) (s : A → B) → z ≡ some a
     → (elim z as (λ y. B) [ none ↦ n | some a ↦ s a ]) ≡ s a
-pick-Some {A} {B} n s e = ap (λ (z : Option A). elim z as (λ y. B) [ none ↦ n | some a ↦ s a ]) e
+pick_some {A} {B} n s e = ap (λ (z : Option A). elim z as (λ y. B) [ none ↦ n | some a ↦ s a ]) e
 
 -- ---- tests on bytes
 

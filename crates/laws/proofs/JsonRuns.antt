@@ -18,7 +18,7 @@ use Rattle.laws.specs.Rfc8259.{ws_char, ws, ws_none, ws_more, structural, char_o
 use Rattle.laws.specs.Steps.{TextSteps, text_stay, text_then, NumberSteps, number_stay, number_then}
 use Rattle.laws.proofs.StringTokens.{chars_steps}
 use Rattle.laws.specs.Ranges.{eq-eqb}
-use Rattle.laws.proofs.JsonBytes.{pick_true, pick_false, pick_none, pick-Some, is_cases, white_cases, space_white, space_no_digit}
+use Rattle.laws.proofs.JsonBytes.{pick_true, pick_false, pick_none, pick_some, is_cases, white_cases, space_white, space_no_digit}
 use Rattle.laws.proofs.JsonBytes.{ValueByte, quote, bracket, brace, letter_t, letter_f, letter_n, digit, nothing, value_byte}
 use Rattle.laws.specs.JsonMoves.{Tests, judge_by, scan_by}
 
@@ -198,7 +198,7 @@ pub number_next
     : {q : Phase} (p : Phase) (d : Numeral) (o : Open) (b : ℕ) → look (next p) b ≡ some q
     → move (State.in_number p d o) b ≡ Move.go (State.in_number q (extend q d b) o)
 unfolding move
-number_next p d o b e = pick-Some _ (λ q. Move.go (State.in_number q (extend q d b) o)) e
+number_next p d o b e = pick_some _ (λ q. Move.go (State.in_number q (extend q d b) o)) e
 
 pub number_behind
     : (p : Phase) (d : Numeral) (o : Open) (b : ℕ) → look (next p) b ≡ none → complete p ≡ true

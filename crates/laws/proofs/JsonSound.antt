@@ -120,13 +120,13 @@ digits_sound {s} {kept} {r} {xs} {n} {b} {c} {p} {d} {k} f h g e = at (look (nex
         (λ v y. gap_behind_sound f v ws_none y)
     at (some q) y = goes (in_digits f (longer b xs r h) (number_steps_append g (number_then y number_stay)) e)
 
-IsWordSound
+word_sound
     : {s kept t r : Bytes} {n b c : ℕ} {x : Tree} {k : Context} (cs : Bytes) → Before s k t
     → ((w : Bytes) → b ∷ r ≡ c ∷ (cs ++ w) → Rfc.value t x w)
     → n ≡ suc (begun k) → size (meaning x) ≡ 1
     → Sound s n kept (b ∷ r) r (move (State.in_literal c cs (meaning x) (opened k)) b)
 unfolding move spell
-IsWordSound {s} {kept} {t} {r} {n} {b} {c} {x} {k} cs f h e one = at (eqb b c) refl
+word_sound {s} {kept} {t} {r} {n} {b} {c} {x} {k} cs f h e one = at (eqb b c) refl
   where
     spelled
         : (cs : Bytes) → ((w : Bytes) → b ∷ r ≡ c ∷ (cs ++ w) → Rfc.value t x w) → b ≡ c
@@ -156,7 +156,7 @@ move_sound (at_behind f v w e) = gap_behind_sound f v w e
 move_sound (in_string {xs} f h g e) = string_sound xs f h g e
 move_sound (in_name {xs} f h g e) = name_text_sound xs f h g e
 move_sound (in_digits f h g e) = digits_sound f h g e
-move_sound (in_word {cs} f h e one) = IsWordSound cs f h e one
+move_sound (in_word {cs} f h e one) = word_sound cs f h e one
 
 pub end_sound : {s kept : Bytes} {n : ℕ} {q : State} → Reached s n kept q [] → Sound s n kept [] [] (end_move q)
 unfolding end_move gap_end

@@ -22,7 +22,7 @@ use Rattle.definitions.specs.Operations.{below_judged, admits_judged, check_judg
 use Rattle.definitions.specs.Operations.{join_operation, below_operation, admits_operation, check_operation, run_operation}
 use Rattle.definitions.specs.Calls.{call, quiet, buffer_published, buffer_lent, plain_call, infer_call, join_call, below_call, admits_call}
 use Rattle.definitions.specs.Calls.{check_call, run_call}
-use Rattle.laws.specs.Judging.{Positive, in_text_passed, text-reads, text_passed, bind_passed, bind_of, prelude_positive}
+use Rattle.laws.specs.Judging.{Positive, in_text_passed, text_reads, text_passed, bind_passed, bind_of, prelude_positive}
 use Rattle.laws.specs.Judging.{prelude_long, prelude_passed, shape_out_passed, shape_out_fits, shape_fits, fits_shape, result_out_fits}
 use Rattle.laws.specs.Judging.{finish_zero, say_zero}
 use Rattle.laws.specs.Tree.{Fits}
@@ -82,7 +82,7 @@ module _ (l m : Limits) (g : Larger l m) where
   On {A} read s = (a : A) → read l s ≡ ok a → read m s ≡ ok a
 
   text_kept : {A : Type 0} (k : ℕ) (read : Reading A) (s : Bytes) → On read s → Kept (judge_text k l read s) (judge_text k m read s)
-  text_kept k read s on a e = let (h, f) = text_passed k l read s a e in text-reads k m read s a (le_trans h g.bytes) (on a f)
+  text_kept k read s on a e = let (h, f) = text_passed k l read s a e in text_reads k m read s a (le_trans h g.bytes) (on a f)
 
   both_kept
       : {A B : Type 0} (read : Reading A) (s : Bytes) (read' : Reading B) (t : Bytes) → On read s → On read' t

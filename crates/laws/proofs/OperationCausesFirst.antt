@@ -10,7 +10,7 @@ use Rattle.definitions.specs.Bytes.{Bytes}
 use Rattle.definitions.specs.Outcome.{Outcome, ok, refused}
 use Rattle.definitions.specs.Operations.{Judged, stopped, ◌>>=◌, refusal, Reading, judge_text, judge_both, slices_short, prelude}
 use Rattle.laws.specs.Tests.{ltb_lt, ltb_le}
-use Rattle.laws.specs.Judging.{Numbered, text_long, text-reads, text_refused, bind_of, bind_stopped, prelude_out, prelude_short, prelude_long}
+use Rattle.laws.specs.Judging.{Numbered, text_long, text_reads, text_refused, bind_of, bind_stopped, prelude_out, prelude_short, prelude_long}
 use Rattle.laws.specs.Judging.{first_stops, second_stops, both_pass}
 use Rattle.laws.specs.Causes.{First, same_place, RefusedFirst}
 use Rattle.laws.specs.JsonMoves.{ok≢refused}
@@ -253,12 +253,12 @@ module _
         (λ h n p e. in_first published lent l C₁ s C₂ t E late r w x h e)
         λ h a e.
         judged_text published lent ending F 2 l read' t whole
-        (λ z g. bind_stopped then (second_stops l read s read' t (text-reads 1 l read s a h e) g))
+        (λ z g. bind_stopped then (second_stops l read s read' t (text_reads 1 l read s a h e) g))
         (λ h'. long_second published lent l C₁ s C₂ t E late r w x h e h')
         (λ h' n p g. in_second published lent l C₁ s C₂ t E late r w x h e y h' g)
         λ h' b g.
         subst F
-        (sym (ap end (bind_of then (both_pass l read s read' t (text-reads 1 l read s a h e) (text-reads 2 l read' t b h' g)))))
+        (sym (ap end (bind_of then (both_pass l read s read' t (text_reads 1 l read s a h e) (text_reads 2 l read' t b h' g)))))
         (later_first published lent l C₁ s C₂ t E late r w x h e y h' g (f a b e g))
 
 -- no second text
@@ -285,5 +285,5 @@ module _
         (λ h. long_first published lent l C s NoCause [] E late r w h)
         (λ h n p e. in_first published lent l C s NoCause [] E late r w x h e)
         λ h a e.
-        subst F (sym (ap end (bind_of then (text-reads 1 l read s a h e))))
+        subst F (sym (ap end (bind_of then (text_reads 1 l read s a h e))))
         (later_first published lent l C s NoCause [] E late r w x h e no_text (let z : 0 ≤ l.bytes = omega arith in z) refl (f a e))

@@ -13,7 +13,7 @@ use Rattle.definitions.specs.Tokens.{opening, closing, quoted, word, Placed, go,
 use Rattle.laws.specs.Rfc8259 as Rfc
 use Rattle.laws.specs.FormGrammar.{at, NumberWord, number_word, number_meant, IndexWord, index_word, null_test}
 use Rattle.laws.specs.FormRuns.{Walk, stay, on, enter}
-use Rattle.laws.proofs.ReaderSteps.{place_opens, it_named, field_called, place_closed, IndexGoes, result_opens}
+use Rattle.laws.proofs.ReaderSteps.{place_opens, it_named, field_called, place_closed, index_goes, result_opens}
 use Rattle.laws.proofs.ReaderSteps.{result_closed, none_named, test_named, number_goes, text_goes, pack_closed}
 
 -- ---- what a state is part of
@@ -135,7 +135,7 @@ live_index : (x : ℕ) (o : PlaceAround) → Live (root_around o) (want (it_inde
 live_index x o =
     live_on
     (at 0 (word (bytes "0")))
-    (IndexGoes (zero_index o) x o 0 refl)
+    (index_goes (zero_index o) x o 0 refl)
     (live_on (at 0 closing) (place_closed (Place.it x 0) o 0) (live_put_place o (Place.it x 0)))
 
 live_place_word : (x : ℕ) (o : PlaceAround) → Live (root_around o) (want (place_word x o))

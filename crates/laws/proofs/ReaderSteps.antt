@@ -48,11 +48,11 @@ word_is_number : {w : Bytes} {d : Numeral} → NumberWord w d → word_number w 
 unfolding word_number
 word_is_number {w} {d} (number_word e f) = rw (number_spelled w d e, word_number, f)
 
-pub IndexGoes
+pub index_goes
     : {k n : ℕ} {w : Bytes} → IndexWord k w n → (x : ℕ) (o : PlaceAround) (y : ℕ) → k ≡ place_bindings o
     → step (want (it_index x o)) (at y (word w)) ≡ go (want (place_close (Place.it x n) o))
 unfolding step want_step want_word where_some index_step index_fits where_true
-IndexGoes (index_word {d = d} n a b c) x o y e =
+index_goes (index_word {d = d} n a b c) x o y e =
     rw (word_is_number n, where_some) (rw (fits, where_true))
   where
     fits : index_fits (place_bindings o) d ≡ true

@@ -16,7 +16,7 @@ use Rattle.laws.specs.FormRuns.{Walk, stay, on, walk_append, walk_then, none_ove
 use Rattle.laws.proofs.FormSteps.{head_enter, name_on}
 use Rattle.laws.proofs.ReaderRests.{Apart}
 use Rattle.laws.proofs.ReaderDepths.{place_depths, result_depths, pairs_depths}
-use Rattle.laws.proofs.ReaderSteps.{place_opens, it_named, field_named, field_called, place_closed, IndexGoes, result_opens, result_closed}
+use Rattle.laws.proofs.ReaderSteps.{place_opens, it_named, field_named, field_called, place_closed, index_goes, result_opens, result_closed}
 use Rattle.laws.proofs.ReaderSteps.{convert_named, keep_named, count_named, each_named, when_named, if_named, num_named, str_named, yes_named}
 use Rattle.laws.proofs.ReaderSteps.{no_named, none_named, pack_named, test_named, number_goes, text_goes, pack_called, pack_closed}
 
@@ -27,7 +27,7 @@ pub place_walk
     → Walk step (want (place_open o)) ts (place_depths p (place_depth o)) (put_place p o) us
 unfolding place_depths place_depth place_bindings put_place
 place_walk (it_form {p = x} {x = y} {y = z} {n = n} h i) o e =
-    head_enter h (place_opens o x) (it_named x o) (on (IndexGoes i x o y e) (on (place_closed (Place.it x n) o z) stay))
+    head_enter h (place_opens o x) (it_named x o) (on (index_goes i x o y e) (on (place_closed (Place.it x n) o z) stay))
 place_walk (field_form {p = x} {x = y} {y = z} {n = n} {q = q} h f) o e =
     head_enter
     h

@@ -12,7 +12,7 @@ use Rattle.definitions.specs.ShapeText.{Parts, Around, want, kind_word, with_kin
 use Rattle.definitions.specs.ShapeText.{kind_name, in_order, may_follow, kind_step, want_step, step, write-kinds}
 use Rattle.laws.specs.Bools.{and_left, and_right, and_intro, or_false_left, or_false_right}
 use Rattle.laws.proofs.LexLaws.{inner, is_word, Bordered, bordered_space}
-use Rattle.laws.proofs.RoundReads.{Reads, Steps, reads_nothing, ReadsThen, reads_from, reads_space, ReadsWord}
+use Rattle.laws.proofs.RoundReads.{Reads, Steps, reads_nothing, reads_then, reads_from, reads_space, reads_word}
 use Rattle.laws.proofs.ShapeKinds.{look_kind}
 
 -- ---- words
@@ -93,9 +93,9 @@ reads_part
     → Reads l n (want (kind_word p o)) (kind_part b k ++ r) n (want (kind_word (with-kinds (pick b k p.kinds) p) o)) r
 unfolding kind_part bytes pick with-kinds with_kind
 reads_part true k p o l n r h i =
-    ReadsThen
+    reads_then
     (reads_space l n (want (kind_word p o)) (kind_name k ++ r))
-    (ReadsWord l n (kind_name k) r (kind_name_word k) i (steps_kind k p o (h refl)))
+    (reads_word l n (kind_name k) r (kind_name_word k) i (steps_kind k p o (h refl)))
 reads_part false k p o l n r h i = reads_nothing l n (want (kind_word p o)) r
 
 -- the kind words that were written for ks
@@ -108,7 +108,7 @@ reads-kinds s [] p follow_end o l n r i = reads_nothing l n (want (kind_word p o
 reads-kinds s (k ∷ ks) p (follow_kind h g) o l n r i =
     reads_from
     (write_kinds_cons s k ks r)
-    (ReadsThen
+    (reads_then
     (reads_part (has k s) k p o l n (write-kinds s ks ++ r) h (bordered-kinds s ks r i))
     (reads-kinds s ks (with-kinds (pick (has k s) k p.kinds) p) g o l n r i))
 

@@ -7,7 +7,7 @@ use Rattle.definitions.specs.Outcome.{Outcome, ok, refused}
 use Rattle.definitions.specs.Shape.{Kind, Shape, Element, Record, Fields, nothing, has, within, element_of}
 use Rattle.definitions.specs.Shape.{record_of, find, only_bool, only_numeric, only_text, only_list, only_rec}
 use Rattle.definitions.specs.Reader.{Place, Conversion, to_int, to_dec, to_bool, to_text, Test, Result, Pairs}
-use Rattle.definitions.specs.Checking.{wants, listed, gain_null, field_shape, field-kinds, list-kinds, if-kinds, convert-kinds, convert_shape}
+use Rattle.definitions.specs.Checking.{wants, listed, gain_null, field_shape, field_kinds, list_kinds, if_kinds, convert_kinds, convert_shape}
 use Rattle.definitions.specs.Checking.{element_shape, stay_element, stay_record, stay, cut_to, taken_out, check_place, check, check_pairs, check_reader}
 use Rattle.laws.specs.Good.{GoodShape, good_shape, GoodElement, good_no_list, good_list_of, GoodRecord, good_no_rec}
 use Rattle.laws.specs.Good.{good_rec_of, GoodFields, good_no_fields, good_field, GoodReader, good_convert, good_keep, good_count}
@@ -105,22 +105,22 @@ unfolding check_place field_shape
 check_place_gives (Place.it at n) env g = gives_ok (get_or_good g n)
 check_place_gives (Place.field at n p) env g =
     gives_then (check_place_gives p env g) λ s h.
-    wants_gives at field-kinds s (gives_then (listed_gives at n (record_of_good h)) λ t k. gives_ok (gain_good (has Kind.null s) k))
+    wants_gives at field_kinds s (gives_then (listed_gives at n (record_of_good h)) λ t k. gives_ok (gain_good (has Kind.null s) k))
 
 mutual
   unfolding check only_numeric only_list only_rec
 
   check_gives : {r : Result} → GoodReader r → (env : List Shape) → GoodShapes env → Gives GoodShape (check r env)
   check_gives (good_convert {at} {c} {p} g) env h =
-      gives_then (check_place_gives p env h) (λ s k. wants_gives at (convert-kinds c) s (gives_ok (convert_shape_good c)))
+      gives_then (check_place_gives p env h) (λ s k. wants_gives at (convert_kinds c) s (gives_ok (convert_shape_good c)))
   check_gives (good_keep {at} {p} g) env h = check_place_gives p env h
   check_gives (good_count {at} {p} g) env h =
-      gives_then (check_place_gives p env h) (λ s k. wants_gives at list-kinds s (gives_ok (good_shape good_no_list good_no_rec)))
+      gives_then (check_place_gives p env h) (λ s k. wants_gives at list_kinds s (gives_ok (good_shape good_no_list good_no_rec)))
   check_gives (good_each {at} {p} {r} g i) env h =
       gives_then (check_place_gives p env h)
       (λ s k.
       gives_then (check_gives i (element_shape (element_of s) ∷ env) (good_shape_then (element_shape_good (element_of_good k)) h))
-      (λ t j. wants_gives at list-kinds s (gives_ok (good_shape (good_list_of j) good_no_rec))))
+      (λ t j. wants_gives at list_kinds s (gives_ok (good_shape (good_list_of j) good_no_rec))))
   check_gives (good_when {at} {k} {p} {r₁} {r₂} g i₁ i₂) env h =
       gives_then (check_place_gives p env h)
       (λ s j.
@@ -132,7 +132,7 @@ mutual
       gives_then (check_gives i₁ env h)
       (λ t₁ j₁.
       gives_then (check_gives i₂ env h)
-      (λ t₂ j₂. gives_then (check_gives i₃ env h) (λ t₃ j₃. wants_gives at if-kinds t₁ (gives_ok (join_good t₂ t₃ j₂ j₃)))))
+      (λ t₂ j₂. gives_then (check_gives i₃ env h) (λ t₃ j₃. wants_gives at if_kinds t₁ (gives_ok (join_good t₂ t₃ j₂ j₃)))))
   check_gives (good_literal {v} g) env h = gives_ok (shape_of_good v g)
   check_gives (good_pack ps) env h =
       gives_then (check_pairs_give ps env h) (λ fs k. gives_ok (good_shape good_no_list (good_rec_of k)))

@@ -26,10 +26,10 @@ Steps q t s = (p : ℕ) → step q (at_place p t) ≡ s
 pub reads_nothing : (l : Limits) (n : ℕ) (q : State) (s : Bytes) → Reads l n q s n q s
 reads_nothing l n q s = record { reads = λ p end. (p, refl) }
 
-pub ReadsThen
+pub reads_then
     : {l : Limits} {n m k : ℕ} {q q₁ q₂ : State} {s t r : Bytes} → Reads l n q s m q₁ t → Reads l m q₁ t k q₂ r
     → Reads l n q s k q₂ r
-ReadsThen a b =
+reads_then a b =
     record {
       reads = λ p end.
           let (p₁, e) = a.reads p end in
@@ -49,14 +49,14 @@ reads_space l n q r = record { reads = λ p end. (suc p, ap (read_tokens step fi
 
 reads_spaces : (k : ℕ) (l : Limits) (n : ℕ) (q : State) (r : Bytes) → Reads l n q (replicate k 0x20 ++ r) n q r
 reads_spaces zero l n q r = reads_nothing l n q r
-reads_spaces (suc k) l n q r = ReadsThen (reads_space l n q (replicate k 0x20 ++ r)) (reads_spaces k l n q r)
+reads_spaces (suc k) l n q r = reads_then (reads_space l n q (replicate k 0x20 ++ r)) (reads_spaces k l n q r)
 
 pub reads_line : (l : Limits) (n : ℕ) (q : State) (r : Bytes) → Reads l n q (0x0A ∷ r) n q r
 reads_line l n q r = record { reads = λ p end. (suc p, ap (read_tokens step finished l n end q) (lex_line p r)) }
 
 pub reads_new_line : (k : ℕ) (l : Limits) (n : ℕ) (q : State) (r : Bytes) → Reads l n q (new_line k ++ r) n q r
 unfolding new_line bytes
-reads_new_line k l n q r = ReadsThen (reads_line l n q (replicate k 0x20 ++ r)) (reads_spaces k l n q r)
+reads_new_line k l n q r = reads_then (reads_line l n q (replicate k 0x20 ++ r)) (reads_spaces k l n q r)
 
 -- ---- tokens
 
@@ -110,10 +110,10 @@ reads_close {q} {q'} l n r h =
       );
     }
 
-pub ReadsWord
+pub reads_word
     : {q q' : State} (l : Limits) (n : ℕ) (w r : Bytes) → is_word w ≡ true → Bordered r → Steps q (word w) (go q')
     → Reads l n q (w ++ r) n q' r
-ReadsWord {q} {q'} l n w r i k h =
+reads_word {q} {q'} l n w r i k h =
     record {
       reads = λ p end.
           let (p', e) = lex_word w i p r k in (

@@ -12,7 +12,7 @@ use Rattle.definitions.specs.Value.{Value, Items, no_items, item, Members, no_me
 use Rattle.definitions.specs.Shape.{Kind, among}
 use Rattle.definitions.specs.Admits.{kind_of}
 use Rattle.definitions.specs.Reader.{Place, Conversion, to_int, to_dec, to_bool, to_text, Result, Pairs}
-use Rattle.definitions.specs.Checking.{field-kinds, convert-kinds, list-kinds, test-kinds}
+use Rattle.definitions.specs.Checking.{field_kinds, convert_kinds, list_kinds, test_kinds}
 use Rattle.definitions.specs.Running.{Ran, gives, enter, stuck_unless, member_of, members_of, field_value, whole_value, converted}
 use Rattle.definitions.specs.Running.{items_of, int_value, truth, run_place, run_items, run, run_pairs, run_reader}
 use Rattle.laws.specs.Good.{GoodValue, good_null, good_bool, good_number, good_text, good_list, good_rec, GoodItems, good_no_items}
@@ -153,7 +153,7 @@ run_place_gives (Place.field at m p) l env n g =
     gives_then (run_place_gives p l env n₁ g)
     (λ x f.
     gives_then {R = Fair}
-    (stuck_gives at field-kinds x.result
+    (stuck_gives at field_kinds x.result
     (gives_ok
     (let h = members_of_fair f.good f.small in
     member_of_fair m h.good h.small)))
@@ -188,8 +188,8 @@ truth_gives at (some true) g h = g
 truth_gives at (some false) g h = h
 
 -- what a conversion gives where it is not stuck
-converted_good : (c : Conversion) {v : Value} → among (kind_of v) (convert-kinds c) ≡ true → GoodValue v → GoodValue (converted c v)
-unfolding converted whole_value convert-kinds
+converted_good : (c : Conversion) {v : Value} → among (kind_of v) (convert_kinds c) ≡ true → GoodValue v → GoodValue (converted c v)
+unfolding converted whole_value convert_kinds
 converted_good to_int {v} k g = int_number (λ (w : Value). GoodValue w → GoodValue (whole_value w)) v k int_good g
   where
     int_good : (x : Number) → is_int x ≡ true → GoodValue (Value.number x) → GoodValue (Value.number (whole x))
@@ -208,7 +208,7 @@ mutual
       gives_then (enter_gives l at n)
       (λ n₁ u.
       gives_then (run_place_gives p l env n₁ h)
-      (λ x f. unstuck_gives at (convert-kinds c) x.result (λ k. gives_gives GoodValue x.steps (converted_good c k f.good))))
+      (λ x f. unstuck_gives at (convert_kinds c) x.result (λ k. gives_gives GoodValue x.steps (converted_good c k f.good))))
   run_gives (good_keep {at} {p} g) l env n h =
       gives_then (enter_gives l at n) (λ n₁ u. gives_map (run_place_gives p l env n₁ h) (λ x f. f.good))
   run_gives (good_count {at} {p} g) l env n h =
@@ -216,14 +216,14 @@ mutual
       (λ n₁ u.
       gives_then (run_place_gives p l env n₁ h)
       (λ x f.
-      stuck_gives at list-kinds x.result
+      stuck_gives at list_kinds x.result
       (gives_gives GoodValue x.steps (count_good (items_of x.result) (items_of_fair f.good f.small)))))
   run_gives (good_each {at} {p} {r} g i) l env n h =
       gives_then (enter_gives l at n)
       (λ n₁ u.
       gives_then (run_place_gives p l env n₁ h)
       (λ x f.
-      stuck_gives at list-kinds x.result
+      stuck_gives at list_kinds x.result
       (gives_then
       (let k = items_of_fair f.good f.small in
       run_items_give (λ v n₂. run r l (v ∷ env) n₂) (λ v n₂ j. run_gives i l (v ∷ env) n₂ (fair_then j h)) k.good
@@ -234,7 +234,7 @@ mutual
       (λ n₁ u.
       gives_then (run_place_gives p l env n₁ h)
       (λ x f.
-      gives_if (among (kind_of x.result) (test-kinds k))
+      gives_if (among (kind_of x.result) (test_kinds k))
       (run_gives i₁ l (x.result ∷ env) x.steps (fair_then f h))
       (run_gives i₂ l (x.result ∷ env) x.steps (fair_then f h))))
   run_gives (good_choose {at} i₁ i₂ i₃) l env n h =

@@ -15,15 +15,15 @@ use Rattle.laws.proofs.FormSteps.{Back, walk_back, open_back, close_back, text_b
 use Rattle.laws.proofs.ShapeRests.{Rest, rest_whole, rest_open, rest_word, rest_member, rest_name, rest_close}
 use Rattle.laws.proofs.ShapeRests.{tail_end, tail_member, form_open, kind_begins, no-more-kinds, element_begins}
 
-MemberBack
+member_back
     : (p : Parts) (o : Around) (x : ℕ) (k : Token) (ts : List Placed) (a : Shape)
     → Back (λ r. Rest r ts a) (member_step p o k) → Rest (want (member_open p o)) (at x k ∷ ts) a
 unfolding member_step
-MemberBack p o x opening ts a b = true_back (λ r. Rest r ts a) (among Kind.rec p.kinds) (go (want (member_word p o))) tail_member b
-MemberBack p o x closing ts a b = tail_end b
-MemberBack p o x (quoted t) ts a b = absurd b
-MemberBack p o x (word w) ts a b = absurd b
-MemberBack p o x broken ts a b = absurd b
+member_back p o x opening ts a b = true_back (λ r. Rest r ts a) (among Kind.rec p.kinds) (go (want (member_word p o))) tail_member b
+member_back p o x closing ts a b = tail_end b
+member_back p o x (quoted t) ts a b = absurd b
+member_back p o x (word w) ts a b = absurd b
+member_back p o x broken ts a b = absurd b
 
 bracket_back
     : (p : Parts) (o : Around) (x : ℕ) (ts : List Placed) (a : Shape)
@@ -43,7 +43,7 @@ bracket_back p o x ts a = by_list (among Kind.list p.kinds) refl
         (elim l [ true ↦ element_step p o closing | false ↦ member_step p o closing ])
         → Rest (want (kind_word p o)) (at x closing ∷ ts) a)
     by_list true h = (element_begins h, λ b. absurd b)
-    by_list false h = (λ b. no-more-kinds h (MemberBack p o x opening ts a b), λ b. no-more-kinds h (MemberBack p o x closing ts a b))
+    by_list false h = (λ b. no-more-kinds h (member_back p o x opening ts a b), λ b. no-more-kinds h (member_back p o x closing ts a b))
 
 pub kind_spelled : (w : Bytes) (k : Kind) → look_word kind_words w ≡ some k → w ≡ kind_name k
 unfolding kind_words all_kinds
@@ -93,7 +93,7 @@ step_back (want (shape_word o)) t ts a b =
     t.token
     b
 step_back (want (kind_word p o)) t ts a b = kind_back p o t.at t.token ts a b
-step_back (want (member_open p o)) t ts a b = MemberBack p o t.at t.token ts a b
+step_back (want (member_open p o)) t ts a b = member_back p o t.at t.token ts a b
 step_back (want (member_word p o)) t ts a b =
     named_back
     (λ r. Rest r ts a)

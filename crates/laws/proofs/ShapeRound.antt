@@ -17,8 +17,8 @@ use Rattle.laws.specs.Rfc3629.{UTF8Octets}
 use Rattle.laws.specs.Good.{GoodShape, good_shape, GoodElement, good_no_list, good_list_of, GoodRecord}
 use Rattle.laws.specs.Good.{good_no_rec, good_rec_of, GoodFields, good_no_fields, good_field}
 use Rattle.laws.proofs.LexLaws.{bordered_space, bordered_close}
-use Rattle.laws.proofs.RoundReads.{Reads, Steps, reads_nothing, ReadsThen, reads_from, reads_space, reads_new_line}
-use Rattle.laws.proofs.RoundReads.{reads_open, reads_open_form, reads_close, ReadsWord, reads_text}
+use Rattle.laws.proofs.RoundReads.{Reads, Steps, reads_nothing, reads_then, reads_from, reads_space, reads_new_line}
+use Rattle.laws.proofs.RoundReads.{reads_open, reads_open_form, reads_close, reads_word, reads_text}
 use Rattle.laws.proofs.RoundKinds.{picks, with-kinds, among-kinds, bordered-kinds, reads-all-kinds, fields_in, parts_of, build_back}
 use Rattle.laws.proofs.RoundPieces.{room, shape_is_word, member_is_word, steps_shape, steps_member, steps_name, Behind, behind-kinds}
 use Rattle.laws.proofs.RoundPieces.{behind_element, steps_element, steps_member_shape, steps_member_close, steps_member_open, steps_shape_close}
@@ -76,11 +76,11 @@ shape_parts s e r around l n m k o q q₁ q₂ z st h d x y b =
     let i₃ = bordered-kinds s all_kinds (write_element e (suc around) ++ (write_record r (suc around) ++ 0x29 ∷ z)) i₂ in
     reads_from
     (write_split s e r around z)
-    (ReadsThen (reads_open_form l n _ st (room l (suc n) (suc (depth o)) h d))
-    (ReadsThen (ReadsWord l (suc n) (bytes "shape") _ shape_is_word i₃ (steps_shape o))
-    (ReadsThen (reads-all-kinds s no_parts refl o l (suc n) _ i₂)
-    (ReadsThen x
-    (ReadsThen y
+    (reads_then (reads_open_form l n _ st (room l (suc n) (suc (depth o)) h d))
+    (reads_then (reads_word l (suc n) (bytes "shape") _ shape_is_word i₃ (steps_shape o))
+    (reads_then (reads-all-kinds s no_parts refl o l (suc n) _ i₂)
+    (reads_then x
+    (reads_then y
     (reads_shape_close s l k o q₂ z b))))))
 
 -- a member and those behind it, given how its shape and they are read
@@ -102,25 +102,25 @@ unfolding put
 fields_parts name s fs around l n m k p o q q₁ z u b w f x y =
     reads_from
     (fields_split name s fs around z)
-    (ReadsThen (reads_new_line around l n q _)
-    (ReadsThen (reads_open l n _ (steps_member_open p o q b f))
-    (ReadsThen (ReadsWord l n (bytes "member") _ member_is_word (bordered_space _) (steps_member p o))
-    (ReadsThen (reads_space l n _ _)
-    (ReadsThen (reads_text l n name _ u (steps_name p o name w))
-    (ReadsThen (reads_new_line (suc around) l n _ _)
-    (ReadsThen x
-    (ReadsThen (reads_close l m _ (steps_member_close (with_member name s p) o))
+    (reads_then (reads_new_line around l n q _)
+    (reads_then (reads_open l n _ (steps_member_open p o q b f))
+    (reads_then (reads_word l n (bytes "member") _ member_is_word (bordered_space _) (steps_member p o))
+    (reads_then (reads_space l n _ _)
+    (reads_then (reads_text l n name _ u (steps_name p o name w))
+    (reads_then (reads_new_line (suc around) l n _ _)
+    (reads_then x
+    (reads_then (reads_close l m _ (steps_member_close (with_member name s p) o))
     y))))))))
 
 mutual
   unfolding ascending forms levels write has has_list has_rec kinds_alone kinds_and_element with_fields with_element with_member parts_of fields_in
       fields_onto follows put depth
 
-  shape-reads
+  shape_reads
       : {s : Shape} → GoodShape s → ascending s ≡ true → (around : ℕ) (l : Limits) (n : ℕ) (o : Around) (q : State) (z : Bytes)
       → Steps q opening (opens (suc (depth o)) (want (shape_word o))) → n + forms s ≤ l.values → depth o + levels s ≤ l.nesting
       → Reads l n q (write s around ++ z) (n + forms s) (put s o) z
-  shape-reads (good_shape {n = null} {b} {t} {m} {e} {r} ge gr) a around l n o q z st h k =
+  shape_reads (good_shape {n = null} {b} {t} {m} {e} {r} ge gr) a around l n o q z st h k =
       let s = shape null b m t e r in
       let h₁ : suc n ≤ l.values = omega arith in
       let k₁ : suc (depth o) ≤ l.nesting = omega arith in
@@ -130,35 +130,35 @@ mutual
       let k₃ : suc (depth o) + levels_record r ≤ l.nesting = omega arith in
       let c : suc n + forms_element e + forms_record r ≡ n + suc (forms_element e + forms_record r) = omega arith in
       let (q₁, d₁, b₁) =
-      element-reads ge (and_left (ascending_element e) (ascending_record r) a) (suc around) l (suc n) (picks s) o
+      element_reads ge (and_left (ascending_element e) (ascending_record r) a) (suc around) l (suc n) (picks s) o
       (write_record r (suc around) ++ 0x29 ∷ z) (among-kinds Kind.list s) h₂ k₂ in
       let (q₂, d₂, b₂) =
-      record-reads gr (and_right (ascending_element e) (ascending_record r) a) (suc around) l (suc n + forms_element e)
+      record_reads gr (and_right (ascending_element e) (ascending_record r) a) (suc around) l (suc n + forms_element e)
       (kinds_and_element (picks s) e) o q₁ (0x29 ∷ z) b₁ refl (among-kinds Kind.rec s) h₃ k₃ in
       reads_count c (shape_parts s e r around l n _ _ o q q₁ q₂ z st h₁ k₁ d₁ d₂ b₂)
 
-  element-reads
+  element_reads
       : {e : Element} → GoodElement e → ascending_element e ≡ true → (around : ℕ) (l : Limits) (n : ℕ) (ks : List Kind)
       (o : Around) (z : Bytes)
       → among Kind.list ks ≡ has_list e → n + forms_element e ≤ l.values → suc (depth o) + levels_element e ≤ l.nesting
       → (q : State)
       × Reads l n (want (kind_word (kinds_alone ks) o)) (write_element e around ++ z) (n + forms_element e) q z
       × Behind (kinds_and_element ks e) o q
-  element-reads good_no_list a around l n ks o z f h k = (
+  element_reads good_no_list a around l n ks o z f h k = (
     want (kind_word (kinds_alone ks) o),
     reads_count (sym (add-zero n)) (reads_nothing l n _ z),
     behind-kinds (kinds_alone ks) o f,
   )
-  element-reads (good_list_of {s} gs) a around l n ks o z f h k = (
+  element_reads (good_list_of {s} gs) a around l n ks o z f h k = (
     want (member_open (kinds_and_element ks (list_of s)) o),
     reads_from
         (append_assoc (new_line around) (write s around) z)
-        (ReadsThen (reads_new_line around l n _ (write s around ++ z))
-        (shape-reads gs a around l n (as_element (kinds_alone ks) o) _ z (steps_element (kinds_alone ks) o f) h k)),
+        (reads_then (reads_new_line around l n _ (write s around ++ z))
+        (shape_reads gs a around l n (as_element (kinds_alone ks) o) _ z (steps_element (kinds_alone ks) o f) h k)),
     behind_element (kinds_and_element ks (list_of s)) o,
   )
 
-  record-reads
+  record_reads
       : {r : Record} → GoodRecord r → ascending_record r ≡ true → (around : ℕ) (l : Limits) (n : ℕ) (p : Parts) (o : Around)
       (q : State) (z : Bytes)
       → Behind p o q → p.fields ≡ no_fields → among Kind.rec p.kinds ≡ has_rec r → n + forms_record r ≤ l.values
@@ -166,12 +166,12 @@ mutual
       → (q' : State)
       × Reads l n q (write_record r around ++ z) (n + forms_record r) q' z
       × Behind (with_fields (fields_onto (fields_in r) p.fields) p) o q'
-  record-reads good_no_rec a around l n p o q z b e f h k =
+  record_reads good_no_rec a around l n p o q z b e f h k =
       (q, reads_count (sym (add-zero n)) (reads_nothing l n q z), b)
-  record-reads (good_rec_of {fs} gfs) a around l n p o q z b e f h k =
-      fields-reads gfs a around l n p o q z b (subst (λ gs. follows gs fs ≡ true) (sym e) (follows_first fs)) f h k
+  record_reads (good_rec_of {fs} gfs) a around l n p o q z b e f h k =
+      fields_reads gfs a around l n p o q z b (subst (λ gs. follows gs fs ≡ true) (sym e) (follows_first fs)) f h k
 
-  fields-reads
+  fields_reads
       : {fs : Fields} → GoodFields fs → ascending_fields fs ≡ true → (around : ℕ) (l : Limits) (n : ℕ) (p : Parts) (o : Around)
       (q : State) (z : Bytes)
       → Behind p o q → follows p.fields fs ≡ true → among Kind.rec p.kinds ≡ true → n + forms_fields fs ≤ l.values
@@ -179,9 +179,9 @@ mutual
       → (q' : State)
       × Reads l n q (write_fields fs around ++ z) (n + forms_fields fs) q' z
       × Behind (with_fields (fields_onto fs p.fields) p) o q'
-  fields-reads good_no_fields a around l n p o q z b w f h k =
+  fields_reads good_no_fields a around l n p o q z b w f h k =
       (q, reads_count (sym (add-zero n)) (reads_nothing l n q z), b)
-  fields-reads (good_field {n = name} {s} {fs} u gs gfs) a around l n p o q z b w f h k =
+  fields_reads (good_field {n = name} {s} {fs} u gs gfs) a around l n p o q z b w f h k =
       let a₁ = and_left (ascending s) (behind name fs) (and_left (ascending s && behind name fs) (ascending_fields fs) a) in
       let a₂ = and_right (ascending s) (behind name fs) (and_left (ascending s && behind name fs) (ascending_fields fs) a) in
       let a₃ = and_right (ascending s && behind name fs) (ascending_fields fs) a in
@@ -192,10 +192,10 @@ mutual
       let c : n + forms s + forms_fields fs ≡ n + (forms s + forms_fields fs) = omega arith in
       let p₁ = with_member name s p in
       let (q₁, d, b₁) =
-      fields-reads gfs a₃ around l (n + forms s) p₁ o (want (member_open p₁ o)) z (behind_element p₁ o)
+      fields_reads gfs a₃ around l (n + forms s) p₁ o (want (member_open p₁ o)) z (behind_element p₁ o)
       (follows_behind name s p.fields fs a₂) f h₂ k₂ in
       let x =
-      shape-reads gs a₁ (suc around) l n (as_member p name o) (want (shape_open (as_member p name o))) _
+      shape_reads gs a₁ (suc around) l n (as_member p name o) (want (shape_open (as_member p name o))) _
       (steps_member_shape (as_member p name o)) h₁ k₁ in
       (q₁, reads_count c (fields_parts name s fs around l n _ _ p o q q₁ z u b w f x d), b₁)
 
@@ -209,5 +209,5 @@ unfolding read_shape write_shape tokens lex look between border_table ended read
 shape_reads_back l s g a h k =
     let h₁ : 0 + forms s ≤ l.values = omega arith in
     let k₁ : 0 + levels s ≤ l.nesting = omega arith in
-    let d = shape-reads g a 0 l 0 text_end (want (shape_open text_end)) (bytes "\n") (steps_member_shape text_end) h₁ k₁ in
+    let d = shape_reads g a 0 l 0 text_end (want (shape_open text_end)) (bytes "\n") (steps_member_shape text_end) h₁ k₁ in
     (d.reads 0 (length (write_shape s))).1

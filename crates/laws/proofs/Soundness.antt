@@ -12,8 +12,8 @@ use Rattle.definitions.specs.Shape.{Kind, among, Shape, rec_of, Fields, nothing,
 use Rattle.definitions.specs.Join.{join}
 use Rattle.definitions.specs.Admits.{kind_of, missing_have_null, admits, admitted, admitted_items, admitted_members}
 use Rattle.definitions.specs.Reader.{Place, Result, Pairs, no_pairs, pair, among_pairs}
-use Rattle.definitions.specs.Checking.{field-kinds, convert-kinds, list-kinds, if-kinds, gain_null, field_shape, element_shape}
-use Rattle.definitions.specs.Checking.{cut_to, taken_out, check_place, check, check_pairs, check_reader, test-kinds}
+use Rattle.definitions.specs.Checking.{field_kinds, convert_kinds, list_kinds, if_kinds, gain_null, field_shape, element_shape}
+use Rattle.definitions.specs.Checking.{cut_to, taken_out, check_place, check, check_pairs, check_reader, test_kinds}
 use Rattle.definitions.specs.Running.{Ran, gives, field_value, converted, items_of, run_place, run_items, run, run_pairs, run_reader}
 use Rattle.laws.specs.Bools.{and_intro, not_true}
 use Rattle.laws.specs.Distinct.{distinct}
@@ -62,16 +62,16 @@ unfolding check_place field_shape run_place field_value gives scoped_place
 place_sound (Place.it at k) m env c = gave λ vs g l n. holds_bind (holds_enter l at n refl) λ n₁ h. gave (g k c)
 place_sound (Place.field at i p) m env c =
     holds_bind (place_sound p m env c) λ s f.
-    holds_wants at field-kinds s λ w.
+    holds_wants at field_kinds s λ w.
     holds_bind {P = λ u. (fs : Fields) × (record_of s ≡ rec_of fs) × (find i fs ≡ some u)}
     (holds_listed at i (record_of s) λ fs u r e. (fs, r, e)) λ u (fs, r, e).
     gave λ vs g l n.
     holds_bind (holds_enter l at n refl) λ n₁ h.
     holds_bind (f vs g l n₁) λ x h₁.
     let v = x.result in
-    let k = within_kind field-kinds s v w h₁ in
+    let k = within_kind field_kinds s v w h₁ in
     holds_bind {P = λ y. admits (gain_null (has Kind.null s) u) y ≡ true}
-    (holds_unstuck at field-kinds v k (gave (field_admits i v s fs u h₁ k r e))) λ y h₂.
+    (holds_unstuck at field_kinds v k (gave (field_admits i v s fs u h₁ k r e))) λ y h₂.
     gave h₂
 
 items_sound
@@ -104,34 +104,34 @@ mutual
       → Holds any (Meets m env (λ vs l n. run r l vs n)) (check r env)
   result_sound (Result.convert at c p) m env a sc q =
       holds_bind (place_sound p m env sc) λ s f.
-      holds_wants at (convert-kinds c) s λ w.
+      holds_wants at (convert_kinds c) s λ w.
       gave λ vs g l n.
       holds_bind (holds_enter l at n refl) λ n₁ h.
       holds_bind (f vs g l n₁) λ x h₁.
-      let k = within_kind (convert-kinds c) s x.result w h₁ in
-      holds_unstuck at (convert-kinds c) x.result k (gave (convert_admits c x.result k))
+      let k = within_kind (convert_kinds c) s x.result w h₁ in
+      holds_unstuck at (convert_kinds c) x.result k (gave (convert_admits c x.result k))
   result_sound (Result.keep at p) m env a sc q =
       holds_map (λ n t. t) (λ s f vs g l n. holds_bind (holds_enter l at n refl) λ n₁ h. f vs g l n₁) (place_sound p m env sc)
   result_sound (Result.count at p) m env a sc q =
       holds_bind (place_sound p m env sc) λ s f.
-      holds_wants at list-kinds s λ w.
+      holds_wants at list_kinds s λ w.
       gave λ vs g l n.
       holds_bind (holds_enter l at n refl) λ n₁ h.
       holds_bind (f vs g l n₁) λ x h₁.
-      holds_unstuck at list-kinds x.result (within_kind list-kinds s x.result w h₁) (gave (count_admits (count (items_of x.result))))
+      holds_unstuck at list_kinds x.result (within_kind list_kinds s x.result w h₁) (gave (count_admits (count (items_of x.result))))
   result_sound (Result.each at p r) m env a sc q =
       let c = and_two (scoped_place m p) (scoped (suc m) r) sc in
       holds_bind (holds_both (place_sound p m env c.0) (place_ascending p env a)) λ s f.
       let e = element_shape (element_of s) in
       holds_bind (result_sound r (suc m) (e ∷ env) (ascends_bind e env (element_ascending s f.1) a) c.1 q) λ t f₁.
-      holds_wants at list-kinds s λ w.
+      holds_wants at list_kinds s λ w.
       gave λ vs g l n.
       holds_bind (holds_enter l at n refl) λ n₁ h.
       holds_bind (f.0 vs g l n₁) λ x h₁.
       let body : (v : Value) (i : ℕ) → admits e v ≡ true → Holds Spent (Fits t) (run r l (v ∷ vs) i) =
       λ v i h₂. f₁ (v ∷ vs) (suits_bind m e env v vs h₂ g) l i in
       let items = items_sound e t (λ v i. run r l (v ∷ vs) i) body (items_of x.result) x.steps (items_admitted x.result s h₁) in
-      holds_unstuck at list-kinds x.result (within_kind list-kinds s x.result w h₁) (holds_bind items λ xs h₂. gave h₂)
+      holds_unstuck at list_kinds x.result (within_kind list_kinds s x.result w h₁) (holds_bind items λ xs h₂. gave h₂)
   result_sound (Result.when at k p r₁ r₂) m env a sc q =
       let c = and_three (scoped_place m p) (scoped (suc m) r₁) (scoped (suc m) r₂) sc in
       let d = and_two (proper r₁) (proper r₂) q in
@@ -147,7 +147,7 @@ mutual
       holds_bind (f.0 vs g l n₁) λ x h₁.
       let v = x.result in
       holds_either
-      (among (kind_of v) (test-kinds k))
+      (among (kind_of v) (test_kinds k))
       (λ y. fits_left t₁ t₂ f₁.1 f₂.1 (f₁.0 (v ∷ vs) (suits_bind m s₁ env v vs (cut_admits k s v h₁ y) g) l x.steps))
       (λ y. fits_right t₁ t₂ f₁.1 f₂.1 (f₂.0 (v ∷ vs) (suits_bind m s₂ env v vs (taken_admits k s v h₁ y) g) l x.steps))
   result_sound (Result.choose at r₁ r₂ r₃) m env a sc q =
@@ -156,14 +156,14 @@ mutual
       holds_bind (result_sound r₁ m env a c.0 d.0) λ t₁ f₁.
       holds_bind (holds_both (result_sound r₂ m env a c.1 d.1) (result_ascending r₂ env a)) λ t₂ f₂.
       holds_bind (holds_both (result_sound r₃ m env a c.2 d.2) (result_ascending r₃ env a)) λ t₃ f₃.
-      holds_wants at if-kinds t₁ λ w.
+      holds_wants at if_kinds t₁ λ w.
       gave λ vs g l n.
       holds_bind (holds_enter l at n refl) λ n₁ h.
       holds_bind (f₁ vs g l n₁) λ x h₁.
       holds_condition
       at
       x.result
-      (within_kind if-kinds t₁ x.result w h₁)
+      (within_kind if_kinds t₁ x.result w h₁)
       (fits_left t₂ t₃ f₂.1 f₃.1 (f₂.0 vs g l x.steps))
       (fits_right t₂ t₃ f₂.1 f₃.1 (f₃.0 vs g l x.steps))
   result_sound (Result.literal at v) m env a sc q =

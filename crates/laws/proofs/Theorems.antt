@@ -42,7 +42,7 @@ use Rattle.laws.specs.Statements.{Demand3ForDocuments, StandardInRange}
 use Rattle.laws.specs.Statements.{WrittenDocumentsReadBack, CallsKeepTheOutput, RefusedWithTheFirstCause}
 use Rattle.laws.specs.Statements.{CallsAreOperations, AnswersReadBack, Demand3OfCallsFromEverySource, Demand3OfCalls}
 use Rattle.laws.proofs.LargerLimits.{json_reads_on, operations_go_on, calls_go_on}
-use Rattle.laws.proofs.BlankReaders.{no_token_blank, blank-reads, none_runs, none_checks, check_alike, run_alike, check_call_alike, run_call_alike}
+use Rattle.laws.proofs.BlankReaders.{no_token_blank, blank_reads, none_runs, none_checks, check_alike, run_alike, check_call_alike, run_call_alike}
 use Rattle.laws.specs.Statements.{OnlyTheStepsRunOut, ResultsHandedOn, LargerSetsGoOnFromEverySource, LargerSetsGoOn}
 use Rattle.laws.specs.ThroughNull.{passes_again, checked_before, was_unwanted, ends_again, ran_before, was_stuck, reads_null}
 use Rattle.laws.specs.ThroughNullOperations.{check_before, run_before, check_call_before, run_call_before}
@@ -227,7 +227,7 @@ pub blank_readers_mean_none : BlankReadersMeanNone
 blank_readers_mean_none =
     record {
       tokenless = no_token_blank;
-      read_as = blank-reads;
+      read_as = blank_reads;
       gives = none_runs;
       shaped = none_checks;
       by_check = check_alike;

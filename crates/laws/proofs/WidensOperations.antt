@@ -25,7 +25,7 @@ use Rattle.laws.specs.Judging.{shape_over, shape_out_over, shape_out_fits, shape
 use Rattle.laws.proofs.Positives.{below_positive}
 use Rattle.laws.proofs.ChainReached.{ok_same}
 use Rattle.laws.proofs.ChainReaders.{Passed, check_passed}
-use Rattle.laws.proofs.WrittenShapes.{Passed-reads}
+use Rattle.laws.proofs.WrittenShapes.{passed_reads}
 use Rattle.laws.specs.Statements.{wrote}
 use Rattle.laws.specs.NewSamples.{SaysBelow, NumberAbove, passes, kind_not_wanted, too_large, short_slices, short_output}
 use Rattle.laws.specs.Widens.{check_widens, check_lost}
@@ -140,9 +140,9 @@ module _ (for_check : List ℕ) (l : Limits) (reader : Bytes) where
         record {
           lower = u;
           upper = w;
-          reads_lower = Passed-reads for_check lent l p;
+          reads_lower = passed_reads for_check lent l p;
           short_lower = wrote_short p;
-          reads_upper = Passed-reads for_check lent' l q;
+          reads_upper = passed_reads for_check lent' l q;
           short_upper = wrote_short q;
           order =
               ordered_widens o r u p.checks w

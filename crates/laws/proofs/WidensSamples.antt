@@ -11,7 +11,7 @@ use Rattle.definitions.specs.Order.{below}
 use Rattle.definitions.specs.Operations.{Source, check_operation}
 use Rattle.definitions.specs.Calls.{call, buffer_published, buffer_lent, check_call}
 use Rattle.laws.specs.Chain.{Call, start, left_by, reached, ProperSource, In-range}
-use Rattle.laws.proofs.ChainReached.{Stands, stands-reads, stands_short, stands_start, reaches}
+use Rattle.laws.proofs.ChainReached.{Stands, stands_reads, stands_short, stands_start, reaches}
 use Rattle.laws.proofs.ChainReaders.{check_passed}
 use Rattle.laws.specs.HostChain.{InferCall, reached_text}
 use Rattle.laws.proofs.HostDemand3.{as_operation, reached_as}
@@ -26,9 +26,9 @@ stands_ordered {s = s} {t} h k o =
     record {
       lower = s;
       upper = t;
-      reads_lower = stands-reads h;
+      reads_lower = stands_reads h;
       short_lower = stands_short h;
-      reads_upper = stands-reads k;
+      reads_upper = stands_reads k;
       short_upper = stands_short k;
       order = o;
     }

@@ -43,8 +43,8 @@ refusal_keeps output (passed t) h = go (ltb (length output) (length t.bytes)) re
 -- ---- what is written reads back
 
 -- a shape of the paper within the limits
-written-reads : (l : Limits) (s : Shape) → ascending s ≡ true → GoodShape s → shape_over l s ≡ false → read_shape l (write_shape s) ≡ ok s
-written-reads l s a g f = let (n, d, b) = shape_fits l s f in shape_reads_back l s g a n d
+written_reads : (l : Limits) (s : Shape) → ascending s ≡ true → GoodShape s → shape_over l s ≡ false → read_shape l (write_shape s) ≡ ok s
+written_reads l s a g f = let (n, d, b) = shape_fits l s f in shape_reads_back l s g a n d
 
 pub infer_reads_back
     : (source : Source) → ProperSource source → (published lent : List ℕ) (l : Limits) (shape document output : Bytes)
@@ -69,7 +69,7 @@ infer_reads_back source proper published lent l shape document output e =
       a.reads_sample.value,
       ap (λ (x : Bytes). read_shape l x)
           (sym (left_taken source published l c shape t) ∙ (accepted_left source published l c shape s v a).1)
-          ∙ written-reads l (join s (shape_of v))
+          ∙ written_reads l (join s (shape_of v))
           (join_ascending s (shape_of v) (shape_ascending l shape s a.reads_shape) (shape_of_ascending v))
           (join_good s (shape_of v) (shape_read_good l shape s a.reads_shape) (proper.names_in_utf8 l c.sample v a.reads_sample.value))
           a.fits,
@@ -109,19 +109,19 @@ module _ (published lent : List ℕ) (l : Limits) where
             q,
             ap (λ (z : Bytes). read_shape l z)
                 ((front output o (finish output (joined first second)) (finish_written output o p room)).1 ∙ ap (λ (z : TextOut). z.bytes) y)
-                ∙ written-reads l (join s t) (join_ascending s t (shape_ascending l first s r) (shape_ascending l second t q))
+                ∙ written_reads l (join s t) (join_ascending s t (shape_ascending l first s r) (shape_ascending l second t q))
                 (join_good s t (shape_read_good l first s r) (shape_read_good l second t q)) x,
           )
 
   -- the text that a check wrote is that of its result shape
-  pub Passed-reads
+  pub passed_reads
       : {reader shape output : Bytes} {r : Result} {s u : Shape} → Passed published lent l reader shape output r s u
       → read_shape l
       (take (check_operation published lent l reader shape output).answer.length (check_operation published lent l reader shape output).output)
       ≡ ok u
-  Passed-reads {reader} {shape} {r = r} {s} {u} p =
+  passed_reads {reader} {shape} {r = r} {s} {u} p =
       ap (λ (z : Bytes). read_shape l z) p.wrote
-      ∙ written-reads l u (check_ascending r s u (shape_ascending l shape s p.reads_shape) p.checks)
+      ∙ written_reads l u (check_ascending r s u (shape_ascending l shape s p.reads_shape) p.checks)
       (check_good r s u (reader_read_good l reader r p.reads_reader) (shape_read_good l shape s p.reads_shape) p.checks)
       p.fits
 
@@ -133,4 +133,4 @@ module _ (published lent : List ℕ) (l : Limits) where
       ≡ ok u)
   check_reads_back reader shape output e =
       let (r, s, u, p) = check_passed published lent l reader shape output e in
-      (r, s, u, p.reads_reader, p.reads_shape, p.checks, Passed-reads p)
+      (r, s, u, p.reads_reader, p.reads_shape, p.checks, passed_reads p)

@@ -35,11 +35,11 @@ pub long_lent : (buffer : Bytes) → slices_short buffer_published (buffer_lent 
 long_lent buffer e = ltb_le (length buffer) 40 (sym (lent_as buffer) ∙ e)
 
 -- what any operation came to, in a long enough buffer
-pub CallLong
+pub call_long
     : (buffer : Bytes) (d : Done) → 40 ≤ length buffer
     → call buffer d ≡ record { number = d.answer.number; answer = answer_words d.answer ++ drop 40 buffer; output = d.output }
 unfolding call
-CallLong buffer d h =
+call_long buffer d h =
     ap (λ (b : Bytes). record { number = d.answer.number; answer = b; output = d.output }) (answered_long buffer d.answer h)
 
 -- a short one is 1 and stays unwritten, and so does the output
@@ -79,7 +79,7 @@ module _ (l : Limits) (buffer output : Bytes) (j : Judged TextOut) where
       }
   writes_long r h =
       ap (λ (m : Judged TextOut). call buffer (finish output m)) (prelude_long l buffer_published (buffer_lent buffer) j r (lent_long buffer h))
-      ∙ CallLong buffer (finish output j) h
+      ∙ call_long buffer (finish output j) h
 
 module _ (l : Limits) (buffer : Bytes) (j : Judged Bool) where
   pub says_out
@@ -105,4 +105,4 @@ module _ (l : Limits) (buffer : Bytes) (j : Judged Bool) where
   unfolding quiet
   says_long r h =
       ap (λ (m : Judged Bool). call buffer (quiet (say m))) (prelude_long l buffer_published (buffer_lent buffer) j r (lent_long buffer h))
-      ∙ CallLong buffer (quiet (say j)) h
+      ∙ call_long buffer (quiet (say j)) h

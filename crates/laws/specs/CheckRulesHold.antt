@@ -6,7 +6,7 @@ use Rattle.definitions.specs.Bytes.{Bytes}
 use Rattle.definitions.specs.Outcome.{Outcome, ok, refused}
 use Rattle.definitions.specs.Shape.{Kind, Shape, Record, no_rec, rec_of, Fields, has, within, element_of, record_of, find}
 use Rattle.definitions.specs.Reader.{Place, Conversion, Result, Pairs, no_pairs, pair}
-use Rattle.definitions.specs.Checking.{field-kinds, convert-kinds, convert_shape, list-kinds, if-kinds, wants, listed, gain_null, field_shape}
+use Rattle.definitions.specs.Checking.{field_kinds, convert_kinds, convert_shape, list_kinds, if_kinds, wants, listed, gain_null, field_shape}
 use Rattle.definitions.specs.Checking.{element_shape, cut_to, taken_out, check_place, check, check_pairs, check_reader}
 use Rattle.laws.specs.RuleTells.{Tells, gave, stopped, told, told_refused, tells_map, tells_bind, tells_wants, bind_ok, bind_refused}
 use Rattle.laws.specs.RuleTells.{wants_met, wants_unmet}
@@ -53,14 +53,14 @@ gains_as {t = t} (none_gained e) = ap (λ b. gain_null b t) e
 field_tells
     : {env : List Shape} (at : ℕ) (n : Bytes) {p : Place} {s : Shape} → PlaceChecks env p s
     → PlaceTells env (Place.field at n p) (field_shape at n s)
-unfolding field_shape field-kinds
+unfolding field_shape field_kinds
 field_tells {env} at n {p} {s} d =
-    tells_wants at field-kinds s (λ w. field_kind d w) λ w.
+    tells_wants at field_kinds s (λ w. field_kind d w) λ w.
     tells_bind (listed_tells at n s (record_of s) refl) (λ m q x. unlisted w x) λ t h.
     gave (checks_field d w h (null_gains s t (has Kind.null s) refl))
   where
     unlisted
-        : within field-kinds s ≡ true → {m q : ℕ} → (m ≡ 10) × (q ≡ at) × Unlisted n s
+        : within field_kinds s ≡ true → {m q : ℕ} → (m ≡ 10) × (q ≡ at) × Unlisted n s
         → PlaceRefuses env (Place.field at n p) m q
     unlisted w (e, f, u) = rw (e, f) (field_name d w u)
 
@@ -70,20 +70,20 @@ place_tells (Place.it at n) env = gave checks_it
 place_tells (Place.field at n p) env = tells_bind (place_tells p env) (λ m q x. field_part x) λ s d. field_tells at n d
 
 mutual
-  unfolding check list-kinds if-kinds
+  unfolding check list_kinds if_kinds
 
   tells : (r : Result) (env : List Shape) → Tells (Checks env r) (Refuses env r) (check r env)
   tells (Result.convert at c p) env =
       tells_bind (place_tells p env) (λ m q x. convert_part x) λ s d.
-      tells_wants at (convert-kinds c) s (λ w. convert_kind d (converts c) w) λ w. gave (checks_convert d (converts c) w)
+      tells_wants at (convert_kinds c) s (λ w. convert_kind d (converts c) w) λ w. gave (checks_convert d (converts c) w)
   tells (Result.keep at p) env = tells_map (λ m q x. keep_part x) (λ s d. checks_keep d) (place_tells p env)
   tells (Result.count at p) env =
       tells_bind (place_tells p env) (λ m q x. count_part x) λ s d.
-      tells_wants at list-kinds s (λ w. count_kind d w) λ w. gave (checks_count d w)
+      tells_wants at list_kinds s (λ w. count_kind d w) λ w. gave (checks_count d w)
   tells (Result.each at p r) env =
       tells_bind (place_tells p env) (λ m q x. each_part x) λ s d.
       tells_bind (tells r (element_shape (element_of s) ∷ env)) (λ m q x. each_second_part d (element_is s) x) λ t f.
-      tells_wants at list-kinds s (λ w. each_kind d (element_is s) f w) λ w. gave (checks_each d (element_is s) f w)
+      tells_wants at list_kinds s (λ w. each_kind d (element_is s) f w) λ w. gave (checks_each d (element_is s) f w)
   tells (Result.when at k p r₁ r₂) env =
       tells_bind (place_tells p env) (λ m q x. when_part x) λ s d.
       tells_bind (tells r₁ (cut_to k s ∷ env)) (λ m q x. when_second_part d (means k) (cuts k s) x) λ t₁ f.
@@ -93,7 +93,7 @@ mutual
       tells_bind (tells r₁ env) (λ m q x. if_part x) λ t₁ d.
       tells_bind (tells r₂ env) (λ m q x. if_second_part d x) λ t₂ f.
       tells_bind (tells r₃ env) (λ m q x. if_third_part d f x) λ t₃ g.
-      tells_wants at if-kinds t₁ (λ w. if_kind d f g w) λ w. gave (checks_if d f g w)
+      tells_wants at if_kinds t₁ (λ w. if_kind d f g w) λ w. gave (checks_if d f g w)
   tells (Result.literal at v) env = gave checks_literal
   tells (Result.pack at ps) env = tells_bind (pairs_tell ps env) (λ m q x. pack_part x) λ fs d. gave (checks_pack d)
 
@@ -115,17 +115,17 @@ unlisted_refused {n} at (no_members e) = ap (listed at n) e
 unlisted_refused {n} at (no_such_name e f) = ap (listed at n) e ∙ rw (f, listed) refl
 
 place_gives : {env : List Shape} {p : Place} {s : Shape} → PlaceChecks env p s → check_place p env ≡ ok s
-unfolding check_place field_shape field-kinds
+unfolding check_place field_shape field_kinds
 place_gives checks_it = refl
 place_gives (checks_field {at} {s = s} d w l g) =
-    bind_ok _ (place_gives d) ∙ wants_met at field-kinds s _ w ∙ bind_ok _ (listed_gives at l) ∙ ap ok (gains_as g)
+    bind_ok _ (place_gives d) ∙ wants_met at field_kinds s _ w ∙ bind_ok _ (listed_gives at l) ∙ ap ok (gains_as g)
 
 place_refused : {env : List Shape} {p : Place} {m q : ℕ} → PlaceRefuses env p m q → check_place p env ≡ refused m q
-unfolding check_place field_shape field-kinds
+unfolding check_place field_shape field_kinds
 place_refused (field_part x) = bind_refused _ (place_refused x)
-place_refused (field_kind {at} {s = s} d w) = bind_ok _ (place_gives d) ∙ wants_unmet at field-kinds s _ w
+place_refused (field_kind {at} {s = s} d w) = bind_ok _ (place_gives d) ∙ wants_unmet at field_kinds s _ w
 place_refused (field_name {at} {s = s} d w u) =
-    bind_ok _ (place_gives d) ∙ wants_met at field-kinds s _ w ∙ bind_refused _ (unlisted_refused at u)
+    bind_ok _ (place_gives d) ∙ wants_met at field_kinds s _ w ∙ bind_refused _ (unlisted_refused at u)
 
 -- with a shape bound that the rules name
 bound
@@ -134,28 +134,28 @@ bound env r e h = ap (λ x. check r (x ∷ env)) e ∙ h
 
 -- the kinds that a conversion wants
 kinds_met : {c : Conversion} {ks : List Kind} {t : Shape} (at : ℕ) (s : Shape) → Converts c ks t → within ks s ≡ true
-    → wants at (convert-kinds c) s (ok (convert_shape c)) ≡ ok t
+    → wants at (convert_kinds c) s (ok (convert_shape c)) ≡ ok t
 kinds_met at s v w = rw ((converts_as v).0, (converts_as v).1) (wants_met at _ s _ w)
 
 kinds_unmet : {c : Conversion} {ks : List Kind} {t : Shape} (at : ℕ) (s : Shape) → Converts c ks t → within ks s ≡ false
-    → wants at (convert-kinds c) s (ok (convert_shape c)) ≡ refused 9 at
+    → wants at (convert_kinds c) s (ok (convert_shape c)) ≡ refused 9 at
 kinds_unmet at s v w = rw (converts_as v).0 (wants_unmet at _ s _ w)
 
 mutual
-  unfolding check list-kinds if-kinds
+  unfolding check list_kinds if_kinds
 
   gives : (r : Result) {env : List Shape} {t : Shape} → Checks env r t → check r env ≡ ok t
   gives (Result.convert at c p) (checks_convert {s = s} d v w) = bind_ok _ (place_gives d) ∙ kinds_met at s v w
   gives (Result.keep at p) (checks_keep d) = place_gives d
-  gives (Result.count at p) (checks_count {s = s} d w) = bind_ok _ (place_gives d) ∙ wants_met at list-kinds s _ w
+  gives (Result.count at p) (checks_count {s = s} d w) = bind_ok _ (place_gives d) ∙ wants_met at list_kinds s _ w
   gives (Result.each at p r) {env} (checks_each {s = s} d e f w) =
-      bind_ok _ (place_gives d) ∙ bind_ok _ (bound env r (element_as e) (gives r f)) ∙ wants_met at list-kinds s _ w
+      bind_ok _ (place_gives d) ∙ bind_ok _ (bound env r (element_as e) (gives r f)) ∙ wants_met at list_kinds s _ w
   gives (Result.when at k p r₁ r₂) {env} (checks_when d m c f t g) =
       bind_ok _ (place_gives d)
       ∙ bind_ok _ (bound env r₁ (cuts_as m c) (gives r₁ f))
       ∙ bind_ok _ (bound env r₂ (takes_as m t) (gives r₂ g))
   gives (Result.choose at r₁ r₂ r₃) (checks_if {t₁ = t₁} d f g w) =
-      bind_ok _ (gives r₁ d) ∙ bind_ok _ (gives r₂ f) ∙ bind_ok _ (gives r₃ g) ∙ wants_met at if-kinds t₁ _ w
+      bind_ok _ (gives r₁ d) ∙ bind_ok _ (gives r₂ f) ∙ bind_ok _ (gives r₃ g) ∙ wants_met at if_kinds t₁ _ w
   gives (Result.literal at v) checks_literal = refl
   gives (Result.pack at ps) (checks_pack d) = bind_ok _ (pairs_give ps d)
 
@@ -164,18 +164,18 @@ mutual
   pairs_give (pair n r ps) (checks_pair d f) = bind_ok _ (gives r d) ∙ bind_ok _ (pairs_give ps f)
 
 mutual
-  unfolding check list-kinds if-kinds
+  unfolding check list_kinds if_kinds
 
   refuses : {env : List Shape} {r : Result} {m q : ℕ} → Refuses env r m q → check r env ≡ refused m q
   refuses (convert_part x) = bind_refused _ (place_refused x)
   refuses (convert_kind {at = at} {s = s} d v w) = bind_ok _ (place_gives d) ∙ kinds_unmet at s v w
   refuses (keep_part x) = place_refused x
   refuses (count_part x) = bind_refused _ (place_refused x)
-  refuses (count_kind {at = at} {s = s} d w) = bind_ok _ (place_gives d) ∙ wants_unmet at list-kinds s _ w
+  refuses (count_kind {at = at} {s = s} d w) = bind_ok _ (place_gives d) ∙ wants_unmet at list_kinds s _ w
   refuses (each_part x) = bind_refused _ (place_refused x)
   refuses (each_second_part {env} {r = r} d e x) = bind_ok _ (place_gives d) ∙ bind_refused _ (bound env r (element_as e) (refuses x))
   refuses (each_kind {env} {at} {r = r} {s} d e f w) =
-      bind_ok _ (place_gives d) ∙ bind_ok _ (bound env r (element_as e) (gives _ f)) ∙ wants_unmet at list-kinds s _ w
+      bind_ok _ (place_gives d) ∙ bind_ok _ (bound env r (element_as e) (gives _ f)) ∙ wants_unmet at list_kinds s _ w
   refuses (when_part x) = bind_refused _ (place_refused x)
   refuses (when_second_part {env} {r₁ = r₁} d m c x) = bind_ok _ (place_gives d) ∙ bind_refused _ (bound env r₁ (cuts_as m c) (refuses x))
   refuses (when_third_part {env} {r₁ = r₁} {r₂} d m c f t x) =
@@ -184,7 +184,7 @@ mutual
   refuses (if_second_part d x) = bind_ok _ (gives _ d) ∙ bind_refused _ (refuses x)
   refuses (if_third_part d f x) = bind_ok _ (gives _ d) ∙ bind_ok _ (gives _ f) ∙ bind_refused _ (refuses x)
   refuses (if_kind {at = at} {t₁ = t₁} d f g w) =
-      bind_ok _ (gives _ d) ∙ bind_ok _ (gives _ f) ∙ bind_ok _ (gives _ g) ∙ wants_unmet at if-kinds t₁ _ w
+      bind_ok _ (gives _ d) ∙ bind_ok _ (gives _ f) ∙ bind_ok _ (gives _ g) ∙ wants_unmet at if_kinds t₁ _ w
   refuses (pack_part x) = bind_refused _ (pairs_refused x)
 
   pairs_refused : {env : List Shape} {ps : Pairs} {m q : ℕ} → PairsRefuse env ps m q → check_pairs ps env ≡ refused m q

@@ -5,22 +5,22 @@ use Rattle.std.proofs.lemmas.Bool.{false≢true}
 use Rattle.definitions.specs.Shape.{Kind, rank, among, Numeric, no_number, int_only, int_and_dec, Shape, shape, Element, no_list, list_of}
 use Rattle.definitions.specs.Shape.{Record, no_rec, rec_of, has_int, has_dec, has_list, has_rec, has, element_of, record_of}
 use Rattle.definitions.specs.Reader.{Conversion, Test}
-use Rattle.definitions.specs.Checking.{convert-kinds, convert_shape, element_shape, test-kinds, stay_numeric, stay_element, stay_record, stay}
+use Rattle.definitions.specs.Checking.{convert_kinds, convert_shape, element_shape, test_kinds, stay_numeric, stay_element, stay_record, stay}
 use Rattle.definitions.specs.Checking.{cut_to, taken_out}
 use Rattle.laws.specs.OrderLaws.{numeric_eq}
 use Rattle.laws.specs.CheckRules.{Converts, by_int, by_bool, by_text, by_dec, ElementShape, element, absent, Means, HoldsAs, Cut, TakenOut}
 
 -- ---- conversions, elements, kinds
 
-pub converts : (c : Conversion) → Converts c (convert-kinds c) (convert_shape c)
-unfolding convert-kinds convert_shape
+pub converts : (c : Conversion) → Converts c (convert_kinds c) (convert_shape c)
+unfolding convert_kinds convert_shape
 converts Conversion.to_int = by_int
 converts Conversion.to_dec = by_dec
 converts Conversion.to_bool = by_bool
 converts Conversion.to_text = by_text
 
-pub converts_as : {c : Conversion} {ks : List Kind} {t : Shape} → Converts c ks t → (convert-kinds c ≡ ks) × (convert_shape c ≡ t)
-unfolding convert-kinds convert_shape
+pub converts_as : {c : Conversion} {ks : List Kind} {t : Shape} → Converts c ks t → (convert_kinds c ≡ ks) × (convert_shape c ≡ t)
+unfolding convert_kinds convert_shape
 converts_as by_int = (refl, refl)
 converts_as by_bool = (refl, refl)
 converts_as by_text = (refl, refl)
@@ -39,8 +39,8 @@ unfolding element_shape
 element_as (element h) = ap element_shape h
 element_as (absent h) = ap element_shape h
 
-pub means : (k : Test) → Means k (test-kinds k)
-unfolding test-kinds
+pub means : (k : Test) → Means k (test_kinds k)
+unfolding test_kinds
 means Test.null = Means.null
 means Test.bool = Means.bool
 means Test.int = Means.int
@@ -49,8 +49,8 @@ means Test.text = Means.text
 means Test.list = Means.list
 means Test.rec = Means.rec
 
-pub means_as : {k : Test} {ks : List Kind} → Means k ks → test-kinds k ≡ ks
-unfolding test-kinds
+pub means_as : {k : Test} {ks : List Kind} → Means k ks → test_kinds k ≡ ks
+unfolding test_kinds
 means_as Means.null = refl
 means_as Means.bool = refl
 means_as Means.int = refl
@@ -154,8 +154,8 @@ without_dec false int_and_dec = refl
 
 cut_int
     : (k : Test) (m : Numeric)
-    → has_int (stay_numeric (among Kind.int (test-kinds k)) (among Kind.dec (test-kinds k)) m) ≡ has_int m && among Kind.int (test-kinds k)
-unfolding test-kinds among rank has_int stay_numeric
+    → has_int (stay_numeric (among Kind.int (test_kinds k)) (among Kind.dec (test_kinds k)) m) ≡ has_int m && among Kind.int (test_kinds k)
+unfolding test_kinds among rank has_int stay_numeric
 cut_int Test.null m = without_dec false m
 cut_int Test.bool m = without_dec false m
 cut_int Test.int m = without_dec true m
@@ -166,23 +166,23 @@ cut_int Test.text m = without_dec false m
 cut_int Test.list m = without_dec false m
 cut_int Test.rec m = without_dec false m
 
-cut-kinds : (k : Test) (s : Shape) (j : Kind) → has j (cut_to k s) ≡ has j s && among j (test-kinds k)
+cut-kinds : (k : Test) (s : Shape) (j : Kind) → has j (cut_to k s) ≡ has j s && among j (test_kinds k)
 unfolding cut_to stay has
 cut-kinds k (shape n b m t e r) Kind.null = flip _ n
 cut-kinds k (shape n b m t e r) Kind.bool = flip _ b
 cut-kinds k (shape n b m t e r) Kind.int = cut_int k m
-cut-kinds k (shape n b m t e r) Kind.dec = stay_dec (among Kind.int (test-kinds k)) _ m
+cut-kinds k (shape n b m t e r) Kind.dec = stay_dec (among Kind.int (test_kinds k)) _ m
 cut-kinds k (shape n b m t e r) Kind.text = flip _ t
 cut-kinds k (shape n b m t e r) Kind.list = stay_list _ e
 cut-kinds k (shape n b m t e r) Kind.rec = stay_rec _ r
 
-pub cuts : (k : Test) (s : Shape) → Cut (test-kinds k) s (cut_to k s)
+pub cuts : (k : Test) (s : Shape) → Cut (test_kinds k) s (cut_to k s)
 unfolding cut_to
-cuts k s = record { kinds = cut-kinds k s; holds = stay_holds (λ j. among j (test-kinds k)) s }
+cuts k s = record { kinds = cut-kinds k s; holds = stay_holds (λ j. among j (test_kinds k)) s }
 
 pub cuts_as : {k : Test} {ks : List Kind} {s t : Shape} → Means k ks → Cut ks s t → cut_to k s ≡ t
 cuts_as {k} {ks} {s} {t} m c =
-    let d : Cut (test-kinds k) s t = subst (λ (x : List Kind). Cut x s t) (sym (means_as m)) c in
+    let d : Cut (test_kinds k) s t = subst (λ (x : List Kind). Cut x s t) (sym (means_as m)) c in
     shape_same s (cut_to k s) t (cuts k s).holds d.holds λ j. cut-kinds k s j ∙ sym (d.kinds j)
 
 -- ---- taking out
@@ -197,21 +197,21 @@ flip_or a b = flip a b ∙ or_nothing a b
 taken-kinds
     : (k : Test) (s : Shape) (j : Kind)
     → has j (taken_out k s)
-    ≡ has j s && (not (among j (test-kinds k)) || (among j (Kind.int ∷ []) && has Kind.dec s && not (among Kind.dec (test-kinds k))))
+    ≡ has j s && (not (among j (test_kinds k)) || (among j (Kind.int ∷ []) && has Kind.dec s && not (among Kind.dec (test_kinds k))))
 unfolding taken_out stay has among rank
-taken-kinds k (shape n b m t e r) Kind.null = flip_or (not (among Kind.null (test-kinds k))) n
-taken-kinds k (shape n b m t e r) Kind.bool = flip_or (not (among Kind.bool (test-kinds k))) b
+taken-kinds k (shape n b m t e r) Kind.null = flip_or (not (among Kind.null (test_kinds k))) n
+taken-kinds k (shape n b m t e r) Kind.bool = flip_or (not (among Kind.bool (test_kinds k))) b
 taken-kinds k (shape n b m t e r) Kind.int = stay_int _ _ m
 taken-kinds k (shape n b m t e r) Kind.dec = stay_dec _ _ m ∙ or_nothing _ (has_dec m)
-taken-kinds k (shape n b m t e r) Kind.text = flip_or (not (among Kind.text (test-kinds k))) t
+taken-kinds k (shape n b m t e r) Kind.text = flip_or (not (among Kind.text (test_kinds k))) t
 taken-kinds k (shape n b m t e r) Kind.list = stay_list _ e ∙ or_nothing _ (has_list e)
 taken-kinds k (shape n b m t e r) Kind.rec = stay_rec _ r ∙ or_nothing _ (has_rec r)
 
-pub takes : (k : Test) (s : Shape) → TakenOut (test-kinds k) s (taken_out k s)
+pub takes : (k : Test) (s : Shape) → TakenOut (test_kinds k) s (taken_out k s)
 unfolding taken_out
-takes k s = record { kinds = taken-kinds k s; holds = stay_holds (λ j. not (among j (test-kinds k))) s }
+takes k s = record { kinds = taken-kinds k s; holds = stay_holds (λ j. not (among j (test_kinds k))) s }
 
 pub takes_as : {k : Test} {ks : List Kind} {s t : Shape} → Means k ks → TakenOut ks s t → taken_out k s ≡ t
 takes_as {k} {ks} {s} {t} m c =
-    let d : TakenOut (test-kinds k) s t = subst (λ (x : List Kind). TakenOut x s t) (sym (means_as m)) c in
+    let d : TakenOut (test_kinds k) s t = subst (λ (x : List Kind). TakenOut x s t) (sym (means_as m)) c in
     shape_same s (taken_out k s) t (takes k s).holds d.holds λ j. taken-kinds k s j ∙ sym (d.kinds j)

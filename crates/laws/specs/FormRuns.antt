@@ -95,12 +95,12 @@ module _ {Q : Type 0} {step : Q → Placed → Step Q} where
   walk_then (enter f g) e = enter f (walk_then g e)
 
   -- tokens behind play no part
-  pub WalkMore
+  pub walk_more
       : {q u : Q} {ts us : List Placed} {ds : List ℕ} → Walk step q ts ds u us → (vs : List Placed)
       → Walk step q (ts ++ vs) ds u (us ++ vs)
-  WalkMore stay vs = stay
-  WalkMore (on e f) vs = on e (WalkMore f vs)
-  WalkMore (enter e f) vs = enter e (WalkMore f vs)
+  walk_more stay vs = stay
+  walk_more (on e f) vs = on e (walk_more f vs)
+  walk_more (enter e f) vs = enter e (walk_more f vs)
 
   -- tokens lead to one state
   pub walk_unique

@@ -73,9 +73,9 @@ module _ {A : Type 0} (k : ℕ) (l : Limits) (read : Reading A) (s : Bytes) wher
   unfolding judge_text
   text_short e = rw (e, judge_text)
 
-  pub text-reads : (a : A) → length s ≤ l.bytes → read l s ≡ ok a → judge_text k l read s ≡ passed a
+  pub text_reads : (a : A) → length s ≤ l.bytes → read l s ≡ ok a → judge_text k l read s ≡ passed a
   unfolding in_text
-  text-reads a h e = text_short (le-ltb l.bytes (length s) h) ∙ ap (λ o. in_text k o) e
+  text_reads a h e = text_short (le-ltb l.bytes (length s) h) ∙ ap (λ o. in_text k o) e
 
   pub text_refused : (n p : ℕ) → length s ≤ l.bytes → read l s ≡ refused n p → judge_text k l read s ≡ stopped (refusal n k p)
   unfolding in_text
@@ -225,7 +225,7 @@ module _ {A B : Type 0} (l : Limits) (read : Reading A) (s : Bytes) (read' : Rea
   pub both_read
       : (a : A) (b : B) → length s ≤ l.bytes → read l s ≡ ok a → length t ≤ l.bytes → read' l t ≡ ok b
       → judge_both l read s read' t ≡ passed (a, b)
-  both_read a b h e g f = both_pass (text-reads 1 l read s a h e) (text-reads 2 l read' t b g f)
+  both_read a b h e g f = both_pass (text_reads 1 l read s a h e) (text_reads 2 l read' t b g f)
 
   -- why both passed
   pub record BothPassed (a : A) (b : B) : Type 0 where

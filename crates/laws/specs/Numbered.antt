@@ -10,8 +10,8 @@ use Rattle.definitions.specs.Limits.{over}
 use Rattle.definitions.specs.Tokens.{Placed, Step, misplaced, go, opens, judge_step, or_end, read_tokens, tokens}
 use Rattle.definitions.specs.ShapeText.{read_shape}
 use Rattle.definitions.specs.Reader.{Place, Result, Pairs, no_pairs, pair, read_result, read_reader}
-use Rattle.definitions.specs.Checking.{wants, listed, field_shape, field-kinds, convert-kinds, list-kinds}
-use Rattle.definitions.specs.Checking.{if-kinds, check_place, check, check_pairs, check_reader}
+use Rattle.definitions.specs.Checking.{wants, listed, field_shape, field_kinds, convert_kinds, list_kinds}
+use Rattle.definitions.specs.Checking.{if_kinds, check_place, check, check_pairs, check_reader}
 use Rattle.laws.specs.Judging.{Numbered}
 
 -- ---- texts of forms
@@ -84,27 +84,27 @@ unfolding check_place field_shape
 numbered_place (Place.it at n) env = tt
 numbered_place (Place.field at n p) env =
     numbered_bind (check_place p env) _ (numbered_place p env) λ s.
-    numbered_wants at field-kinds s _ (numbered_bind (listed at n (record_of s)) _ (numbered_listed at n (record_of s)) λ t. tt)
+    numbered_wants at field_kinds s _ (numbered_bind (listed at n (record_of s)) _ (numbered_listed at n (record_of s)) λ t. tt)
 
 mutual
   unfolding check
 
   numbered_check : (r : Result) (env : List Shape) → Numbered (check r env)
   numbered_check (Result.convert at c p) env =
-      numbered_bind (check_place p env) _ (numbered_place p env) λ s. numbered_wants at (convert-kinds c) s _ tt
+      numbered_bind (check_place p env) _ (numbered_place p env) λ s. numbered_wants at (convert_kinds c) s _ tt
   numbered_check (Result.keep at p) env = numbered_place p env
   numbered_check (Result.count at p) env =
-      numbered_bind (check_place p env) _ (numbered_place p env) λ s. numbered_wants at list-kinds s _ tt
+      numbered_bind (check_place p env) _ (numbered_place p env) λ s. numbered_wants at list_kinds s _ tt
   numbered_check (Result.each at p r) env =
       numbered_bind (check_place p env) _ (numbered_place p env) λ s.
-      numbered_bind (check r _) _ (numbered_check r _) λ t. numbered_wants at list-kinds s _ tt
+      numbered_bind (check r _) _ (numbered_check r _) λ t. numbered_wants at list_kinds s _ tt
   numbered_check (Result.when at k p r₁ r₂) env =
       numbered_bind (check_place p env) _ (numbered_place p env) λ s.
       numbered_bind (check r₁ _) _ (numbered_check r₁ _) λ t₁. numbered_bind (check r₂ _) _ (numbered_check r₂ _) λ t₂. tt
   numbered_check (Result.choose at r₁ r₂ r₃) env =
       numbered_bind (check r₁ env) _ (numbered_check r₁ env) λ t₁.
       numbered_bind (check r₂ env) _ (numbered_check r₂ env) λ t₂.
-      numbered_bind (check r₃ env) _ (numbered_check r₃ env) λ t₃. numbered_wants at if-kinds t₁ _ tt
+      numbered_bind (check r₃ env) _ (numbered_check r₃ env) λ t₃. numbered_wants at if_kinds t₁ _ tt
   numbered_check (Result.literal at v) env = tt
   numbered_check (Result.pack at ps) env = numbered_bind (check_pairs ps env) _ (numbered_pairs ps env) λ fs. tt
 

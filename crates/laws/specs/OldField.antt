@@ -11,7 +11,7 @@ use Rattle.definitions.specs.Shape.{only_numeric, only_list, only_rec}
 use Rattle.definitions.specs.Join.{join, insert, shape_of}
 use Rattle.definitions.specs.Admits.{kind_of}
 use Rattle.definitions.specs.Reader.{Place, Result, Pairs, no_pairs, pair}
-use Rattle.definitions.specs.Checking.{convert-kinds, list-kinds, if-kinds, wants, listed, convert_shape, element_shape, test-kinds, cut_to, taken_out}
+use Rattle.definitions.specs.Checking.{convert_kinds, list_kinds, if_kinds, wants, listed, convert_shape, element_shape, test_kinds, cut_to, taken_out}
 use Rattle.definitions.specs.Running.{Ran, gives, enter, stuck_unless, member_of, members_of, converted, items_of, int_value, truth, run_items}
 
 -- a rule of `field`: what it makes of the shape of its place, or of the value
@@ -35,18 +35,18 @@ check_place_by (Place.field at n p) rule env = check_place_by p rule env >>= λ 
 unfoldable mutual
   -- checking by a rule of `field`
   pub check_by : Result → FieldRule Shape → List Shape → Outcome ℕ Shape
-  check_by (Result.convert at c p) rule env = check_place_by p rule env >>= λ s. wants at (convert-kinds c) s (ok (convert_shape c))
+  check_by (Result.convert at c p) rule env = check_place_by p rule env >>= λ s. wants at (convert_kinds c) s (ok (convert_shape c))
   check_by (Result.keep at p) rule env = check_place_by p rule env
-  check_by (Result.count at p) rule env = check_place_by p rule env >>= λ s. wants at list-kinds s (ok (only_numeric int_only))
+  check_by (Result.count at p) rule env = check_place_by p rule env >>= λ s. wants at list_kinds s (ok (only_numeric int_only))
   check_by (Result.each at p r) rule env =
       check_place_by p rule env
-      >>= λ s. check_by r rule (element_shape (element_of s) ∷ env) >>= λ t. wants at list-kinds s (ok (only_list (list_of t)))
+      >>= λ s. check_by r rule (element_shape (element_of s) ∷ env) >>= λ t. wants at list_kinds s (ok (only_list (list_of t)))
   check_by (Result.when at k p r₁ r₂) rule env =
       check_place_by p rule env
       >>= λ s. check_by r₁ rule (cut_to k s ∷ env) >>= λ t₁. check_by r₂ rule (taken_out k s ∷ env) >>= λ t₂. ok (join t₁ t₂)
   check_by (Result.choose at r₁ r₂ r₃) rule env =
       check_by r₁ rule env
-      >>= λ t₁. check_by r₂ rule env >>= λ t₂. check_by r₃ rule env >>= λ t₃. wants at if-kinds t₁ (ok (join t₂ t₃))
+      >>= λ t₁. check_by r₂ rule env >>= λ t₂. check_by r₃ rule env >>= λ t₃. wants at if_kinds t₁ (ok (join t₂ t₃))
   check_by (Result.literal at v) rule env = ok (shape_of v)
   check_by (Result.pack at ps) rule env = check_pairs_by ps rule env >>= λ fs. ok (only_rec (rec_of fs))
 
@@ -82,19 +82,19 @@ unfoldable mutual
   run_by (Result.convert at c p) rule l env n =
       enter l at n
       >>= λ n₁. run_place_by p rule l env n₁
-      >>= λ x. stuck_unless at (convert-kinds c) x.result (gives (converted c x.result) x.steps)
+      >>= λ x. stuck_unless at (convert_kinds c) x.result (gives (converted c x.result) x.steps)
   run_by (Result.keep at p) rule l env n = enter l at n >>= λ n₁. run_place_by p rule l env n₁
   run_by (Result.count at p) rule l env n =
       enter l at n
       >>= λ n₁. run_place_by p rule l env n₁
-      >>= λ x. stuck_unless at list-kinds x.result (gives (int_value (count (items_of x.result))) x.steps)
+      >>= λ x. stuck_unless at list_kinds x.result (gives (int_value (count (items_of x.result))) x.steps)
   run_by (Result.each at p r) rule l env n =
       enter l at n
       >>= λ n₁. run_place_by p rule l env n₁
       >>= λ x.
       stuck_unless
       at
-      list-kinds
+      list_kinds
       x.result
       (run_items (λ v n₂. run_by r rule l (v ∷ env) n₂) (items_of x.result) x.steps
       >>= λ xs. gives (Value.list xs.result) xs.steps)
@@ -102,7 +102,7 @@ unfoldable mutual
       enter l at n
       >>= λ n₁. run_place_by p rule l env n₁
       >>= λ x.
-      elim (among (kind_of x.result) (test-kinds k)) [
+      elim (among (kind_of x.result) (test_kinds k)) [
         | true ↦ run_by r₁ rule l (x.result ∷ env) x.steps
         | false ↦ run_by r₂ rule l (x.result ∷ env) x.steps
       ]

@@ -8,7 +8,7 @@ use Rattle.definitions.specs.Value.{Value, Items, no_items, item, Members, no_me
 use Rattle.definitions.specs.Shape.{among}
 use Rattle.definitions.specs.Admits.{kind_of}
 use Rattle.definitions.specs.Reader.{Place, Conversion, to_int, to_dec, to_bool, to_text, Result, Pairs, no_pairs, pair, among_pairs}
-use Rattle.definitions.specs.Checking.{convert-kinds, list-kinds, test-kinds}
+use Rattle.definitions.specs.Checking.{convert_kinds, list_kinds, test_kinds}
 use Rattle.definitions.specs.Running.{Ran, gives, member_of, members_of, whole_value, converted, items_of, int_value}
 use Rattle.definitions.specs.Running.{truth, run_place, run_items, run, run_pairs, run_reader}
 use Rattle.laws.specs.Bools.{and_intro}
@@ -54,22 +54,22 @@ mutual
   run_bounded (Result.convert at c p) l vs n =
       holds_bind (holds_enter l at n (inr refl)) λ n₁ h.
       holds_bind (place_bounded p l vs n₁) λ x h₁.
-      holds_stuck at (convert-kinds c) x.result (inl refl) (gave h₁)
+      holds_stuck at (convert_kinds c) x.result (inl refl) (gave h₁)
   run_bounded (Result.keep at p) l vs n = holds_bind (holds_enter l at n (inr refl)) λ n₁ h. place_bounded p l vs n₁
   run_bounded (Result.count at p) l vs n =
       holds_bind (holds_enter l at n (inr refl)) λ n₁ h.
       holds_bind (place_bounded p l vs n₁) λ x h₁.
-      holds_stuck at list-kinds x.result (inl refl) (gave h₁)
+      holds_stuck at list_kinds x.result (inl refl) (gave h₁)
   run_bounded (Result.each at p r) l vs n =
       holds_bind (holds_enter l at n (inr refl)) λ n₁ h.
       holds_bind (place_bounded p l vs n₁) λ x h₁.
       let body : (v : Value) (i : ℕ) → Holds Halt (Bounded l) (run r l (v ∷ vs) i) = λ v i. run_bounded r l (v ∷ vs) i in
       let items = items_bounded l (λ v i. run r l (v ∷ vs) i) body (items_of x.result) x.steps h₁ in
-      holds_stuck at list-kinds x.result (inl refl) (holds_bind items λ xs h₂. gave h₂)
+      holds_stuck at list_kinds x.result (inl refl) (holds_bind items λ xs h₂. gave h₂)
   run_bounded (Result.when at k p r₁ r₂) l vs n =
       holds_bind (holds_enter l at n (inr refl)) λ n₁ h.
       holds_bind (place_bounded p l vs n₁) λ x h₁.
-      holds_either (among (kind_of x.result) (test-kinds k))
+      holds_either (among (kind_of x.result) (test_kinds k))
       (λ t. run_bounded r₁ l (x.result ∷ vs) x.steps) (λ t. run_bounded r₂ l (x.result ∷ vs) x.steps)
   run_bounded (Result.choose at r₁ r₂ r₃) l vs n =
       holds_bind (holds_enter l at n (inr refl)) λ n₁ h.
@@ -199,26 +199,26 @@ mutual
   run_keeps_distinct (Result.convert at c p) l vs n q d =
       holds_bind (holds_enter l at n tt) λ n₁ h.
       holds_bind (place_distinct p l vs n₁ d) λ x h₁.
-      holds_stuck at (convert-kinds c) x.result tt (gave (converted_distinct c x.result h₁))
+      holds_stuck at (convert_kinds c) x.result tt (gave (converted_distinct c x.result h₁))
   run_keeps_distinct (Result.keep at p) l vs n q d = holds_bind (holds_enter l at n tt) λ n₁ h. place_distinct p l vs n₁ d
   run_keeps_distinct (Result.count at p) l vs n q d =
       holds_bind (holds_enter l at n tt) λ n₁ h.
       holds_bind (place_distinct p l vs n₁ d) λ x h₁.
-      holds_stuck at list-kinds x.result tt (gave refl)
+      holds_stuck at list_kinds x.result tt (gave refl)
   run_keeps_distinct (Result.each at p r) l vs n q d =
       holds_bind (holds_enter l at n tt) λ n₁ h.
       holds_bind (place_distinct p l vs n₁ d) λ x h₁.
       let body : (v : Value) (i : ℕ) → distinct v ≡ true → Holds any Fine (run r l (v ∷ vs) i) =
       λ v i e. run_keeps_distinct r l (v ∷ vs) i q (distinct_bind v vs e d) in
       let items = items_distinct (λ v i. run r l (v ∷ vs) i) body (items_of x.result) x.steps (items_of_distinct x.result h₁) in
-      holds_stuck at list-kinds x.result tt (holds_bind items λ xs h₂. gave h₂)
+      holds_stuck at list_kinds x.result tt (holds_bind items λ xs h₂. gave h₂)
   run_keeps_distinct (Result.when at k p r₁ r₂) l vs n q d =
       let q₁ = and_two (proper r₁) (proper r₂) q in
       holds_bind (holds_enter l at n tt) λ n₁ h.
       holds_bind (place_distinct p l vs n₁ d) λ x h₁.
       let d₁ = distinct_bind x.result vs h₁ d in
       holds_either
-      (among (kind_of x.result) (test-kinds k))
+      (among (kind_of x.result) (test_kinds k))
       (λ t. run_keeps_distinct r₁ l (x.result ∷ vs) x.steps q₁.0 d₁)
       (λ t. run_keeps_distinct r₂ l (x.result ∷ vs) x.steps q₁.1 d₁)
   run_keeps_distinct (Result.choose at r₁ r₂ r₃) l vs n q d =

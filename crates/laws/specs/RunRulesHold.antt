@@ -10,7 +10,7 @@ use Rattle.definitions.specs.Value.{Value, Items, no_items, item, Members, count
 use Rattle.definitions.specs.Shape.{Kind, among, Shape}
 use Rattle.definitions.specs.Admits.{kind_of}
 use Rattle.definitions.specs.Reader.{Place, Conversion, Test, Result, Pairs, no_pairs, pair}
-use Rattle.definitions.specs.Checking.{field-kinds, convert-kinds, list-kinds, test-kinds}
+use Rattle.definitions.specs.Checking.{field_kinds, convert_kinds, list_kinds, test_kinds}
 use Rattle.definitions.specs.Running.{Ran, gives, stuck_unless, field_value, converted, items_of, int_value, truth}
 use Rattle.definitions.specs.Running.{run_place, run_items, run, run_pairs, run_reader}
 use Rattle.laws.specs.SoundSteps.{enter_within}
@@ -38,13 +38,13 @@ module _ (l : Limits) where
   RunTells env n r o = Tells (λ (x : Ran Value). Runs l env n r x.result x.steps) (Halts l env n r) o
 
   place_tells : (p : Place) (env : List Value) (n : ℕ) → PlaceTells env n p (run_place p l env n)
-  unfolding run_place gives field_value field-kinds
+  unfolding run_place gives field_value field_kinds
   place_tells (Place.it at k) env n = tells_enter l at n _ place_out λ e. gave (runs_it e)
   place_tells (Place.field at name p) env n =
       tells_enter l at n _ place_out λ e.
       tells_bind (place_tells p env (suc n)) (λ m q h. field_part e h) λ x d.
       tells_bind {G = λ w. Field name x.result w} {R = λ m q. PlaceHalts l env n (Place.field at name p) m q}
-      (tells_stuck at field-kinds x.result (λ s. field_stuck e d s) (λ s. gave (field_is name x.result s)))
+      (tells_stuck at field_kinds x.result (λ s. field_stuck e d s) (λ s. gave (field_is name x.result s)))
       (λ m q h. h)
       λ w f. gave (runs_field e d f)
 
@@ -61,31 +61,31 @@ module _ (l : Limits) where
       tells_bind (items_tell r env body vs x.steps) (λ m q h. later_item d h) λ xs ds. gave (runs_item d ds)
 
   mutual
-    unfolding run gives list-kinds int_value
+    unfolding run gives list_kinds int_value
 
     run_tells : (r : Result) (env : List Value) (n : ℕ) → RunTells env n r (run r l env n)
     run_tells (Result.convert at c p) env n =
         tells_enter l at n _ out λ e.
         tells_bind (place_tells p env (suc n)) (λ m q h. convert_part e h) λ x d.
-        tells_stuck at (convert-kinds c) x.result (λ s. convert_stuck e d (converts c) s) λ s.
+        tells_stuck at (convert_kinds c) x.result (λ s. convert_stuck e d (converts c) s) λ s.
         gave (runs_convert e d (converts c) s (converted_is c x.result s))
     run_tells (Result.keep at p) env n = tells_enter l at n _ out λ e.
         tells_map (λ m q h. keep_part e h) (λ x d. runs_keep e d) (place_tells p env (suc n))
     run_tells (Result.count at p) env n =
         tells_enter l at n _ out λ e.
         tells_bind (place_tells p env (suc n)) (λ m q h. count_part e h) λ x d.
-        tells_stuck at list-kinds x.result (λ s. count_stuck e d s) λ s. gave (runs_count e d (elements_is x.result s))
+        tells_stuck at list_kinds x.result (λ s. count_stuck e d s) λ s. gave (runs_count e d (elements_is x.result s))
     run_tells (Result.each at p r) env n =
         tells_enter l at n _ out λ e.
         tells_bind (place_tells p env (suc n)) (λ m q h. each_part e h) λ x d.
-        tells_stuck at list-kinds x.result (λ s. each_stuck e d s) λ s.
+        tells_stuck at list_kinds x.result (λ s. each_stuck e d s) λ s.
         tells_bind (items_tell r env (λ v i. run_tells r (v ∷ env) i) (items_of x.result) x.steps)
         (λ m q h. each_items e d (elements_is x.result s) h)
         λ xs ds. gave (runs_each e d (elements_is x.result s) ds)
     run_tells (Result.when at k p r₁ r₂) env n =
         tells_enter l at n _ out λ e.
         tells_bind (place_tells p env (suc n)) (λ m q h. when_part e h) λ x d.
-        tells_either (among (kind_of x.result) (test-kinds k))
+        tells_either (among (kind_of x.result) (test_kinds k))
         (λ s.
         tells_map (λ m q h. when_first e d (means k) s h) (λ y f. runs_when_first e d (means k) s f) (run_tells r₁ (x.result ∷ env) x.steps))
         (λ s.
@@ -119,8 +119,8 @@ module _ (l : Limits) where
   ran a m = ok (record { result = a; steps = m })
 
   field_gives : {name : Bytes} {v w : Value} (at : ℕ) → Field name v w → field_value at name v ≡ ok w
-  unfolding field_value field-kinds
-  field_gives {v = v} at f = stuck_met at field-kinds v _ (field_kind f) ∙ ap ok (field_as f)
+  unfolding field_value field_kinds
+  field_gives {v = v} at f = stuck_met at field_kinds v _ (field_kind f) ∙ ap ok (field_as f)
 
   place_gives : (p : Place) {env : List Value} {n m : ℕ} {v : Value} → PlaceRuns l env n p v m → run_place p l env n ≡ ran v m
   unfolding run_place gives
@@ -129,12 +129,12 @@ module _ (l : Limits) where
       bind_ok _ (enter_within l at n e) ∙ bind_ok _ (place_gives p d) ∙ bind_ok _ (field_gives at f)
 
   place_halts : (p : Place) {env : List Value} {n m q : ℕ} → PlaceHalts l env n p m q → run_place p l env n ≡ refused m q
-  unfolding run_place gives field_value field-kinds
+  unfolding run_place gives field_value field_kinds
   place_halts (Place.it at k) {n = n} (place_out o) = bind_refused _ (not_entered l at n o)
   place_halts (Place.field at name p) {n = n} (place_out o) = bind_refused _ (not_entered l at n o)
   place_halts (Place.field at name p) {n = n} (field_part e h) = bind_ok _ (enter_within l at n e) ∙ bind_refused _ (place_halts p h)
   place_halts (Place.field at name p) {n = n} (field_stuck {v = v} e d s) =
-      bind_ok _ (enter_within l at n e) ∙ bind_ok _ (place_gives p d) ∙ bind_refused _ (stuck_unmet at field-kinds v _ s)
+      bind_ok _ (enter_within l at n e) ∙ bind_ok _ (place_gives p d) ∙ bind_refused _ (stuck_unmet at field_kinds v _ s)
 
   -- the elements one by one, if what is run on each is told by the rules
   abbrev BodyGives : Result → List Value → Type 0
@@ -167,22 +167,22 @@ module _ (l : Limits) where
   -- what `when` and `if` choose
   chosen_first
       : (x y : Outcome ℕ (Ran Value)) {o : Outcome ℕ (Ran Value)} {k : Test} {ks : List Kind} (v : Value) → Means k ks → Is ks v → x ≡ o
-      → elim (among (kind_of v) (test-kinds k)) [ true ↦ x | false ↦ y ] ≡ o
+      → elim (among (kind_of v) (test_kinds k)) [ true ↦ x | false ↦ y ] ≡ o
   chosen_first x y v h s e = rw (means_as h, s) e
 
   chosen_second
       : (x y : Outcome ℕ (Ran Value)) {o : Outcome ℕ (Ran Value)} {k : Test} {ks : List Kind} (v : Value) → Means k ks → IsNot ks v → y ≡ o
-      → elim (among (kind_of v) (test-kinds k)) [ true ↦ x | false ↦ y ] ≡ o
+      → elim (among (kind_of v) (test_kinds k)) [ true ↦ x | false ↦ y ] ≡ o
   chosen_second x y v h s e = rw (means_as h, s) e
 
   converted_met
       : {c : Conversion} {ks : List Kind} {s : Shape} (at m : ℕ) (v : Value) {w : Value} → Converts c ks s → Is ks v → Converted c v w
-      → stuck_unless at (convert-kinds c) v (ran (converted c v) m) ≡ ran w m
+      → stuck_unless at (convert_kinds c) v (ran (converted c v) m) ≡ ran w m
   converted_met at m v h e k = rw ((converts_as h).0, converted_as k) (stuck_met at _ v _ e)
 
   converted_unmet
       : {c : Conversion} {ks : List Kind} {s : Shape} (at m : ℕ) (v : Value) → Converts c ks s → IsNot ks v
-      → stuck_unless at (convert-kinds c) v (ran (converted c v) m) ≡ refused 12 at
+      → stuck_unless at (convert_kinds c) v (ran (converted c v) m) ≡ refused 12 at
   converted_unmet at m v h e = rw (converts_as h).0 (stuck_unmet at _ v _ e)
 
   count_as : {v : Value} {vs : Items} (m : ℕ) → Elements v vs → ran (int_value (count (items_of v))) m ≡ ran (counted (count vs)) m
@@ -190,7 +190,7 @@ module _ (l : Limits) where
   count_as m f = ap (λ (vs : Items). ran (counted (count vs)) m) (elements_as f)
 
   mutual
-    unfolding run gives list-kinds truth
+    unfolding run gives list_kinds truth
 
     run_gives : (r : Result) {env : List Value} {n m : ℕ} {v : Value} → Runs l env n r v m → run r l env n ≡ ran v m
     run_gives (Result.convert at c p) {n = n} {m} (runs_convert {v = v} e d h s k) =
@@ -199,12 +199,12 @@ module _ (l : Limits) where
     run_gives (Result.count at p) {n = n} {m} (runs_count {v = v} e d f) =
         bind_ok _ (enter_within l at n e)
         ∙ bind_ok _ (place_gives p d)
-        ∙ stuck_met at list-kinds v _ (elements_kind f)
+        ∙ stuck_met at list_kinds v _ (elements_kind f)
         ∙ count_as m f
     run_gives (Result.each at p r) {env} {n} (runs_each {m = m} {v = v} {vs = vs} e d f ds) =
         bind_ok _ (enter_within l at n e)
         ∙ bind_ok _ (place_gives p d)
-        ∙ stuck_met at list-kinds v _ (elements_kind f)
+        ∙ stuck_met at list_kinds v _ (elements_kind f)
         ∙ bind_ok _ (through r env m f (items_give r env (λ a b i j h. run_gives r h) vs ds))
     run_gives (Result.when at k p r₁ r₂) {n = n} (runs_when_first {v = v} e d h s f) =
         bind_ok _ (enter_within l at n e) ∙ bind_ok _ (place_gives p d) ∙ chosen_first _ _ v h s (run_gives r₁ f)
@@ -228,7 +228,7 @@ module _ (l : Limits) where
   if_none at v x y s = ap (λ (o : Option Bool). choice at o x y) (truth_none v s)
 
   mutual
-    unfolding run gives list-kinds truth
+    unfolding run gives list_kinds truth
 
     run_halts : (r : Result) {env : List Value} {n m q : ℕ} → Halts l env n r m q → run r l env n ≡ refused m q
     run_halts (Result.convert at c p) {n = n} (out o) = bind_refused _ (not_entered l at n o)
@@ -240,15 +240,15 @@ module _ (l : Limits) where
     run_halts (Result.count at p) {n = n} (out o) = bind_refused _ (not_entered l at n o)
     run_halts (Result.count at p) {n = n} (count_part e h) = bind_ok _ (enter_within l at n e) ∙ bind_refused _ (place_halts p h)
     run_halts (Result.count at p) {n = n} (count_stuck {v = v} e d s) =
-        bind_ok _ (enter_within l at n e) ∙ bind_ok _ (place_gives p d) ∙ stuck_unmet at list-kinds v _ s
+        bind_ok _ (enter_within l at n e) ∙ bind_ok _ (place_gives p d) ∙ stuck_unmet at list_kinds v _ s
     run_halts (Result.each at p r) {n = n} (out o) = bind_refused _ (not_entered l at n o)
     run_halts (Result.each at p r) {n = n} (each_part e h) = bind_ok _ (enter_within l at n e) ∙ bind_refused _ (place_halts p h)
     run_halts (Result.each at p r) {n = n} (each_stuck {v = v} e d s) =
-        bind_ok _ (enter_within l at n e) ∙ bind_ok _ (place_gives p d) ∙ stuck_unmet at list-kinds v _ s
+        bind_ok _ (enter_within l at n e) ∙ bind_ok _ (place_gives p d) ∙ stuck_unmet at list_kinds v _ s
     run_halts (Result.each at p r) {env} {n} (each_items {i = i} {v = v} {vs = vs} e d f h) =
         bind_ok _ (enter_within l at n e)
         ∙ bind_ok _ (place_gives p d)
-        ∙ stuck_met at list-kinds v _ (elements_kind f)
+        ∙ stuck_met at list_kinds v _ (elements_kind f)
         ∙ bind_refused _ (through r env i f (items_halt r env (λ a b x y g. run_gives r g) (λ a x y z g. run_halts r g) vs h))
     run_halts (Result.when at k p r₁ r₂) {n = n} (out o) = bind_refused _ (not_entered l at n o)
     run_halts (Result.when at k p r₁ r₂) {n = n} (when_part e h) = bind_ok _ (enter_within l at n e) ∙ bind_refused _ (place_halts p h)

@@ -14,7 +14,7 @@ use Rattle.definitions.specs.Value.{Value, Items, Members, no_members, member}
 use Rattle.definitions.specs.Shape.{Kind, rank, among}
 use Rattle.definitions.specs.Admits.{kind_of}
 use Rattle.definitions.specs.Reader.{Conversion, to_int, to_dec, to_bool, to_text}
-use Rattle.definitions.specs.Checking.{convert-kinds}
+use Rattle.definitions.specs.Checking.{convert_kinds}
 use Rattle.definitions.specs.Running.{enter, stuck_unless, member_of, members_of, whole_value, converted, items_of, truth}
 use Rattle.laws.specs.Bools.{clash}
 use Rattle.laws.specs.Tests.{ltb_lt, ltb_le, le-ltb}
@@ -70,8 +70,8 @@ unfolding members_of member_of
 field_as (of_record h) = member_as h
 field_as through_null = refl
 
-pub converted_is : (c : Conversion) (v : Value) → Is (convert-kinds c) v → Converted c v (converted c v)
-unfolding convert-kinds converted whole_value whole
+pub converted_is : (c : Conversion) (v : Value) → Is (convert_kinds c) v → Converted c v (converted c v)
+unfolding convert_kinds converted whole_value whole
 converted_is to_int v e =
     int_number (λ (w : Value). Converted to_int w (whole_value w)) v e (λ x h. without_fraction (whole_same x h))
 converted_is to_dec v e = dec_handed

@@ -11,7 +11,7 @@ use Rattle.definitions.specs.Shape.{Kind, rank, among, Shape, shape, Record, no_
 use Rattle.definitions.specs.Shape.{ascending_fields}
 use Rattle.definitions.specs.Join.{with_null, insert}
 use Rattle.definitions.specs.Admits.{kind_of, missing_have_null, admits, admitted, admitted_members}
-use Rattle.definitions.specs.Checking.{field-kinds, gain_null}
+use Rattle.definitions.specs.Checking.{field_kinds, gain_null}
 use Rattle.definitions.specs.Running.{member_of, members_of}
 use Rattle.laws.specs.Bools.{and_left, and_right, and_intro, or_cases, or_left, or_right, or_false_left, or_false_right}
 use Rattle.laws.specs.Names.{same_refl, same_eq, same_sym}
@@ -86,13 +86,13 @@ gain_admits true v s h = with_null_admits v s h
 -- what `field` reads out of an admitted value
 pub field_admits
     : (n : Bytes) (v : Value) (s : Shape) (fs : Fields) (u : Shape) → admits s v ≡ true
-    → among (kind_of v) field-kinds ≡ true → record_of s ≡ rec_of fs → find n fs ≡ some u
+    → among (kind_of v) field_kinds ≡ true → record_of s ≡ rec_of fs → find n fs ≡ some u
     → admits (gain_null (has Kind.null s) u) (member_of n (members_of v)) ≡ true
-unfolding admits admitted kind_of among rank field-kinds members_of member_of gain_null
+unfolding admits admitted kind_of among rank field_kinds members_of member_of gain_null
 field_admits n Value.null s fs u h k r e = ap (λ b. has Kind.null (gain_null b u)) h ∙ with_null_has u
 field_admits n (Value.bool b) s fs u h k r e = absurd (false≢true k)
 field_admits n (Value.number x) s fs u h k r e =
-    absurd (number_kind (λ j. among j field-kinds ≡ true → ⊥) x false≢true false≢true k)
+    absurd (number_kind (λ j. among j field_kinds ≡ true → ⊥) x false≢true false≢true k)
 field_admits n (Value.text t) s fs u h k r e = absurd (false≢true k)
 field_admits n (Value.list vs) s fs u h k r e = absurd (false≢true k)
 field_admits n (Value.rec ms) s fs u h k r e =

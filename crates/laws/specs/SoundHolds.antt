@@ -10,7 +10,7 @@ use Rattle.definitions.specs.Outcome.{Outcome, ok, refused, ◌>>=◌}
 use Rattle.definitions.specs.Value.{Value}
 use Rattle.definitions.specs.Shape.{Kind, among, Shape, Record, no_rec, rec_of, Fields, within, find}
 use Rattle.definitions.specs.Admits.{kind_of}
-use Rattle.definitions.specs.Checking.{field-kinds, wants, listed}
+use Rattle.definitions.specs.Checking.{field_kinds, wants, listed}
 use Rattle.definitions.specs.Running.{enter, stuck_unless, member_of, members_of, field_value}
 
 -- P holds of what came out, R of the number of a refusal
@@ -124,7 +124,7 @@ pub holds_field
     : {R : ℕ → Type 0} {P : Value → Type 0} (at : ℕ) (n : Bytes) (v : Value) → R 12 → P (member_of n (members_of v))
     → Holds R P (field_value at n v)
 unfolding field_value
-holds_field at n v r p = holds_stuck at field-kinds v r (gave p)
+holds_field at n v r p = holds_stuck at field_kinds v r (gave p)
 
 -- where the name is listed
 pub holds_listed

@@ -12,7 +12,7 @@ use Rattle.definitions.specs.Shape.{no_list, list_of, Record, no_rec, rec_of, ha
 use Rattle.definitions.specs.Shape.{record_of, ascending, ascending_element, ascending_record, only_numeric, only_bool, only_text}
 use Rattle.definitions.specs.Admits.{kind_of, missing_have_null, admits, admitted, admitted_items, admitted_members}
 use Rattle.definitions.specs.Reader.{Conversion, to_int, to_dec, to_bool, to_text, Test}
-use Rattle.definitions.specs.Checking.{convert-kinds, if-kinds, convert_shape, element_shape, test-kinds}
+use Rattle.definitions.specs.Checking.{convert_kinds, if_kinds, convert_shape, element_shape, test_kinds}
 use Rattle.definitions.specs.Checking.{stay_numeric, stay_element, stay_record, stay, cut_to, taken_out}
 use Rattle.definitions.specs.Running.{whole_value, converted, items_of, int_value, truth}
 use Rattle.laws.specs.Bools.{and_left, and_right, and_intro, or_cases, clash, implied}
@@ -107,16 +107,16 @@ within_kind ks s v w h = within_has ks s (kind_of v) w (admits_kind v s h)
 
 -- ---- conversions
 
-convert_has : (c : Conversion) (k : Kind) → among k (convert-kinds c) ≡ true → has k (convert_shape c) ≡ true
-unfolding every all_kinds among rank convert-kinds convert_shape only_numeric only_bool only_text has has_int has_dec has_list has_rec
+convert_has : (c : Conversion) (k : Kind) → among k (convert_kinds c) ≡ true → has k (convert_shape c) ≡ true
+unfolding every all_kinds among rank convert_kinds convert_shape only_numeric only_bool only_text has has_int has_dec has_list has_rec
 convert_has c k h =
     implied
-    (among k (convert-kinds c))
+    (among k (convert_kinds c))
     (has k (convert_shape c))
-    (every_kind (λ j. not (among j (convert-kinds c)) || has j (convert_shape c)) (go c) k)
+    (every_kind (λ j. not (among j (convert_kinds c)) || has j (convert_shape c)) (go c) k)
     h
   where
-    go : (c : Conversion) → every (λ j. not (among j (convert-kinds c)) || has j (convert_shape c)) all_kinds ≡ true
+    go : (c : Conversion) → every (λ j. not (among j (convert_kinds c)) || has j (convert_shape c)) all_kinds ≡ true
     go to_int = refl
     go to_dec = refl
     go to_bool = refl
@@ -130,7 +130,7 @@ convert_flat to_bool = (refl, refl)
 convert_flat to_text = (refl, refl)
 
 handed_admits
-    : (c : Conversion) (v : Value) → among (kind_of v) (convert-kinds c) ≡ true → admits (convert_shape c) v ≡ true
+    : (c : Conversion) (v : Value) → among (kind_of v) (convert_kinds c) ≡ true → admits (convert_shape c) v ≡ true
 handed_admits c v h = admits_flat v (convert_shape c) (convert_has c (kind_of v) h) (convert_flat c).0 (convert_flat c).1
 
 -- a number that is an int is admitted by int
@@ -140,8 +140,8 @@ int_admits x h = rw (h, kind_of) refl
 
 -- "`int`, `bool`, `text` want kinds within their own and give it; `dec` .. gives both"
 pub convert_admits
-    : (c : Conversion) (v : Value) → among (kind_of v) (convert-kinds c) ≡ true → admits (convert_shape c) (converted c v) ≡ true
-unfolding converted whole_value convert_shape convert-kinds
+    : (c : Conversion) (v : Value) → among (kind_of v) (convert_kinds c) ≡ true → admits (convert_shape c) (converted c v) ≡ true
+unfolding converted whole_value convert_shape convert_kinds
 convert_admits to_int v h =
     int_number (λ (w : Value). admits (only_numeric int_only) (whole_value w) ≡ true) v h (λ x i. int_admits (whole x) (whole_int x))
 convert_admits to_dec v h = handed_admits to_dec v h
@@ -170,14 +170,14 @@ items_admitted (Value.rec ms) s h = refl
 -- a condition that is a bool takes one of both branches
 pub holds_condition
     : {A : Type 0} {R : ℕ → Type 0} {P : A → Type 0} {x y : Outcome ℕ A} (at : ℕ) (v : Value)
-    → among (kind_of v) if-kinds ≡ true → Holds R P x → Holds R P y
+    → among (kind_of v) if_kinds ≡ true → Holds R P x → Holds R P y
     → Holds R P (elim (truth v) [ none ↦ refused 12 at | some b ↦ elim b [ true ↦ x | false ↦ y ] ])
-unfolding truth kind_of among rank if-kinds
+unfolding truth kind_of among rank if_kinds
 holds_condition at Value.null e h k = absurd (false≢true e)
 holds_condition at (Value.bool true) e h k = h
 holds_condition at (Value.bool false) e h k = k
 holds_condition at (Value.number x) e h k =
-    absurd (number_kind (λ j. among j if-kinds ≡ true → ⊥) x false≢true false≢true e)
+    absurd (number_kind (λ j. among j if_kinds ≡ true → ⊥) x false≢true false≢true e)
 holds_condition at (Value.text t) e h k = absurd (false≢true e)
 holds_condition at (Value.list vs) e h k = absurd (false≢true e)
 holds_condition at (Value.rec ms) e h k = absurd (false≢true e)
@@ -240,14 +240,14 @@ stay_admits kept s v h e = alike_admits v s (stay kept s) (stay_alike kept s (ki
 
 -- "`when` takes its first R where the value is a K": the shape cut to K admits it
 pub cut_admits
-    : (t : Test) (s : Shape) (v : Value) → admits s v ≡ true → among (kind_of v) (test-kinds t) ≡ true
+    : (t : Test) (s : Shape) (v : Value) → admits s v ≡ true → among (kind_of v) (test_kinds t) ≡ true
     → admits (cut_to t s) v ≡ true
 unfolding cut_to
 cut_admits t s v h e = stay_admits _ s v h e
 
 -- else "K's kinds taken out" admit it
 pub taken_admits
-    : (t : Test) (s : Shape) (v : Value) → admits s v ≡ true → among (kind_of v) (test-kinds t) ≡ false
+    : (t : Test) (s : Shape) (v : Value) → admits s v ≡ true → among (kind_of v) (test_kinds t) ≡ false
     → admits (taken_out t s) v ≡ true
 unfolding taken_out
 taken_admits t s v h e = stay_admits _ s v h (ap not e)

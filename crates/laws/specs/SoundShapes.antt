@@ -5,7 +5,7 @@ use Rattle.definitions.specs.Outcome.{ok}
 use Rattle.definitions.specs.Shape.{Kind, Shape, shape, no_list, list_of, nothing, has, element_of, record_of, ascending, ascending_record}
 use Rattle.definitions.specs.Shape.{ascending_fields, only_numeric, only_bool, only_text, only_list, only_rec}
 use Rattle.definitions.specs.Reader.{Place, Conversion, to_int, to_dec, to_bool, to_text, Result, Pairs, no_pairs, pair}
-use Rattle.definitions.specs.Checking.{field-kinds, convert-kinds, list-kinds, if-kinds, gain_null, field_shape, convert_shape}
+use Rattle.definitions.specs.Checking.{field_kinds, convert_kinds, list_kinds, if_kinds, gain_null, field_shape, convert_shape}
 use Rattle.definitions.specs.Checking.{element_shape, cut_to, taken_out, check_place, check, check_pairs, check_reader}
 use Rattle.laws.specs.Bools.{and_left, and_intro}
 use Rattle.laws.specs.Fields.{find_ascending}
@@ -54,7 +54,7 @@ unfolding check_place field_shape ascending
 place_ascending (Place.it at k) env a = gave (a k)
 place_ascending (Place.field at n p) env a =
     holds_bind (place_ascending p env a) λ s h.
-    holds_wants at field-kinds s λ w.
+    holds_wants at field_kinds s λ w.
     holds_bind (holds_listed at n (record_of s) λ fs u r e. find_ascending fs n u (ap ascending_record (sym r) ∙ ascending_of_record s h) e) λ u i.
     gave (gain_ascending (has Kind.null s) u i)
 
@@ -63,15 +63,15 @@ mutual
 
   pub result_ascending : (r : Result) (env : List Shape) → Ascends env → Holds any Rises (check r env)
   result_ascending (Result.convert at c p) env a =
-      holds_bind (place_ascending p env a) λ s h. holds_wants at (convert-kinds c) s λ w. gave (convert_ascending c)
+      holds_bind (place_ascending p env a) λ s h. holds_wants at (convert_kinds c) s λ w. gave (convert_ascending c)
   result_ascending (Result.keep at p) env a = place_ascending p env a
   result_ascending (Result.count at p) env a =
-      holds_bind (place_ascending p env a) λ s h. holds_wants at list-kinds s λ w. gave refl
+      holds_bind (place_ascending p env a) λ s h. holds_wants at list_kinds s λ w. gave refl
   result_ascending (Result.each at p r) env a =
       holds_bind (place_ascending p env a) λ s h.
       let e = element_shape (element_of s) in
       holds_bind (result_ascending r (e ∷ env) (ascends_bind e env (element_ascending s h) a)) λ t h₁.
-      holds_wants at list-kinds s λ w. gave (and_intro h₁ refl)
+      holds_wants at list_kinds s λ w. gave (and_intro h₁ refl)
   result_ascending (Result.when at k p r₁ r₂) env a =
       holds_bind (place_ascending p env a) λ s h.
       holds_bind (result_ascending r₁ (cut_to k s ∷ env) (ascends_bind (cut_to k s) env (cut_ascending k s h) a)) λ t₁ h₁.
@@ -81,7 +81,7 @@ mutual
       holds_bind (result_ascending r₁ env a) λ t₁ h₁.
       holds_bind (result_ascending r₂ env a) λ t₂ h₂.
       holds_bind (result_ascending r₃ env a) λ t₃ h₃.
-      holds_wants at if-kinds t₁ λ w. gave (join_ascending t₂ t₃ h₂ h₃)
+      holds_wants at if_kinds t₁ λ w. gave (join_ascending t₂ t₃ h₂ h₃)
   result_ascending (Result.literal at v) env a = gave (shape_of_ascending v)
   result_ascending (Result.pack at ps) env a = holds_bind (pairs_ascending ps env a) λ fs h. gave h
 

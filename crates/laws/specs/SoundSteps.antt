@@ -12,7 +12,7 @@ use Rattle.definitions.specs.Value.{Value, Items, no_items, item, no_members, me
 use Rattle.definitions.specs.Shape.{Kind, among}
 use Rattle.definitions.specs.Admits.{kind_of}
 use Rattle.definitions.specs.Reader.{Place, Result, Pairs, no_pairs, pair}
-use Rattle.definitions.specs.Checking.{field-kinds, convert-kinds, list-kinds, test-kinds}
+use Rattle.definitions.specs.Checking.{field_kinds, convert_kinds, list_kinds, test_kinds}
 use Rattle.definitions.specs.Running.{Ran, gives, enter, stuck_unless, member_of, members_of, field_value, converted}
 use Rattle.definitions.specs.Running.{items_of, int_value, truth, run_place, run_items, run, run_pairs, run_reader}
 
@@ -91,7 +91,7 @@ repeats_field
     : {j k n : ℕ} (at : ℕ) (m : Bytes) (v : Value) → n ≤ j
     → Repeats j k n (field_value at m v >>= λ y. gives y n) (field_value at m v >>= λ y. gives y n)
 unfolding field_value stuck_unless ◌>>=◌
-repeats_field {j} {k} {n} at m v h = go (among (kind_of v) field-kinds)
+repeats_field {j} {k} {n} at m v h = go (among (kind_of v) field_kinds)
   where
     read : Bool → Outcome ℕ Value
     read b = elim b [ true ↦ ok (member_of m (members_of v)) | false ↦ refused 12 at ]
@@ -149,23 +149,23 @@ mutual
   run_again (Result.convert at c p) l m vs n =
       repeats_enter l m at n λ n₁ h.
       repeats_bind (place_again p l m vs n₁) λ x h₁.
-      repeats_stuck at (convert-kinds c) x.result (repeats_gives (converted c x.result) h₁)
+      repeats_stuck at (convert_kinds c) x.result (repeats_gives (converted c x.result) h₁)
   run_again (Result.keep at p) l m vs n = repeats_enter l m at n λ n₁ h. place_again p l m vs n₁
   run_again (Result.count at p) l m vs n =
       repeats_enter l m at n λ n₁ h.
       repeats_bind (place_again p l m vs n₁) λ x h₁.
-      repeats_stuck at list-kinds x.result (repeats_gives (int_value (count (items_of x.result))) h₁)
+      repeats_stuck at list_kinds x.result (repeats_gives (int_value (count (items_of x.result))) h₁)
   run_again (Result.each at p r) l m vs n =
       repeats_enter l m at n λ n₁ h.
       repeats_bind (place_again p l m vs n₁) λ x h₁.
       let body : (v : Value) (i : ℕ) → Again l m i (λ j. run r j (v ∷ vs) i) = λ v i. run_again r l m (v ∷ vs) i in
       let items = items_again l m (λ v i. run r l (v ∷ vs) i) (λ v i. run r m (v ∷ vs) i) body (items_of x.result) x.steps h₁ in
-      repeats_stuck at list-kinds x.result (repeats_bind items λ xs h₂. repeats_gives (Value.list xs.result) h₂)
+      repeats_stuck at list_kinds x.result (repeats_bind items λ xs h₂. repeats_gives (Value.list xs.result) h₂)
   run_again (Result.when at k p r₁ r₂) l m vs n =
       repeats_enter l m at n λ n₁ h.
       repeats_bind (place_again p l m vs n₁) λ x h₁.
       repeats_either
-      (among (kind_of x.result) (test-kinds k))
+      (among (kind_of x.result) (test_kinds k))
       (run_again r₁ l m (x.result ∷ vs) x.steps)
       (run_again r₂ l m (x.result ∷ vs) x.steps)
   run_again (Result.choose at r₁ r₂ r₃) l m vs n =

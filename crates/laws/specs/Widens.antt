@@ -10,7 +10,7 @@ use Rattle.definitions.specs.Shape.{ascending, ascending_record}
 use Rattle.definitions.specs.Order.{below}
 use Rattle.definitions.specs.Join.{shape_of}
 use Rattle.definitions.specs.Reader.{Place, Conversion, Result, Pairs, no_pairs, pair}
-use Rattle.definitions.specs.Checking.{field-kinds, convert-kinds, list-kinds, if-kinds, wants, listed, field_shape, convert_shape}
+use Rattle.definitions.specs.Checking.{field_kinds, convert_kinds, list_kinds, if_kinds, wants, listed, field_shape, convert_shape}
 use Rattle.definitions.specs.Checking.{check_place, check, check_pairs, check_reader}
 use Rattle.laws.specs.OrderInduction.{InOption, Ascending, ascending_of_record, ascending_found}
 use Rattle.laws.specs.OrderParts.{AtName, Records, below-kinds, below_records}
@@ -100,7 +100,7 @@ widens_listed at n (rec_of fs) (rec_of gs) i j h = by (find n fs) (find n gs) (a
 widens_field : (at : ℕ) (n : Bytes) {s t : Shape} → Under s t → Widens Under (field_shape at n s) (field_shape at n t)
 unfolding field_shape
 widens_field at n {s} {t} h =
-    widens_wants at field-kinds s t
+    widens_wants at field_kinds s t
     (widens_bind
     (widens_listed at n (record_of s) (record_of t) (ascending_of_record s h.sorted) (ascending_of_record t h.sorted_above)
     (below_records s t h.order)) λ a b k.
@@ -125,12 +125,12 @@ mutual
 
   result_widens : (r : Result) {env above : List Shape} → Follows env above → Widens Under (check r env) (check r above)
   result_widens (Result.convert at c p) f =
-      widens_bind (place_widens p f) λ s t h. widens_wants at (convert-kinds c) s t (grew (under_convert c))
+      widens_bind (place_widens p f) λ s t h. widens_wants at (convert_kinds c) s t (grew (under_convert c))
   result_widens (Result.keep at p) f = place_widens p f
-  result_widens (Result.count at p) f = widens_bind (place_widens p f) λ s t h. widens_wants at list-kinds s t (grew under_int)
+  result_widens (Result.count at p) f = widens_bind (place_widens p f) λ s t h. widens_wants at list_kinds s t (grew under_int)
   result_widens (Result.each at p r) f =
       widens_bind (place_widens p f) λ s t h.
-      widens_bind (result_widens r (follows_bind (under_element h) f)) λ u w k. widens_wants at list-kinds s t (grew (under_list k))
+      widens_bind (result_widens r (follows_bind (under_element h) f)) λ u w k. widens_wants at list_kinds s t (grew (under_list k))
   result_widens (Result.when at k p r₁ r₂) f =
       widens_bind (place_widens p f) λ s t h.
       widens_bind (result_widens r₁ (follows_bind (under_cut k h) f)) λ u₁ w₁ k₁.
@@ -138,7 +138,7 @@ mutual
   result_widens (Result.choose at r₁ r₂ r₃) f =
       widens_bind (result_widens r₁ f) λ u₁ w₁ k₁.
       widens_bind (result_widens r₂ f) λ u₂ w₂ k₂.
-      widens_bind (result_widens r₃ f) λ u₃ w₃ k₃. widens_wants at if-kinds u₁ w₁ (grew (under_join k₂ k₃))
+      widens_bind (result_widens r₃ f) λ u₃ w₃ k₃. widens_wants at if_kinds u₁ w₁ (grew (under_join k₂ k₃))
   result_widens (Result.literal at v) f = grew (under_refl (shape_of v) (shape_of_ascending v))
   result_widens (Result.pack at ps) f = widens_bind (pairs_widen ps f) λ fs gs h. grew (under_rec h)
 

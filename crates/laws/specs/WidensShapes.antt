@@ -11,7 +11,7 @@ use Rattle.definitions.specs.Shape.{ascending_element, ascending_fields}
 use Rattle.definitions.specs.Order.{kinds_in, below}
 use Rattle.definitions.specs.Join.{with_null, join, insert}
 use Rattle.definitions.specs.Reader.{Test}
-use Rattle.definitions.specs.Checking.{gain_null, element_shape, test-kinds, stay_element, stay_record, stay, cut_to, taken_out}
+use Rattle.definitions.specs.Checking.{gain_null, element_shape, test_kinds, stay_element, stay_record, stay, cut_to, taken_out}
 use Rattle.laws.specs.Bools.{and_two, and_three, and_intro, or_cases, or_left, or_right, tell}
 use Rattle.laws.specs.Names.{same_eq}
 use Rattle.laws.specs.FieldsPut.{with_null_ascending, find_insert_here, find_insert_there, insert_ascending}
@@ -151,22 +151,22 @@ stay_order kept (shape n b m t e r) (shape n' b' m' t' e' r') i j k h =
 module _ (k : Test) {s t : Shape} (h : Under s t) where
   cut-kinds : Kinds (cut_to k s) (cut_to k t)
   cut-kinds j e =
-      let (a, b) = and_two (has j s) (among j (test-kinds k)) (sym ((cuts k s).kinds j) ∙ e) in
+      let (a, b) = and_two (has j s) (among j (test_kinds k)) (sym ((cuts k s).kinds j) ∙ e) in
       (cuts k t).kinds j ∙ and_intro (below-kinds s t h.order j a) b
 
   -- dec above is there where dec is there below, and so int stays above where it stays below
   taken-kinds : Kinds (taken_out k s) (taken_out k t)
   taken-kinds j e =
-      let (a, b) = and_two (has j s) (not (among j (test-kinds k)) || int_stays (test-kinds k) s j) (sym ((takes k s).kinds j) ∙ e) in
+      let (a, b) = and_two (has j s) (not (among j (test_kinds k)) || int_stays (test_kinds k) s j) (sym ((takes k s).kinds j) ∙ e) in
       (takes k t).kinds j ∙ and_intro (below-kinds s t h.order j a) (stays (or_cases _ _ b))
     where
       stays
-          : (not (among j (test-kinds k)) ≡ true) ⊎ (int_stays (test-kinds k) s j ≡ true)
-          → not (among j (test-kinds k)) || int_stays (test-kinds k) t j ≡ true
+          : (not (among j (test_kinds k)) ≡ true) ⊎ (int_stays (test_kinds k) s j ≡ true)
+          → not (among j (test_kinds k)) || int_stays (test_kinds k) t j ≡ true
       stays (inl x) = or_left _ x
       stays (inr x) =
-          let (a, b, c) = and_three (among j (Kind.int ∷ [])) (has Kind.dec s) (not (among Kind.dec (test-kinds k))) x in
-          or_right (not (among j (test-kinds k))) (and_intro (and_intro a (below-kinds s t h.order Kind.dec b)) c)
+          let (a, b, c) = and_three (among j (Kind.int ∷ [])) (has Kind.dec s) (not (among Kind.dec (test_kinds k))) x in
+          or_right (not (among j (test_kinds k))) (and_intro (and_intro a (below-kinds s t h.order Kind.dec b)) c)
 
   -- "P's shape cut to K"
   pub under_cut : Under (cut_to k s) (cut_to k t)

@@ -95,10 +95,10 @@ module _ (nodes pool : List ℕ) (at end name : ℕ) where
                 };
           })
 
-    pub WalkEnds
+    pub walk_ends
         : end ≤ i → (p : List ℕ) (ms : Members) → take (length p) pool ≡ p → length p < 65536 → MembersStand nodes p at end ms
         → false ≡ has_name (text_of pool name) ms
     unfolding has_name
-    WalkEnds past p ms front small s =
+    walk_ends past p ms front small s =
         let l = w.left p ms front small s in
         sym (l.found ∙ ap (has_name (text_of pool name)) (no_member_left l.stand past))

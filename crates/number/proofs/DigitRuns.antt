@@ -239,11 +239,11 @@ pub reads_zero
 reads_zero {doc} {at} p {n} o h b s = reads_from (omega arith) (zero_read doc at p n o h b) s
 
 -- digits, of which the first is no zero
-pub ReadsInt
+pub reads_int
     : {doc : Bytes} {at end : ℕ} (p : Phase) {s : Bool} {k : ℕ} {r : NumberRead} → Opening p
     → (at < length doc → get_or doc at 0 ≡ 0x30 → ⊥) → AllDigits doc at end → at < end
     → ReadsOn doc in_int (numeral s (onto doc at (end - at) k) 0) end r → ReadsOn doc p (numeral s k 0) at r
-ReadsInt {doc} {at} {end} p {s} {k} o z d l r =
+reads_int {doc} {at} {end} p {s} {k} o z d l r =
     let h : at < length doc = omega (arith, d.within) in
     let e : at + (end - at) ≡ end = omega arith in
     reads_from (omega arith)

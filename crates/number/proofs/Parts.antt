@@ -19,7 +19,7 @@ use Rattle.number.specs.NumberCode.{AllDigits, onto, WholeEnd, a_zero, no_zero, 
 use Rattle.number.specs.NumberCode.{Opening, opening_of, behind_minus, Pointed, Settled, Settles, Quiet, StandsAt}
 use Rattle.number.specs.NumberLaws.{longest_off}
 use Rattle.number.specs.declared.NumberRead.{NumberRead}
-use Rattle.number.proofs.DigitRuns.{one_digit, quiet_none, pointed_settled, opens, reads_zero, ReadsInt, reads_fraction, reads_signed}
+use Rattle.number.proofs.DigitRuns.{one_digit, quiet_none, pointed_settled, opens, reads_zero, reads_int, reads_fraction, reads_signed}
 
 -- ---- where the parts end
 
@@ -86,7 +86,7 @@ reads_whole {doc} {at} {end} p {s} {r} o (a_zero h z e) n more =
     reads_zero p o h z (rw (one, onto_zero doc at z, e) at (more after_zero tt))
 reads_whole {doc} {at} {end} p o (no_zero z d) n more =
     let l : at < end = lt_of_le-ne d.behind (λ q. n (sym q)) in
-    ReadsInt p o z d l (more in_int tt)
+    reads_int p o z d l (more in_int tt)
 
 -- a fraction
 pub reads_behind

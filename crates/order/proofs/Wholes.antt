@@ -24,11 +24,11 @@ some_level (shape n b m x e r) = omega arith
 
 -- ---- whole shapes
 
-BelowParts
+below_parts
     : (s t : Shape)
     → below s t ≡ (kinds_in s t && below_element (element_of s) (element_of t) && below_record (record_of s) (record_of t))
 unfolding below element_of record_of
-BelowParts (shape n b m x e r) t = refl
+below_parts (shape n b m x e r) t = refl
 
 module _ (first : List ℕ) (a : ℕ) (second : List ℕ) (b : ℕ) (pool : List ℕ) where
   -- the kinds of the first shape are all in the second
@@ -40,7 +40,7 @@ module _ (first : List ℕ) (a : ℕ) (second : List ℕ) (b : ℕ) (pool : List
     kinds_fail v s g t k =
         let h : bit_or x y ≡ y → ⊥ = eqb-false (bit_or x y) y (sym within ∙ not_true w v) in
         sym
-        (BelowParts s t
+        (below_parts s t
         ∙ ap (λ (p : Bool). p && below_element (element_of s) (element_of t) && below_record (record_of s) (record_of t))
         (kinds_beyond s t (λ q. h (ap₂ (λ (i j : ℕ). bit_or i j) (e ∙ held-kinds g) (f ∙ held-kinds k) ∙ q ∙ sym (f ∙ held-kinds k)))))
 
@@ -61,7 +61,7 @@ module _ (first : List ℕ) (a : ℕ) (second : List ℕ) (b : ℕ) (pool : List
         : (s : Shape) → HoldsShape first pool a s → (t : Shape) → HoldsShape second pool b t
         → below s t ≡ (r && below_record (record_of s) (record_of t))
     element_told s g t k =
-        BelowParts s t
+        below_parts s t
         ∙ ap (λ (q : Bool). q && below_element (element_of s) (element_of t) && below_record (record_of s) (record_of t)) (p.kinds s g t k)
         ∙ ap (λ (q : Bool). q && below_record (record_of s) (record_of t)) (sym (told s g t k (p.kinds s g t k)))
 

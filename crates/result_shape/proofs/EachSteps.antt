@@ -20,7 +20,7 @@ use Rattle.growing.specs.Growing.{element_start, with_element}
 use Rattle.growing.specs.GrowingLaws.{element_is, element_start_ascending}
 use Rattle.growing.specs.Rows.{Readies, ShapeHeld}
 use Rattle.growing.specs.HeadLaws.{bits_with_element, Risen, risen_fits, risen_put}
-use Rattle.growing.specs.ElementLaws.{list_unready, list_stands, list_within, list_room, ListOver, list_risen, ready_put, ready_full}
+use Rattle.growing.specs.ElementLaws.{list_unready, list_stands, list_within, list_room, list_over, list_risen, ready_put, ready_full}
 use Rattle.forms.specs.FormsLaws.{stands_code, stands_within}
 use Rattle.forms.specs.PartsLaws.{after}
 use Rattle.checking.specs.Bindings.{Bound, Bindings, Kept, SomeBound, BindsElement}
@@ -186,7 +186,7 @@ module _
                       subst
                       (λ (u : Shape). Over result result₂ used (2 * forms s) (2 * forms u))
                       (into_is j)
-                      (ListOver j.stands j.within (tables_room tables) (put₁ j) (reached j)
+                      (list_over j.stands j.within (tables_room tables) (put₁ j) (reached j)
                       (was_full result₁ result₂ p (used + opened) (dest + 2) 0 (start j) (reached j) f (become₂ j)))
 
                   module _ {words : ℕ} (e₂ : o₂ ≡ Grown words) where

@@ -23,14 +23,14 @@ use Rattle.forms.specs.FormsLaws.{stands_name}
 use Rattle.result_shape.specs.Giving.{Tables, MeetsResult, ResultAsked, GivesResult, MeetsPair, PairAsked, GivesPair}
 use Rattle.result_shape.proofs.Steps.{tables_room, became, was_full}
 
-pub PairHeld
+pub pair_held
     : {table shapes pool bindings result : List ℕ} {row d used first last deep : ℕ} → PairAsked table shapes pool bindings result row d used first last deep
     → FieldsHeld result pool used first last
-PairHeld w = record { part = w.p; fields = w.olds; meets = w.meets.fields }
+pair_held w = record { part = w.p; fields = w.olds; meets = w.meets.fields }
 
 module _
     {table shapes pool bindings result : List ℕ} {row d used first last deep label at : ℕ} {listed : Bool} (had : Bool) (tables : Tables shapes result used)
-    (LabelIs : label ≡ get_or table (row + 2) 0)
+    (label_is : label ≡ get_or table (row + 2) 0)
     (places
     : (p : List ℕ) (fs : Fields) (n : Bytes) → MeetsFields result pool used first last p fs → Refers p n label
     → Finds result first last n p fs at listed)
@@ -40,7 +40,7 @@ module _
         (h : MeetsPair table shapes pool bindings result p row d used first last deep n k r env t fs)
       where
         name_is : label ≡ k
-        name_is = LabelIs ∙ stands_name h.form.stands
+        name_is = label_is ∙ stands_name h.form.stands
 
         its_place : Finds result first last n p fs at listed
         its_place = places p fs n h.fields (subst (λ (x : ℕ). Refers p n x) (sym name_is) h.refers)

@@ -10,7 +10,7 @@ use Rattle.definitions.specs.Shape.{within, element_of, record_of, ascending, as
 use Rattle.definitions.specs.Shape.{only_rec, only_list, only_null, only_bool, only_numeric, only_text, int_only}
 use Rattle.definitions.specs.Join.{join, join_element, join_record, insert, shape_of}
 use Rattle.definitions.specs.Reader.{Place, Conversion, to_int, to_dec, to_bool, to_text, Test, Result, Pairs, no_pairs, pair, among_pairs}
-use Rattle.definitions.specs.Checking.{convert-kinds, list-kinds, if-kinds, wants, convert_shape, element_shape, cut_to, taken_out}
+use Rattle.definitions.specs.Checking.{convert_kinds, list_kinds, if_kinds, wants, convert_shape, element_shape, cut_to, taken_out}
 use Rattle.definitions.specs.Checking.{check_place, check, check_pairs}
 use Rattle.laws.specs.Bools.{and_left, and_right, and_three, and_intro, clash}
 use Rattle.laws.specs.Fields.{ascending_first, ascending_rest}
@@ -79,14 +79,14 @@ pub convert_Gives
 unfolding check
 convert_Gives at c q env t e =
     let a = bind_ok (check_place q env) _ e in
-    ok_same {o = ok t} refl (sym (wants_ok at (convert-kinds c) a.value (ok (convert_shape c)) a.second))
+    ok_same {o = ok t} refl (sym (wants_ok at (convert_kinds c) a.value (ok (convert_shape c)) a.second))
 
 pub count_Gives
     : (at : ℕ) (q : Place) (env : List Shape) (t : Shape) → check (Result.count at q) env ≡ ok t → t ≡ only_numeric int_only
 unfolding check
 count_Gives at q env t e =
     let a = bind_ok (check_place q env) _ e in
-    ok_same {o = ok t} refl (sym (wants_ok at list-kinds a.value (ok (only_numeric int_only)) a.second))
+    ok_same {o = ok t} refl (sym (wants_ok at list_kinds a.value (ok (only_numeric int_only)) a.second))
 
 pub literal_gives : (at : ℕ) (v : Value) (env : List Shape) (t : Shape) → check (Result.literal at v) env ≡ ok t → t ≡ shape_of v
 unfolding check
@@ -103,7 +103,7 @@ each_gives at q r env t e =
       part = b.value;
       place = a.first;
       result = b.first;
-      same = ok_same {o = ok t} refl (sym (wants_ok at list-kinds a.value (ok (only_list (list_of b.value))) b.second));
+      same = ok_same {o = ok t} refl (sym (wants_ok at list_kinds a.value (ok (only_list (list_of b.value))) b.second));
     }
 
 pub when_gives
@@ -136,7 +136,7 @@ choose_gives at r₁ r₂ r₃ env t e =
       second = c.value;
       then_result = b.first;
       else_result = c.first;
-      same = ok_same {o = ok t} refl (sym (wants_ok at if-kinds a.value (ok (join b.value c.value)) c.second));
+      same = ok_same {o = ok t} refl (sym (wants_ok at if_kinds a.value (ok (join b.value c.value)) c.second));
     }
 
 -- ---- packs

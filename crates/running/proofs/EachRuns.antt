@@ -38,10 +38,10 @@ use Rattle.running.proofs.WhenRuns.{part_meets, kept_before}
 pub record PartsPut (results₀ results : List ℕ) (first begun : ℕ) (rows : List ℕ) : Type 0 where
   pub placed : take (3 * begun) results ≡ take (3 * suc first) results₀ ++ rows
 
-pub PartsMore
+pub parts_more
     : {p results₀ results results' : List ℕ} {first begun name : ℕ} {rows : List ℕ} {w : Value} → PartsPut results₀ results first begun rows
     → (a : Appended p results results' name begun w) → PartsPut results₀ results' first (begun + size w) (rows ++ a.rows)
-PartsMore {results₀ = results₀} {first = first} {rows = rows} q a =
+parts_more {results₀ = results₀} {first = first} {rows = rows} q a =
     record {
       placed = a.placed ∙ ap (λ (t : List ℕ). t ++ a.rows) q.placed ∙ append_assoc (take (3 * suc first) results₀) rows a.rows;
     }
@@ -164,11 +164,11 @@ module _ {forms nodes pool bindings₀ results₀ : List ℕ} {limit : ℕ} {c :
         let s = w.going f.ready.limits f.ready.used f.ready.form f.ready.env f.value f.ready.meets f.bound in
         (omega (arith, s.within, f.ready.small.steps), omega (arith, s.paid, s.within, f.ready.small.steps), omega (arith, s.counted))
 
-    module _ (GoingOn : i < end) where
+    module _ (going_on : i < end) where
       pub item_within : (3 ≤ row_size nodes i) × (i + row_size nodes i ≤ 65536)
       item_within =
           let s = w.going f.ready.limits f.ready.used f.ready.form f.ready.env f.value f.ready.meets f.bound in
-          let g = first_item s.stand GoingOn in
+          let g = first_item s.stand going_on in
           let e = value_size g.stands in
           (omega (arith, e, size_some g.value), omega (arith, e, value_within g.stands, f.ready.small.rows))
 
@@ -180,16 +180,16 @@ module _ {forms nodes pool bindings₀ results₀ : List ℕ} {limit : ℕ} {c :
           : {l : Limits} {p : List ℕ} {form : Result} {env : List Value} {v : Value} {row : ℕ} → row ≡ parts.after forms (c.row + 3)
           → Meets forms nodes pool bindings₀ limit c.row c.bound l p form env
           → (s : EachState forms nodes pool results₀ limit c behind end l p form env v results i begun steps)
-          → Meets forms nodes pool (set bindings c.bound i) limit row (c.bound + 1) l p s.body ((first_item s.stand GoingOn).value ∷ env)
+          → Meets forms nodes pool (set bindings c.bound i) limit row (c.bound + 1) l p s.body ((first_item s.stand going_on).value ∷ env)
       unfolding result_levels BoundedNumbers
       part_meets_at {l} {p} {form} {env} {v} {row} e m s =
           go (subst (λ (y : Result). Meets forms nodes pool bindings₀ limit c.row c.bound l p y env) s.same m)
         where
-          bd : BoundedNumbers (first_item s.stand GoingOn).value × BoundedItems (first_item s.stand GoingOn).others
-          bd = subst BoundedItems (first_item s.stand GoingOn).same s.bounded_left
+          bd : BoundedNumbers (first_item s.stand going_on).value × BoundedItems (first_item s.stand going_on).others
+          bd = subst BoundedItems (first_item s.stand going_on).same s.bounded_left
 
           go : Meets forms nodes pool bindings₀ limit c.row c.bound l p (Result.each s.place s.inner s.body) env
-              → Meets forms nodes pool (set bindings c.bound i) limit row (c.bound + 1) l p s.body ((first_item s.stand GoingOn).value ∷ env)
+              → Meets forms nodes pool (set bindings c.bound i) limit row (c.bound + 1) l p s.body ((first_item s.stand going_on).value ∷ env)
           go n =
               part_meets n
               (subst (λ (j : ℕ). FormStands forms p j (c.bound + 1) 0 s.body) (sym e)
@@ -198,7 +198,7 @@ module _ {forms nodes pool bindings₀ results₀ : List ℕ} {limit : ℕ} {c :
               (good_body n.good)
               (omega (arith, n.counted))
               (binds_more c.bound n.counted (omega (arith, n.room, w.same_bindings, levels_some s.body))
-              (standing (first_item s.stand GoingOn).stands bd.0)
+              (standing (first_item s.stand going_on).stands bd.0)
               (binds_kept c.bound w.bound_kept (omega (arith, n.counted)) n.binds))
               (omega (arith, n.room, w.same_bindings, length-set bindings c.bound i))
             where
@@ -214,7 +214,7 @@ module _ {forms nodes pool bindings₀ results₀ : List ℕ} {limit : ℕ} {c :
             limits = r.limits;
             used = r.used;
             form = s.body;
-            env = (first_item s.stand GoingOn).value ∷ r.env;
+            env = (first_item s.stand going_on).value ∷ r.env;
             meets = part_meets_at e r.meets s;
             small = record { rows = r.small.rows; parts = omega (arith, r.small.parts, w.same_results); steps = r.small.steps };
             paid = s.paid;
@@ -241,7 +241,7 @@ module _ {forms nodes pool bindings₀ results₀ : List ℕ} {limit : ℕ} {c :
               kept = record { bound_kept = bindings_kept; front = front_kept };
               told = λ l p form env v m b.
                   let s = w.going l p form env v m b in
-                  let g = first_item s.stand GoingOn in
+                  let g = first_item s.stand going_on in
                   s.whole
                   ∙ ap (λ (vs : Items). laws.items_behind s.done (run_items (λ x n. run s.body l (x ∷ env) n) vs steps)) g.same
                   ∙ laws.each_refused (λ x n. run s.body l (x ∷ env) n) g.value g.others s.done steps
@@ -262,7 +262,7 @@ module _ {forms nodes pool bindings₀ results₀ : List ℕ} {limit : ℕ} {c :
               front = front_kept;
               going = λ l p form env v m b.
                   let s = w.going l p form env v m b in
-                  let g = first_item s.stand GoingOn in
+                  let g = first_item s.stand going_on in
                   let bd : BoundedNumbers g.value × BoundedItems g.others = subst BoundedItems g.same s.bounded_left in
                   let x : Made (run s.body l (g.value ∷ env) steps) limit p results results' (part row) kind to after =
                   subst (Comes (run s.body l (g.value ∷ env) steps) limit p results results' (part row)) e
@@ -280,7 +280,7 @@ module _ {forms nodes pool bindings₀ results₀ : List ℕ} {limit : ℕ} {c :
                     whole =
                         s.whole
                         ∙ ap (λ (vs : Items). laws.items_behind s.done (run_items (λ y k. run s.body l (y ∷ env) k) vs steps)) g.same
-                        ∙ laws.EachOn (λ y k. run s.body l (y ∷ env) k) g.value g.others s.done steps x.value after x.ran;
+                        ∙ laws.each_on (λ y k. run s.body l (y ∷ env) k) g.value g.others s.done steps x.value after x.ran;
                     counted = omega (arith, s.counted, x.puts.counted);
                     paid = x.paid;
                     more = omega (arith, s.more, x.counted);
@@ -290,7 +290,7 @@ module _ {forms nodes pool bindings₀ results₀ : List ℕ} {limit : ℕ} {c :
                         let a = x.puts.put (omega (arith, h, w.same_results)) in (
                           q.0 ++ a.rows,
                           item_before q.1 a.encoded,
-                          subst (λ (k : ℕ). PartsPut results₀ results' c.begun k (q.0 ++ a.rows)) (sym x.puts.counted) (PartsMore q.2 a),
+                          subst (λ (k : ℕ). PartsPut results₀ results' c.begun k (q.0 ++ a.rows)) (sym x.puts.counted) (parts_more q.2 a),
                         );
                   };
             }

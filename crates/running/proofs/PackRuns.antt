@@ -29,7 +29,7 @@ use Rattle.running.specs.FormLaws as laws
 use Rattle.running.specs.Rows.{MembersAt, RecordClosable, ClosesRecord}
 use Rattle.running.specs.Walk.{Meets, Paid, Ready, Entered, Made, Comes, Runs}
 use Rattle.running.proofs.WhenRuns.{part_meets}
-use Rattle.running.proofs.EachRuns.{PartsPut, PartsMore, parts_stand}
+use Rattle.running.proofs.EachRuns.{PartsPut, parts_more, parts_stand}
 
 bounded_onto : (done left : Members) → BoundedMembers done → BoundedMembers left → BoundedMembers (members_onto done left)
 unfolding members_onto BoundedNumbers
@@ -125,11 +125,11 @@ module _ {forms nodes pool bindings₀ results₀ : List ℕ} {limit : ℕ} {c :
         let s = w.going f.ready.limits f.ready.used f.ready.form f.ready.env f.ready.meets in
         (omega (arith, s.within, f.ready.small.steps), omega (arith, s.paid, s.within, f.ready.small.steps), omega (arith, s.counted))
 
-    module _ (GoingOn : row < end) where
+    module _ (going_on : row < end) where
       pub pair_within : (3 ≤ size_at forms row) × (row + size_at forms row ≤ length forms)
       pair_within =
           let s = w.going f.ready.limits f.ready.used f.ready.form f.ready.env f.ready.meets in
-          let g = parts.first_pair s.stand GoingOn in
+          let g = parts.first_pair s.stand going_on in
           let e = stands_size g.stands in
           (omega (arith, e, forms_some g.result), omega (arith, e, stands_within g.stands))
 
@@ -155,7 +155,7 @@ module _ {forms nodes pool bindings₀ results₀ : List ℕ} {limit : ℕ} {c :
           → (s : PackState forms bindings₀ results₀ limit c end l p form env results row begun steps) → PairMeets name l p form env s.left
       unfolding result_levels
       pair_meets {name} e {l} {p} {form} {env} m s =
-          let g = parts.first_pair s.stand GoingOn in
+          let g = parts.first_pair s.stand going_on in
           go g (subst GoodPairs g.same s.good) (subst (λ (ps : Pairs). c.bound + pairs_levels ps ≤ length bindings₀ + 1) g.same s.levels)
         where
           go : (g : parts.FirstPair forms p row end c.bound s.left) → GoodPairs (pair g.name g.result g.others)
@@ -252,7 +252,7 @@ module _ {forms nodes pool bindings₀ results₀ : List ℕ} {limit : ℕ} {c :
                         let a = x.puts.put (omega (arith, h, w.same_results)) in (
                           q.0 ++ a.rows,
                           member_before q.1 k.refers a.encoded,
-                          subst (λ (i : ℕ). PartsPut results₀ results' c.begun i (q.0 ++ a.rows)) (sym x.puts.counted) (PartsMore q.2 a),
+                          subst (λ (i : ℕ). PartsPut results₀ results' c.begun i (q.0 ++ a.rows)) (sym x.puts.counted) (parts_more q.2 a),
                         );
                   };
             }

@@ -13,7 +13,7 @@ use Rattle.definitions.specs.Value.{Value}
 use Rattle.definitions.specs.Shape.{among}
 use Rattle.definitions.specs.Admits.{kind_of}
 use Rattle.definitions.specs.Reader.{Place, Test, Result}
-use Rattle.definitions.specs.Checking.{test-kinds}
+use Rattle.definitions.specs.Checking.{test_kinds}
 use Rattle.definitions.specs.Running.{run}
 use Rattle.laws.specs.FormGrammar.{result_levels}
 use Rattle.laws.specs.Good.{GoodReader, good_when, good_choose}
@@ -154,7 +154,7 @@ module _ {forms nodes pool bindings results : List ℕ} {limit : ℕ} {c : Curso
       }
 
   module _ {b : Bool} {test : ℕ} (tested : test ≡ get_or forms c.row 0 / 32 % 64)
-      (told : (p : List ℕ) (v : Value) (k : Test) → Bound nodes p at v → test_code k ≡ test → b ≡ among (kind_of v) (test-kinds k))
+      (told : (p : List ℕ) (v : Value) (k : Test) → Bound nodes p at v → test_code k ≡ test → b ≡ among (kind_of v) (test_kinds k))
       (f : Following forms nodes pool bindings results limit c at steps 10 10) {bindings' results' : List ℕ} {r : Part} where
     pub when_yes
         : b ≡ true

@@ -11,7 +11,7 @@ use Rattle.definitions.specs.Shape.{Kind, among}
 use Rattle.definitions.specs.Admits.{kind_of}
 use Rattle.definitions.specs.Bytes.{Bytes}
 use Rattle.definitions.specs.Reader.{Place, Conversion, Test, Result, Pairs, no_pairs, pair}
-use Rattle.definitions.specs.Checking.{convert-kinds, list-kinds, test-kinds}
+use Rattle.definitions.specs.Checking.{convert_kinds, list_kinds, test_kinds}
 use Rattle.definitions.specs.Running.{Ran, gives, stuck_unless, converted, items_of, int_value, truth, run_place, run_items, run, run_pairs}
 use Rattle.laws.specs.SoundSteps.{enter_within}
 use Rattle.laws.specs.RunRulesKinds.{not_entered}
@@ -81,14 +81,14 @@ pub form_split
     → run r l env n ≡ (operand r l env (suc n) >>= λ x. follow r l env x.result x.steps)
 unfolding run operand follow ◌>>=◌
 form_split l env n (placed_convert {at} {c} {q}) h =
-    rw (enter_within l at n h) (place_stuck (run_place q l env (suc n)) at (convert-kinds c) (λ x. gives (converted c x.result) x.steps))
+    rw (enter_within l at n h) (place_stuck (run_place q l env (suc n)) at (convert_kinds c) (λ x. gives (converted c x.result) x.steps))
 form_split l env n (placed_keep {at} {q}) h = rw (enter_within l at n h) (gives_all (run_place q l env (suc n)))
 form_split l env n (placed_count {at} {q}) h =
     rw (enter_within l at n h)
-    (place_stuck (run_place q l env (suc n)) at list-kinds (λ x. gives (int_value (count (items_of x.result))) x.steps))
+    (place_stuck (run_place q l env (suc n)) at list_kinds (λ x. gives (int_value (count (items_of x.result))) x.steps))
 form_split l env n (placed_each {at} {q} {r}) h =
     rw (enter_within l at n h)
-    (place_stuck (run_place q l env (suc n)) at list-kinds
+    (place_stuck (run_place q l env (suc n)) at list_kinds
     (λ x. run_items (λ v n₂. run r l (v ∷ env) n₂) (items_of x.result) x.steps >>= λ xs. gives (Value.list xs.result) xs.steps))
 form_split l env n (placed_when {at} {k} {q} {r₁} {r₂}) h = rw (enter_within l at n h) refl
 
@@ -134,13 +134,13 @@ split_given r l env v n e = ap (λ (o : Outcomes). o >>= λ x. follow r l env x.
 
 pub when_first
     : (at : ℕ) (k : Test) (q : Place) (r₁ r₂ : Result) (l : Limits) (env : List Value) (v : Value) (n : ℕ)
-    → among (kind_of v) (test-kinds k) ≡ true → follow (Result.when at k q r₁ r₂) l env v n ≡ run r₁ l (v ∷ env) n
+    → among (kind_of v) (test_kinds k) ≡ true → follow (Result.when at k q r₁ r₂) l env v n ≡ run r₁ l (v ∷ env) n
 unfolding follow
 when_first at k q r₁ r₂ l env v n e = ap (λ (b : Bool). elim b [ true ↦ run r₁ l (v ∷ env) n | false ↦ run r₂ l (v ∷ env) n ]) e
 
 pub when_second
     : (at : ℕ) (k : Test) (q : Place) (r₁ r₂ : Result) (l : Limits) (env : List Value) (v : Value) (n : ℕ)
-    → among (kind_of v) (test-kinds k) ≡ false → follow (Result.when at k q r₁ r₂) l env v n ≡ run r₂ l (v ∷ env) n
+    → among (kind_of v) (test_kinds k) ≡ false → follow (Result.when at k q r₁ r₂) l env v n ≡ run r₂ l (v ∷ env) n
 unfolding follow
 when_second at k q r₁ r₂ l env v n e = ap (λ (b : Bool). elim b [ true ↦ run r₁ l (v ∷ env) n | false ↦ run r₂ l (v ∷ env) n ]) e
 
@@ -222,11 +222,11 @@ module _ (body : Value → ℕ → Outcomes) (v : Value) (vs done : Items) (n : 
   each_refused e =
       ap (λ (o : Outcomes). items_behind done (o >>= λ x. run_items body vs x.steps >>= λ xs. gives (item x.result xs.result) xs.steps)) e
 
-  pub EachOn
+  pub each_on
       : (w : Value) (m : ℕ) → body v n ≡ gives w m
       → items_behind done (run_items body (item v vs) n) ≡ items_behind (item w done) (run_items body vs m)
   unfolding run_items ◌>>=◌ gives items_onto
-  EachOn w m e =
+  each_on w m e =
       ap (λ (o : Outcomes). items_behind done (o >>= λ x. run_items body vs x.steps >>= λ xs. gives (item x.result xs.result) xs.steps)) e
       ∙ go (run_items body vs m)
     where

@@ -6,7 +6,7 @@ use Rattle.definitions.specs.Value.{Value}
 use Rattle.definitions.specs.Shape.{Kind, among, rank}
 use Rattle.definitions.specs.Admits.{kind_of}
 use Rattle.definitions.specs.Reader.{to_int, to_dec, to_bool, to_text, Test, Result}
-use Rattle.definitions.specs.Checking.{test-kinds, convert-kinds, list-kinds}
+use Rattle.definitions.specs.Checking.{test_kinds, convert_kinds, list_kinds}
 use Rattle.nodes.specs.Nodes.{kind_code}
 use Rattle.forms.specs.Forms.{conversion_code, literal_code, form_code, test_code}
 use Rattle.forms.specs.FormsLaws.{test_int}
@@ -23,19 +23,19 @@ test_num Test.list e = absurd (let z : ⊥ = omega (arith, e) in z)
 test_num Test.rec e = absurd (let z : ⊥ = omega (arith, e) in z)
 
 -- a number is an int or a decimal
-number_kind : (x : Number) (k : Test) → test_code k ≡ 2 → is_int x ≡ among (kind_of (Value.number x)) (test-kinds k)
-unfolding test_code test-kinds kind_of among rank
+number_kind : (x : Number) (k : Test) → test_code k ≡ 2 → is_int x ≡ among (kind_of (Value.number x)) (test_kinds k)
+unfolding test_code test_kinds kind_of among rank
 number_kind x k e = go (is_int x)
   where
-    go : (b : Bool) → b ≡ among (elim b [ true ↦ Kind.int | false ↦ Kind.dec ]) (test-kinds k)
-    go true = ap (λ (j : Test). among Kind.int (test-kinds j)) (sym (test_int k e))
-    go false = ap (λ (j : Test). among Kind.dec (test-kinds j)) (sym (test_int k e))
+    go : (b : Bool) → b ≡ among (elim b [ true ↦ Kind.int | false ↦ Kind.dec ]) (test_kinds k)
+    go true = ap (λ (j : Test). among Kind.int (test_kinds j)) (sym (test_int k e))
+    go false = ap (λ (j : Test). among Kind.dec (test_kinds j)) (sym (test_int k e))
 
-number_other : (x : Number) (k : Test) → (test_code k ≡ 2 → ⊥) → eqb (test_code k) 3 ≡ among (kind_of (Value.number x)) (test-kinds k)
-unfolding test_code test-kinds kind_of among rank
+number_other : (x : Number) (k : Test) → (test_code k ≡ 2 → ⊥) → eqb (test_code k) 3 ≡ among (kind_of (Value.number x)) (test_kinds k)
+unfolding test_code test_kinds kind_of among rank
 number_other x k n = go (is_int x) k n
   where
-    go : (b : Bool) (j : Test) → (test_code j ≡ 2 → ⊥) → eqb (test_code j) 3 ≡ among (elim b [ true ↦ Kind.int | false ↦ Kind.dec ]) (test-kinds j)
+    go : (b : Bool) (j : Test) → (test_code j ≡ 2 → ⊥) → eqb (test_code j) 3 ≡ among (elim b [ true ↦ Kind.int | false ↦ Kind.dec ]) (test_kinds j)
     go true Test.null n = refl
     go true Test.bool n = refl
     go true Test.int n = absurd (n refl)
@@ -52,7 +52,7 @@ number_other x k n = go (is_int x) k n
     go false Test.rec n = refl
 
 pub says_number
-    : (v : Value) (k : Test) → kind_code v ≡ 3 → (test_code k ≡ 2 → ⊥) → eqb (test_code k) 3 ≡ among (kind_of v) (test-kinds k)
+    : (v : Value) (k : Test) → kind_code v ≡ 3 → (test_code k ≡ 2 → ⊥) → eqb (test_code k) 3 ≡ among (kind_of v) (test_kinds k)
 unfolding kind_code
 says_number Value.null k e n = absurd (let z : ⊥ = omega (arith, e) in z)
 says_number (Value.bool true) k e n = absurd (let z : ⊥ = omega (arith, e) in z)
@@ -65,7 +65,7 @@ says_number (Value.rec ms) k e n = absurd (let z : ⊥ = omega (arith, e) in z)
 -- whether a number is an int
 pub says_int
     : (v : Value) (k : Test) → kind_code v ≡ 3 → test_code k ≡ 2 → {r : Bool}
-    → ((x : Number) → v ≡ Value.number x → r ≡ is_int x) → r ≡ among (kind_of v) (test-kinds k)
+    → ((x : Number) → v ≡ Value.number x → r ≡ is_int x) → r ≡ among (kind_of v) (test_kinds k)
 unfolding kind_code
 says_int Value.null k e f g = absurd (let z : ⊥ = omega (arith, e) in z)
 says_int (Value.bool true) k e f g = absurd (let z : ⊥ = omega (arith, e) in z)
@@ -75,8 +75,8 @@ says_int (Value.text t) k e f g = absurd (let z : ⊥ = omega (arith, e) in z)
 says_int (Value.list vs) k e f g = absurd (let z : ⊥ = omega (arith, e) in z)
 says_int (Value.rec ms) k e f g = absurd (let z : ⊥ = omega (arith, e) in z)
 
-pub says_true : (v : Value) (k : Test) → kind_code v ≡ 2 → eqb (test_code k) 1 ≡ among (kind_of v) (test-kinds k)
-unfolding kind_code test_code test-kinds kind_of among rank
+pub says_true : (v : Value) (k : Test) → kind_code v ≡ 2 → eqb (test_code k) 1 ≡ among (kind_of v) (test_kinds k)
+unfolding kind_code test_code test_kinds kind_of among rank
 says_true Value.null k e = absurd (let z : ⊥ = omega (arith, e) in z)
 says_true (Value.bool true) Test.null e = refl
 says_true (Value.bool true) Test.bool e = refl
@@ -94,8 +94,8 @@ says_true (Value.rec ms) k e = absurd (let z : ⊥ = omega (arith, e) in z)
 -- no other value is a number
 pub says_not
     : (v : Value) (k : Test) → (kind_code v ≡ 3 → ⊥) → (test_code k ≡ 3 → ⊥) → (test_code k ≡ 2 → ⊥) → (kind_code v ≡ 2 → ⊥)
-    → eqb (kind_code v) (test_code k) ≡ among (kind_of v) (test-kinds k)
-unfolding kind_code test_code test-kinds kind_of among rank
+    → eqb (kind_code v) (test_code k) ≡ among (kind_of v) (test_kinds k)
+unfolding kind_code test_code test_kinds kind_of among rank
 says_not Value.null Test.null e f g h = refl
 says_not Value.null Test.bool e f g h = refl
 says_not Value.null Test.int e f g h = absurd (g refl)
@@ -134,11 +134,11 @@ says_not (Value.rec ms) Test.text e f g h = refl
 says_not (Value.rec ms) Test.list e f g h = refl
 says_not (Value.rec ms) Test.rec e f g h = refl
 
-pub says_no_num : (v : Value) (k : Test) → (kind_code v ≡ 3 → ⊥) → test_code k ≡ 3 → false ≡ among (kind_of v) (test-kinds k)
-unfolding kind_code test-kinds kind_of among rank
-says_no_num v k e f = go v e ∙ ap (λ (j : Test). among (kind_of v) (test-kinds j)) (sym (test_num k f))
+pub says_no_num : (v : Value) (k : Test) → (kind_code v ≡ 3 → ⊥) → test_code k ≡ 3 → false ≡ among (kind_of v) (test_kinds k)
+unfolding kind_code test_kinds kind_of among rank
+says_no_num v k e f = go v e ∙ ap (λ (j : Test). among (kind_of v) (test_kinds j)) (sym (test_num k f))
   where
-    go : (u : Value) → (kind_code u ≡ 3 → ⊥) → false ≡ among (kind_of u) (test-kinds Test.num)
+    go : (u : Value) → (kind_code u ≡ 3 → ⊥) → false ≡ among (kind_of u) (test_kinds Test.num)
     go Value.null n = refl
     go (Value.bool b) n = refl
     go (Value.number x) n = absurd (n refl)
@@ -146,11 +146,11 @@ says_no_num v k e f = go v e ∙ ap (λ (j : Test). among (kind_of v) (test-kind
     go (Value.list vs) n = refl
     go (Value.rec ms) n = refl
 
-pub says_no_int : (v : Value) (k : Test) → (kind_code v ≡ 3 → ⊥) → test_code k ≡ 2 → false ≡ among (kind_of v) (test-kinds k)
-unfolding kind_code test-kinds kind_of among rank
-says_no_int v k e f = go v e ∙ ap (λ (j : Test). among (kind_of v) (test-kinds j)) (sym (test_int k f))
+pub says_no_int : (v : Value) (k : Test) → (kind_code v ≡ 3 → ⊥) → test_code k ≡ 2 → false ≡ among (kind_of v) (test_kinds k)
+unfolding kind_code test_kinds kind_of among rank
+says_no_int v k e f = go v e ∙ ap (λ (j : Test). among (kind_of v) (test_kinds j)) (sym (test_int k f))
   where
-    go : (u : Value) → (kind_code u ≡ 3 → ⊥) → false ≡ among (kind_of u) (test-kinds Test.int)
+    go : (u : Value) → (kind_code u ≡ 3 → ⊥) → false ≡ among (kind_of u) (test_kinds Test.int)
     go Value.null n = refl
     go (Value.bool b) n = refl
     go (Value.number x) n = absurd (n refl)
@@ -160,8 +160,8 @@ says_no_int v k e f = go v e ∙ ap (λ (j : Test). among (kind_of v) (test-kind
 
 -- ---- what a form wants, by its code
 
-pub wants_int : (r : Result) (v : Value) → form_code r ≡ 3 → among (kind_of v) (test-kinds Test.int) ≡ wanted r v
-unfolding form_code conversion_code literal_code wanted test-kinds convert-kinds
+pub wants_int : (r : Result) (v : Value) → form_code r ≡ 3 → among (kind_of v) (test_kinds Test.int) ≡ wanted r v
+unfolding form_code conversion_code literal_code wanted test_kinds convert_kinds
 wants_int (Result.convert at to_int q) v e = refl
 wants_int (Result.convert at to_dec q) v e = absurd (let z : ⊥ = omega (arith, e) in z)
 wants_int (Result.convert at to_bool q) v e = absurd (let z : ⊥ = omega (arith, e) in z)
@@ -180,8 +180,8 @@ wants_int (Result.literal at (Value.list vs)) v e = absurd (let z : ⊥ = omega 
 wants_int (Result.literal at (Value.rec ms)) v e = absurd (let z : ⊥ = omega (arith, e) in z)
 wants_int (Result.pack at ps) v e = absurd (let z : ⊥ = omega (arith, e) in z)
 
-pub wants_dec : (r : Result) (v : Value) → form_code r ≡ 4 → among (kind_of v) (test-kinds Test.num) ≡ wanted r v
-unfolding form_code conversion_code literal_code wanted test-kinds convert-kinds
+pub wants_dec : (r : Result) (v : Value) → form_code r ≡ 4 → among (kind_of v) (test_kinds Test.num) ≡ wanted r v
+unfolding form_code conversion_code literal_code wanted test_kinds convert_kinds
 wants_dec (Result.convert at to_int q) v e = absurd (let z : ⊥ = omega (arith, e) in z)
 wants_dec (Result.convert at to_dec q) v e = refl
 wants_dec (Result.convert at to_bool q) v e = absurd (let z : ⊥ = omega (arith, e) in z)
@@ -200,8 +200,8 @@ wants_dec (Result.literal at (Value.list vs)) v e = absurd (let z : ⊥ = omega 
 wants_dec (Result.literal at (Value.rec ms)) v e = absurd (let z : ⊥ = omega (arith, e) in z)
 wants_dec (Result.pack at ps) v e = absurd (let z : ⊥ = omega (arith, e) in z)
 
-pub wants_bool : (r : Result) (v : Value) → form_code r ≡ 5 → among (kind_of v) (test-kinds Test.bool) ≡ wanted r v
-unfolding form_code conversion_code literal_code wanted test-kinds convert-kinds
+pub wants_bool : (r : Result) (v : Value) → form_code r ≡ 5 → among (kind_of v) (test_kinds Test.bool) ≡ wanted r v
+unfolding form_code conversion_code literal_code wanted test_kinds convert_kinds
 wants_bool (Result.convert at to_int q) v e = absurd (let z : ⊥ = omega (arith, e) in z)
 wants_bool (Result.convert at to_dec q) v e = absurd (let z : ⊥ = omega (arith, e) in z)
 wants_bool (Result.convert at to_bool q) v e = refl
@@ -220,8 +220,8 @@ wants_bool (Result.literal at (Value.list vs)) v e = absurd (let z : ⊥ = omega
 wants_bool (Result.literal at (Value.rec ms)) v e = absurd (let z : ⊥ = omega (arith, e) in z)
 wants_bool (Result.pack at ps) v e = absurd (let z : ⊥ = omega (arith, e) in z)
 
-pub wants_text : (r : Result) (v : Value) → form_code r ≡ 6 → among (kind_of v) (test-kinds Test.text) ≡ wanted r v
-unfolding form_code conversion_code literal_code wanted test-kinds convert-kinds
+pub wants_text : (r : Result) (v : Value) → form_code r ≡ 6 → among (kind_of v) (test_kinds Test.text) ≡ wanted r v
+unfolding form_code conversion_code literal_code wanted test_kinds convert_kinds
 wants_text (Result.convert at to_int q) v e = absurd (let z : ⊥ = omega (arith, e) in z)
 wants_text (Result.convert at to_dec q) v e = absurd (let z : ⊥ = omega (arith, e) in z)
 wants_text (Result.convert at to_bool q) v e = absurd (let z : ⊥ = omega (arith, e) in z)
@@ -240,7 +240,7 @@ wants_text (Result.literal at (Value.list vs)) v e = absurd (let z : ⊥ = omega
 wants_text (Result.literal at (Value.rec ms)) v e = absurd (let z : ⊥ = omega (arith, e) in z)
 wants_text (Result.pack at ps) v e = absurd (let z : ⊥ = omega (arith, e) in z)
 
-pub wants_list : (r : Result) (v : Value) → 8 ≤ form_code r → form_code r ≤ 9 → among (kind_of v) list-kinds ≡ wanted r v
+pub wants_list : (r : Result) (v : Value) → 8 ≤ form_code r → form_code r ≤ 9 → among (kind_of v) list_kinds ≡ wanted r v
 unfolding form_code conversion_code literal_code wanted
 wants_list (Result.convert at to_int q) v e h = absurd (let z : ⊥ = omega (arith, e, h) in z)
 wants_list (Result.convert at to_dec q) v e h = absurd (let z : ⊥ = omega (arith, e, h) in z)
@@ -282,22 +282,22 @@ wants_any (Result.literal at (Value.list vs)) v a b d e f g = refl
 wants_any (Result.literal at (Value.rec ms)) v a b d e f g = refl
 wants_any (Result.pack at ps) v a b d e f g = refl
 
-pub says_list : (v : Value) → (kind_code v ≡ 0 → ⊥) → eqb (kind_code v) 5 ≡ among (kind_of v) list-kinds
-unfolding kind_code kind_of among rank list-kinds
+pub says_list : (v : Value) → (kind_code v ≡ 0 → ⊥) → eqb (kind_code v) 5 ≡ among (kind_of v) list_kinds
+unfolding kind_code kind_of among rank list_kinds
 says_list Value.null n = absurd (n refl)
 says_list (Value.bool true) n = refl
 says_list (Value.bool false) n = refl
 says_list (Value.number x) n = go (is_int x)
   where
-    go : (b : Bool) → false ≡ among (elim b [ true ↦ Kind.int | false ↦ Kind.dec ]) list-kinds
+    go : (b : Bool) → false ≡ among (elim b [ true ↦ Kind.int | false ↦ Kind.dec ]) list_kinds
     go true = refl
     go false = refl
 says_list (Value.text t) n = refl
 says_list (Value.list vs) n = refl
 says_list (Value.rec ms) n = refl
 
-pub says_null : (v : Value) → kind_code v ≡ 0 → true ≡ among (kind_of v) list-kinds
-unfolding kind_code kind_of among rank list-kinds
+pub says_null : (v : Value) → kind_code v ≡ 0 → true ≡ among (kind_of v) list_kinds
+unfolding kind_code kind_of among rank list_kinds
 says_null Value.null e = refl
 says_null (Value.bool true) e = absurd (let z : ⊥ = omega (arith, e) in z)
 says_null (Value.bool false) e = absurd (let z : ⊥ = omega (arith, e) in z)

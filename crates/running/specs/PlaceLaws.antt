@@ -9,7 +9,7 @@ use Rattle.definitions.specs.Value.{Value, Members}
 use Rattle.definitions.specs.Shape.{Kind, among, rank}
 use Rattle.definitions.specs.Admits.{kind_of}
 use Rattle.definitions.specs.Reader.{Place}
-use Rattle.definitions.specs.Checking.{field-kinds}
+use Rattle.definitions.specs.Checking.{field_kinds}
 use Rattle.definitions.specs.Running.{Ran, gives, stuck_unless, member_of, members_of, field_value, run_place}
 use Rattle.laws.specs.SoundSteps.{enter_within}
 use Rattle.laws.specs.RunRulesKinds.{not_entered}
@@ -49,13 +49,13 @@ field_refused at m e = ap (field_of at m) e
 pub field_stuck
     : (at : ℕ) (m : Bytes) (v : Value) (n : ℕ) {o : Outcome ℕ (Ran Value)} → o ≡ gives v n → (kind_code v ≡ 0 → ⊥)
     → (kind_code v ≡ 6 → ⊥) → field_of at m o ≡ refused 12 at
-unfolding gives ◌>>=◌ field_value stuck_unless kind_code kind_of among rank field-kinds
+unfolding gives ◌>>=◌ field_value stuck_unless kind_code kind_of among rank field_kinds
 field_stuck at m Value.null n e z f = absurd (z refl)
 field_stuck at m (Value.bool b) n e z f = ap (field_of at m) e
 field_stuck at m (Value.number x) n e z f = ap (field_of at m) e ∙ go (is_int x)
   where
     go : (b : Bool)
-        → ◌>>=◌ {P = ℕ} {A = Value} {B = Ran Value} (elim (among (elim b [ true ↦ Kind.int | false ↦ Kind.dec ]) field-kinds) [
+        → ◌>>=◌ {P = ℕ} {A = Value} {B = Ran Value} (elim (among (elim b [ true ↦ Kind.int | false ↦ Kind.dec ]) field_kinds) [
           | true ↦ ok (member_of m (members_of (Value.number x)))
           | false ↦ refused 12 at
         ]) (λ v. gives v n)
@@ -69,7 +69,7 @@ field_stuck at m (Value.rec ms) n e z f = absurd (f refl)
 -- "On null it reads null."
 pub field_through
     : (at : ℕ) (m : Bytes) (v : Value) (n : ℕ) {o : Outcome ℕ (Ran Value)} → o ≡ gives v n → kind_code v ≡ 0 → field_of at m o ≡ gives v n
-unfolding gives ◌>>=◌ field_value stuck_unless kind_code kind_of among rank field-kinds member_of members_of
+unfolding gives ◌>>=◌ field_value stuck_unless kind_code kind_of among rank field_kinds member_of members_of
 field_through at m Value.null n e z = ap (field_of at m) e
 field_through at m (Value.bool true) n e z = absurd (let y : ⊥ = omega (arith, z) in y)
 field_through at m (Value.bool false) n e z = absurd (let y : ⊥ = omega (arith, z) in y)
@@ -94,7 +94,7 @@ rec_of_kind (Value.rec ms) e = is_rec
 pub field_given
     : (at : ℕ) (m : Bytes) (ms : Members) (n : ℕ) {o : Outcome ℕ (Ran Value)} → o ≡ gives (Value.rec ms) n
     → field_of at m o ≡ gives (member_of m ms) n
-unfolding gives ◌>>=◌ field_value stuck_unless kind_of among rank field-kinds members_of
+unfolding gives ◌>>=◌ field_value stuck_unless kind_of among rank field_kinds members_of
 field_given at m ms n e = ap (field_of at m) e
 
 -- where the bracket of a place stands

@@ -6,7 +6,7 @@ use Rattle.definitions.specs.Value.{Value, count, size}
 use Rattle.definitions.specs.Shape.{among}
 use Rattle.definitions.specs.Admits.{kind_of}
 use Rattle.definitions.specs.Reader.{Place, Result}
-use Rattle.definitions.specs.Checking.{convert-kinds, list-kinds, test-kinds}
+use Rattle.definitions.specs.Checking.{convert_kinds, list_kinds, test_kinds}
 use Rattle.definitions.specs.Running.{Ran, gives, stuck_unless, converted, items_of, int_value, run_place, run_items, run}
 use Rattle.laws.specs.FormGrammar.{result_levels}
 use Rattle.laws.specs.Good.{GoodReader}
@@ -25,12 +25,12 @@ use Rattle.running.specs.Bindings.{Bound, Binds}
 -- the value of its place, where the form is not stuck on it
 unfoldable pub operand : Result → Limits → List Value → ℕ → Outcome ℕ (Ran Value)
 operand (Result.convert at c p) l env n =
-    run_place p l env n >>= λ x. stuck_unless at (convert-kinds c) x.result (gives x.result x.steps)
+    run_place p l env n >>= λ x. stuck_unless at (convert_kinds c) x.result (gives x.result x.steps)
 operand (Result.keep at p) l env n = run_place p l env n
 operand (Result.count at p) l env n =
-    run_place p l env n >>= λ x. stuck_unless at list-kinds x.result (gives x.result x.steps)
+    run_place p l env n >>= λ x. stuck_unless at list_kinds x.result (gives x.result x.steps)
 operand (Result.each at p r) l env n =
-    run_place p l env n >>= λ x. stuck_unless at list-kinds x.result (gives x.result x.steps)
+    run_place p l env n >>= λ x. stuck_unless at list_kinds x.result (gives x.result x.steps)
 operand (Result.when at k p r₁ r₂) l env n = run_place p l env n
 operand (Result.choose at r₁ r₂ r₃) l env n = refused 0 at
 operand (Result.literal at v) l env n = refused 0 at
@@ -44,7 +44,7 @@ follow (Result.count at p) l env v n = gives (int_value (count (items_of v))) n
 follow (Result.each at p r) l env v n =
     run_items (λ w n₂. run r l (w ∷ env) n₂) (items_of v) n >>= λ xs. gives (Value.list xs.result) xs.steps
 follow (Result.when at k p r₁ r₂) l env v n =
-    elim (among (kind_of v) (test-kinds k)) [ true ↦ run r₁ l (v ∷ env) n | false ↦ run r₂ l (v ∷ env) n ]
+    elim (among (kind_of v) (test_kinds k)) [ true ↦ run r₁ l (v ∷ env) n | false ↦ run r₂ l (v ∷ env) n ]
 follow (Result.choose at r₁ r₂ r₃) l env v n = refused 0 at
 follow (Result.literal at v) l env w n = refused 0 at
 follow (Result.pack at ps) l env v n = refused 0 at

@@ -4,7 +4,7 @@ ghost use Rattle.definitions.specs.Value.{Value};
 ghost use Rattle.definitions.specs.Shape.{among};
 ghost use Rattle.definitions.specs.Admits.{kind_of};
 ghost use Rattle.definitions.specs.Reader.{Test, Result};
-ghost use Rattle.definitions.specs.Checking.{list-kinds, test-kinds};
+ghost use Rattle.definitions.specs.Checking.{list_kinds, test_kinds};
 ghost use Rattle.forms.specs.Forms.{test_code, form_code};
 ghost use Rattle.running.specs.Bindings.{Bound};
 ghost use Rattle.running.specs.Kinds.{wanted};
@@ -21,7 +21,7 @@ const TEXT: u64 = 4;
 // Whether the value at a row is of the kinds that the test of a code means.
 pub fn is_kind(nodes: &[u64], at: usize, test: u64) -> bool
     ensures told { (p : List ℕ) (v : Value) (k : Test) → Bound nodes.now p at v → test_code k ≡ test
-        → result ≡ among (kind_of v) (test-kinds k) }
+        → result ≡ among (kind_of v) (test_kinds k) }
 {
     let kind = nodes::row_kind(nodes, at);
     if kind == nodes::NUMBER {
@@ -44,7 +44,7 @@ pub fn is_kind(nodes: &[u64], at: usize, test: u64) -> bool
 
 // Whether the value at a row is a list or null.
 fn is_list(nodes: &[u64], at: usize) -> bool
-    ensures told { (p : List ℕ) (v : Value) → Bound nodes.now p at v → result ≡ among (kind_of v) list-kinds }
+    ensures told { (p : List ℕ) (v : Value) → Bound nodes.now p at v → result ≡ among (kind_of v) list_kinds }
 {
     let kind = nodes::row_kind(nodes, at);
     if kind == nodes::NULL {

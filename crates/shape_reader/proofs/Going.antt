@@ -22,10 +22,10 @@ moves_then m k =
       room = omega (arith, m.room, k.room);
     }
 
-pub GoesThen
+pub goes_then
     : {values : ℕ} {text : Bytes} {s p s' p' s'' p'' : List ℕ} {a b c : Cursor} {rs qs : List ℕ}
     → Goes values text s p s' p' a b rs → Goes values text s' p' s'' p'' b c qs → Goes values text s p s'' p'' a c (rs ++ qs)
-GoesThen {s} {p} {p'} {p''} {a} {b} {rs} {qs} g h =
+goes_then {s} {p} {p'} {p''} {a} {b} {rs} {qs} g h =
     record {
       table =
           h.table

@@ -22,7 +22,7 @@ use Rattle.shape_reader.specs.ShapeParts.{reading, parts, Latest, none_yet, late
 use Rattle.shape_reader.specs.ShapeParts.{CloseAnswer, ClosesMember, Ready, Goes, Sized, FormDone, FormAnswer}
 use Rattle.shape_reader.specs.ShapeParts.{ReadsForm, FieldsBefore, no_fields_before, field_before}
 use Rattle.shape_reader.specs.ShapeParts.{FieldsRead, ReadsMembers, MemberBegun, TurnAnswer}
-use Rattle.shape_reader.proofs.Going.{GoesThen, goes_alone, sized_then, ready_then, grown, in_member}
+use Rattle.shape_reader.proofs.Going.{goes_then, goes_alone, sized_then, ready_then, grown, in_member}
 
 -- ---- members
 
@@ -83,7 +83,7 @@ module _
     on : {u : Cursor} → u.begun ≡ here.begun → Moves text here u → Goes values text s₀ p₀ s p' c u m.read.rows
     on {u} i k =
         subst (Goes values text s₀ p₀ s p' c u) (append-nil m.read.rows)
-        (GoesThen m.read.goes (goes_alone i m.read.goes.limit y.kept.front k))
+        (goes_then m.read.goes (goes_alone i m.read.goes.limit y.kept.front k))
 
     held_then : (u : Cursor) → here.top ≤ u.top → FieldsBefore (take u.top p') m.fields m.read.rows
     held_then u h =
@@ -194,7 +194,7 @@ module _
                 (fields_before_grow (drop from.top (take to.top p')) m.read.held))
                 still_refers done.held;
             bare = λ h. clash m.has_rec h;
-            goes = GoesThen m.read.goes done.goes;
+            goes = goes_then m.read.goes done.goes;
           }
         where
           more : take to.top p' ≡ take from.top p ++ drop from.top (take to.top p')
@@ -244,7 +244,7 @@ module _
                       bare = b.bare;
                       goes =
                           subst (Goes values text s₀ p₀ s' p' c behind) (append-nil b.rows)
-                          (GoesThen b.goes
+                          (goes_then b.goes
                           (goes_alone d.begun b.goes.limit refl
                           (record {
                             ahead = omega (arith, d.further);

@@ -37,7 +37,7 @@ use Rattle.shape_reader.specs.ShapeParts.{reading, member_bytes, ExpectedAnswer,
 use Rattle.shape_reader.specs.ShapeParts.{latest_is, NamedAnswer, ReadsName, NamesAnswer, NamesMember, TurnIs, Turns, ClosesMember}
 use Rattle.shape_reader.proofs.Steps.{goes_on, misplaced_found, lacking, lacking_both, only_member, member_goes}
 use Rattle.shape_reader.proofs.KindSets.{has_rec_kind}
-use Rattle.tokens.specs.ReadingLaws.{no_closing, no_text, PlacedOn}
+use Rattle.tokens.specs.ReadingLaws.{no_closing, no_text, placed_on}
 
 -- ---- names in order
 
@@ -88,7 +88,7 @@ module _ {text : Bytes} {at : ℕ} {e : Expected} (x : Expects text at member_by
     there = subst (ExpectedAnswer text at member_bytes) f x.answer
 
     pub name_room : {p : List ℕ} {top : ℕ} → TextPlaced text p at top → TextPlaced text p behind top
-    name_room r = PlacedOn r (omega (arith, there.1.from, there.1.ahead)) there.1.within
+    name_room r = placed_on r (omega (arith, there.1.from, there.1.ahead)) there.1.within
 
     to_name
         : (l : Limits) (k : ℕ) (q : Parts) (o : Around)
@@ -236,7 +236,7 @@ module _
         })
 
     pub member_room : TextPlaced text p c.at c.top → TextPlaced text p (at + 1) c.top × (c.at < at + 1)
-    member_room r₀ = (PlacedOn r₀ (omega (arith, opened.from)) opened.within, omega (arith, opened.from))
+    member_room r₀ = (placed_on r₀ (omega (arith, opened.from)) opened.within, omega (arith, opened.from))
 
     pub member_opened
         : {p' : List ℕ} {b : Bool} {t : Turn} → b ≡ has_bit kinds 64 → b ≡ true → NamesMember first latest text p p' (at + 1) c t

@@ -22,9 +22,9 @@ use Rattle.shape_reader.specs.ShapeParts.{reading, Limited, KindsHeld, bits_of, 
 use Rattle.shape_reader.specs.ShapeParts.{Ready, Goes, ReadsForm, ElementDone, ElementAnswer, ReadsElement, FieldsBefore}
 use Rattle.shape_reader.specs.ShapeParts.{no_fields_before, field_before, MembersDone, MembersAnswer, ReadsMembers}
 use Rattle.shape_reader.proofs.KindSets.{with_parts, has_list_kind, has_rec_kind, held_small}
-use Rattle.tokens.specs.ReadingLaws.{PlacedOn}
+use Rattle.tokens.specs.ReadingLaws.{placed_on}
 use Rattle.shape_reader.proofs.Table.{with_row, length_with_row, row_put}
-use Rattle.shape_reader.proofs.Going.{GoesThen, ready_then, grown}
+use Rattle.shape_reader.proofs.Going.{goes_then, ready_then, grown}
 use Rattle.shape_reader.proofs.MemberForms.{fields_read_rows}
 
 -- ---- the shape of its parts
@@ -84,7 +84,7 @@ module _
     pub inner_ready : Ready text s p values (record { at = at; begun = c.begun + 1; top = c.top })
     inner_ready =
         record {
-          placed = PlacedOn r₀.placed opens.ahead opens.within;
+          placed = placed_on r₀.placed opens.ahead opens.within;
           rows = r₀.rows;
           few = r₀.few;
           limit = omega (arith, opens.begun);
@@ -142,7 +142,7 @@ module _
             members = subst (MembersAnswer (left - 1) values text s' p' s'' p'' set.kinds mid) j w.answer
 
             both : Goes values text s p s'' p'' (record { at = at; begun = c.begun + 1; top = c.top }) to (element.rows ++ members.read.rows)
-            both = GoesThen element.goes members.read.goes
+            both = goes_then element.goes members.read.goes
 
             -- bounds for the row
             pub row_bounds : (c.begun < to.begun) × (to.begun ≤ 32768) × (set.kinds < 128) × (2 * c.begun + 2 ≤ length s'')

@@ -72,10 +72,10 @@ module _ {shapes pool p : List ℕ} {row end : ℕ} where
       ∙ ap (λ (u : Bytes). same t u) (text_referred pool l.front l.small f.1))
 
   -- its name is whole in the pool
-  WholeBy
+  whole_by
       : {fs : Fields} → Listed shapes pool row end p fs → SomeFields fs
       → length (text_in pool (get_or shapes (row + 1) 0 % 65536) (get_or shapes (row + 1) 0 / 65536)) ≡ get_or shapes (row + 1) 0 / 65536
-  WholeBy l some_fields =
+  whole_by l some_fields =
       let f = fields_first l.stand in
       subst (λ (x : ℕ). length (text_in pool (x % 65536) (x / 65536)) ≡ x / 65536) (sym (stands_name f.2))
       (referred_whole pool l.front l.small f.1)
@@ -128,7 +128,7 @@ module _ {shapes pool : List ℕ} {from end w n : ℕ} where
     pub step_whole
         : SomeListed shapes pool from end → Searching shapes pool from end w n row → row < end
         → length (text_in pool (get_or shapes (row + 1) 0 % 65536) (get_or shapes (row + 1) 0 / 65536)) ≡ get_or shapes (row + 1) 0 / 65536
-    step_whole k v h = let l = (v.left k.used k.fields k.listed).listed in WholeBy l (fields_left l.stand h)
+    step_whole k v h = let l = (v.left k.used k.fields k.listed).listed in whole_by l (fields_left l.stand h)
 
     pub found_Here
         : Searching shapes pool from end w n row → row < end → {b : Bool} → Asked shapes pool row (text_in pool w n) b → b ≡ true

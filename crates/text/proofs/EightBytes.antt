@@ -15,7 +15,7 @@ use Rattle.text.specs.TextRead.{ReadsText}
 use Rattle.text.specs.TextParts.{Stands, FrontStands, Keeps, Puts, ReadOn, PieceRead, Stood, Reading}
 use Rattle.text.specs.declared.TextRead.{TextRead}
 use Rattle.text.proofs.Places.{part_none}
-use Rattle.text.proofs.Puts.{keeps_none, puts_none, PutsThen, puts_same}
+use Rattle.text.proofs.Puts.{keeps_none, puts_none, puts_then, puts_same}
 use Rattle.text.proofs.Reading.{read_on, piece_read, reading_start, reading_next}
 use Rattle.text.proofs.Stands.{stands_none, stands_append, stands_run, front_there}
 use Rattle.text.proofs.PutWords.{puts_word, front_size, same_front, front_whole, front_part}
@@ -39,7 +39,7 @@ module _ (doc : Bytes) where
   stood_next {i} {p₀} {p} {p'} {w} {n} {j} m h t b k =
       record {
         stands = subst Stands joined (stands_append h.stands t);
-        puts = puts_same (PutsThen h.puts (ap (λ (x : ℕ). n + x) (sym size)) k) joined;
+        puts = puts_same (puts_then h.puts (ap (λ (x : ℕ). n + x) (sym size)) k) joined;
         ahead = omega (arith, h.ahead);
         within = b;
       }

@@ -60,10 +60,10 @@ end_at i acc s k h = ap (text_run i acc) n ∙ run_end i acc ∙ ap broke (sym n
     n = drop_of_length-le s h
 
 -- the closing quote stands at place k
-pub ClosedAt
+pub closed_at
     : (i : Inside) (acc s : Bytes) (k : ℕ) → k < length s → text_step i acc (get_or s k 256) ≡ closed
     → text_run i acc (drop k s) ≡ ended (reverse acc) (drop (k + 1) s)
-ClosedAt i acc s k h e =
+closed_at i acc s k h e =
     ap (text_run i acc) (at_place s k h) ∙ run_closed i acc (get_or s k 256) (drop (k + 1) s) e
 
 -- ---- a part of a document, a byte longer

@@ -50,9 +50,9 @@ puts_one {p} {p'} {k} {b} w n h e l =
     zeros : 7 - n % 8 ≡ 8 * words (n + 1) - (n + 1)
     zeros = omega (arith, words_next n)
 
-pub PutsThen
+pub puts_then
     : {p p' p'' : List ℕ} {w n m : ℕ} {s t : Bytes} → Puts p p' w n s → m ≡ n + length s → Puts p' p'' w m t → Puts p p'' w n (s ++ t)
-PutsThen {p} {p'} {p''} {w} {n} {m} {s} {t} h e k =
+puts_then {p} {p'} {p''} {w} {n} {m} {s} {t} h e k =
     record {
       text = ap (text_in p'' w) size
           ∙ k.text
@@ -138,15 +138,15 @@ module _ (src : Bytes) (from to : ℕ) (p₀ : List ℕ) (w n : ℕ) (p : List �
       let o : words (n + (i - from) + 1) ≤ words (n + (to - from)) = words_mono (omega arith) in
       omega (arith, words_room w (n + (i - from)) (length p) (omega arith))
 
-  pub CopiedNext
+  pub copied_next
       : (p' : List ℕ) (b : ℕ) → i < to → to ≤ length src → b ≡ get_or src i 0 → Put p p' (8 * w + n + (i - from)) b
       → Copied src from to p₀ w n p' (i + 1)
-  CopiedNext p' b l t e q =
+  copied_next p' b l t e q =
       let s = h.start in
       let size : length (take (i - from) (drop from src)) ≡ i - from = length-take-le (i - from) (drop from src) (omega (arith, length-drop from src)) in
       record {
         puts = puts_same
-            (PutsThen h.puts (ap (λ (k : ℕ). n + k) (sym size)) (puts_one w (n + (i - from)) q (omega arith) (copied_room l)))
+            (puts_then h.puts (ap (λ (k : ℕ). n + k) (sym size)) (puts_one w (n + (i - from)) q (omega arith) (copied_room l)))
             (ap (λ (x : ℕ). take (i - from) (drop from src) ++ (x ∷ [])) (e ∙ get_or_within src i 0 256 (omega arith))
             ∙ sym (part_snoc src from i s (omega arith)));
         start = omega arith;

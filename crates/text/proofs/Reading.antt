@@ -20,7 +20,7 @@ use Rattle.text.specs.TextRead.{Padded, ReadsText}
 use Rattle.text.specs.TextParts.{plain_ascii, escape_value, Breaks, CodeRead, WideRead, Puts, ReadOn, PieceRead, PieceBroken, Reading}
 use Rattle.text.specs.declared.TextRead.TheVariants.{Closed, Broken}
 use Rattle.text.proofs.Tables.{Escape, no_escape, by_number, by_letter, escape_of, Itself, plain_ascii_itself}
-use Rattle.text.proofs.Places.{get_or_within, byte_within, more_at, wrong_at, ClosedAt, end_at}
+use Rattle.text.proofs.Places.{get_or_within, byte_within, more_at, wrong_at, closed_at, end_at}
 use Rattle.text.proofs.Surrogates.{breaks_behind}
 use Rattle.text.proofs.Escaped.{escaped_append, escaped_none, escaped_one, one_plain, length_plain, length_encode, cost_encode}
 use Rattle.text.proofs.Puts.{keeps_none, keeps_then, puts_one}
@@ -265,7 +265,7 @@ module _ {doc : Bytes} {at : ℕ} {p₀ p : List ℕ} {w i n m : ℕ} (h : Readi
       record {
         answer = record {
           run = h.run
-              ∙ ClosedAt Inside.chars (reverse (text_in p w n)) doc i l
+              ∙ closed_at Inside.chars (reverse (text_in p w n)) doc i l
               (ap (text_step Inside.chars (reverse (text_in p w n))) (get_or_within doc i 256 0 l ∙ e))
               ∙ ap (λ (t : Bytes). ended t (drop (i + 1) doc)) (reverse-reverse (text_in p w n));
           size = length_text_in p w n room_so_far;

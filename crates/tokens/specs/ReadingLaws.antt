@@ -150,6 +150,6 @@ module _ {Q : Type 0} where
 
 -- ---- where reading may go on
 
-pub PlacedOn
+pub placed_on
     : {text : Bytes} {p : List ℕ} {at at' top : ℕ} → TextPlaced text p at top → at ≤ at' → at' ≤ length text → TextPlaced text p at' top
-PlacedOn r h i = record { short = r.short; within = i; texts = omega (arith, r.texts); small = omega (arith, r.small) }
+placed_on r h i = record { short = r.short; within = i; texts = omega (arith, r.texts); small = omega (arith, r.small) }

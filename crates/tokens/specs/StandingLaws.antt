@@ -142,11 +142,11 @@ module _ {text : Bytes} {at : ℕ} where
       }
 
   -- a word, and a byte that ends it
-  pub word-Stands
+  pub word_stands
       : {w : Bytes} {b : ℕ} → Word w → (WordByte b → ⊥) → StandsAt text at w → StandsAt text (at + length w) (b ∷ [])
       → Found text at (word w) at (at + length w)
   unfolding tokens_from at_place
-  word-Stands {w} x n s t =
+  word_stands {w} x n s t =
       record {
         run =
             ap (λ (y : Bytes). lex at (outside no_word) y) s.run

@@ -116,12 +116,12 @@ admits_claims t = (
 -- ---- admits
 
 -- what is known behind the first test
-SeenHere
+seen_here
     : (t : ℕ) (c : admits-lts.After-has (admits_claims t) (admits_at t) admits.Reads.Post)
     → let at-start = c.before.before.before.before.before.before in
     Seen at-start.args.shapes.now at-start.args.row at-start.args.nodes.now at-start.args.at at-start.args.pool.now
     c.before.before.kind_bit.result.kinds c.has.result
-SeenHere t c =
+seen_here t c =
     let at-start = c.before.before.before.before.before.before in
     seen at-start.args.shapes.now at-start.args.row at-start.args.nodes.now at-start.args.at at-start.args.pool.now
     c.before.before.kind_bit.ensures c.before.kinds.ensures c.has.ensures
@@ -130,14 +130,14 @@ admits_returns : (t : ℕ) → admits-lts.Need-returns (admits_claims t) (admits
 admits_returns t c =
     let at-start = c.before.before.before.before.before.before.before in
     without_kind at-start.args.shapes.now at-start.args.row at-start.args.nodes.now at-start.args.at at-start.args.pool.now
-    (SeenHere t c.before) c.if1.true
+    (seen_here t c.before) c.if1.true
 
 admits_returns_2 : (t : ℕ) → admits-lts.Need-returns-2 (admits_claims t) (admits_at t) admits.Reads.Post
 admits_returns_2 t c =
     let after-has = c.before.before.before.before in
     let at-start = after-has.before.before.before.before.before.before in
     single at-start.args.shapes.now at-start.args.row at-start.args.nodes.now at-start.args.at at-start.args.pool.now
-    (SeenHere t after-has) c.before.before.before.if1.false c.if2.true
+    (seen_here t after-has) c.before.before.before.if1.false c.if2.true
 
 admits_add_end : (t : ℕ) → admits-lts.Need-overflow-add-end (admits_claims t) (admits_at t) admits.Reads.Post
 admits_add_end t c =
@@ -164,7 +164,7 @@ admits_admits_items_requires t c κs =
     let at-start = after-has.before.before.before.before.before.before in (
       omega (arith, at-start.requires.0, (value_ends at-start.requires.1.holds).0, (value_ends at-start.requires.1.holds).1),
       list_asks at-start.args.shapes.now at-start.args.row at-start.args.nodes.now at-start.args.at at-start.args.pool.now
-          (SeenHere t after-has) else1.if1.false c.before.before.before.row_size.ensures c.if3.true at-start.requires.1,
+          (seen_here t after-has) else1.if1.false c.before.before.before.row_size.ensures c.if3.true at-start.requires.1,
     )
 
 admits_returns_3 : (t : ℕ) → admits-lts.Need-returns-3 (admits_claims t) (admits_at t) admits.Reads.Post
@@ -173,7 +173,7 @@ admits_returns_3 t c =
     let else1 = after-row-size.before.before.before.before in
     let at-start = else1.before.before.before.before.before.before.before in
     list_told at-start.args.shapes.now at-start.args.row at-start.args.nodes.now at-start.args.at at-start.args.pool.now
-    (SeenHere t else1.before) else1.if1.false after-row-size.row_size.ensures c.before.if3.true c.admits-items.ensures
+    (seen_here t else1.before) else1.if1.false after-row-size.row_size.ensures c.before.if3.true c.admits-items.ensures
 
 admits_members_requires : (t : ℕ) → admits-lts.Need-members-requires (admits_claims t) (admits_at t) admits.Reads.Post
 admits_members_requires t c κs =
@@ -184,7 +184,7 @@ admits_members_requires t c κs =
       omega (
         arith,
         members_within at-start.args.shapes.now at-start.args.row at-start.args.nodes.now at-start.args.at at-start.args.pool.now
-            (SeenHere t after-has) else2.before.before.before.if1.false c.before.before.before.row_size.ensures else2.if2.false
+            (seen_here t after-has) else2.before.before.before.if1.false c.before.before.before.row_size.ensures else2.if2.false
             c.if3.false at-start.requires.1,
         (held_within at-start.requires.1.held).1,
         at-start.well-formed.0.0,
@@ -212,7 +212,7 @@ admits_admits_members_requires t c κs =
     let at-start = else2.before.before.before.before.before.before.before.before.before.before in (
       omega (arith, at-start.requires.0, (value_ends at-start.requires.1.holds).0, (value_ends at-start.requires.1.holds).1),
       rec_asks at-start.args.shapes.now at-start.args.row at-start.args.nodes.now at-start.args.at at-start.args.pool.now
-          (SeenHere t else2.before.before.before.before) else2.before.before.before.if1.false
+          (seen_here t else2.before.before.before.before) else2.before.before.before.if1.false
           after-row-size.row_size.ensures else2.if2.false
           c.before.before.if3.false c.before.members.ensures c.size.ensures at-start.requires.1,
     )
@@ -223,7 +223,7 @@ admits_returns_4 t c =
     let after-has = else3.before.before.before.before.before.before.before.before in
     let at-start = after-has.before.before.before.before.before.before in
     rec_fails at-start.args.shapes.now at-start.args.row at-start.args.nodes.now at-start.args.at at-start.args.pool.now
-    (SeenHere t after-has) else3.before.before.before.before.before.before.before.if1.false else3.before.before.before.row_size.ensures
+    (seen_here t after-has) else3.before.before.before.before.before.before.before.if1.false else3.before.before.before.row_size.ensures
     else3.before.before.before.before.if2.false else3.if3.false
     c.before.before.before.members.ensures c.before.before.size.ensures
     c.before.admits-members.ensures c.if4.true
@@ -241,7 +241,7 @@ admits_lacked_have_null_requires t c κs =
     let after-has = else3.before.before.before.before.before.before.before.before in
     let at-start = after-has.before.before.before.before.before.before in (
       rec_asks at-start.args.shapes.now at-start.args.row at-start.args.nodes.now at-start.args.at at-start.args.pool.now
-          (SeenHere t after-has) else3.before.before.before.before.before.before.before.if1.false else3.before.before.before.row_size.ensures
+          (seen_here t after-has) else3.before.before.before.before.before.before.before.if1.false else3.before.before.before.row_size.ensures
           else3.before.before.before.before.if2.false else3.if3.false
           c.before.before.before.members.ensures c.before.before.size.ensures at-start.requires.1,
       λ fs h ms k. sym (not_fails c.before.admits-members.result c.if4.false) ∙ c.before.admits-members.ensures fs h ms k,
@@ -253,7 +253,7 @@ admits_returns_5 t c =
     let else1 = after-members.before.before.before.before.before.before.before.before in
     let at-start = else1.before.before.before.before.before.before.before in
     rec_told at-start.args.shapes.now at-start.args.row at-start.args.nodes.now at-start.args.at at-start.args.pool.now
-    (SeenHere t else1.before) else1.if1.false after-members.before.before.before.before.row_size.ensures
+    (seen_here t else1.before) else1.if1.false after-members.before.before.before.before.row_size.ensures
     after-members.before.before.before.before.before.if2.false
     after-members.before.if3.false after-members.members.ensures c.before.before.before.size.ensures
     c.before.before.admits-members.ensures c.before.if4.false c.lacked_have_null.ensures

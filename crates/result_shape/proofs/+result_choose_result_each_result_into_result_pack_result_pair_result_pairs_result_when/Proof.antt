@@ -22,7 +22,7 @@ use Rattle.result_shape.proofs.WhenSteps.{when_asks, when_rows, when_room, when_
 use Rattle.result_shape.proofs.WhenSteps.{when_tables, out_fits, when_asked_then, when_kept, when_full_then, when_answer, when_words}
 use Rattle.result_shape.proofs.EachSteps.{each_asks, each_rows, each_room, each_held, each_never, each_bound, each_kept_first, each_full_first}
 use Rattle.result_shape.proofs.EachSteps.{each_asked, each_tables, each_kept, each_full_then, each_raise, each_words, each_answer}
-use Rattle.result_shape.proofs.PairSteps.{PairHeld, listed_asked, listed_answer, new_inside, new_full_first, new_asked, new_tables, new_full_then}
+use Rattle.result_shape.proofs.PairSteps.{pair_held, listed_asked, listed_answer, new_inside, new_full_first, new_asked, new_tables, new_full_then}
 use Rattle.result_shape.proofs.PairSteps.{new_answer, new_words}
 use Rattle.result_shape.proofs.PairsLoop.{PairsLoop, pairs_begin, pairs_size, pairs_last, pairs_tables, pairs_asked, pairs_kept, pairs_full}
 use Rattle.result_shape.proofs.PairsLoop.{pairs_loop_on, pairs_grown, pairs_end}
@@ -896,7 +896,7 @@ result_pack_returns_2 t c =
 result_pair_find_place_requires : (t : ℕ) → result-pair-lts.Need-find-place-requires (result_pair_claims t) (result_pair_at t) result-pair.Post
 result_pair_find_place_requires t c κs =
     let at-start = c.before.before.before.before.before.before.before in
-    (PairHeld at-start.requires.1.0, tables_room at-start.requires.1.1)
+    (pair_held at-start.requires.1.0, tables_room at-start.requires.1.1)
 
 result_pair_result_into_requires : (t : ℕ) → result-pair-lts.Need-result-into-requires (result_pair_claims t) (result_pair_at t) result-pair.Post
 result_pair_result_into_requires t c κs =

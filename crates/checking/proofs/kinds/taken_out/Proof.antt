@@ -8,8 +8,8 @@ use Rattle.checking.proofs.kinds.taken_out.Tie as tie
 returns : tie.Need-returns
 returns c =
     let at-start = c.before.before in
-    out_told at-start.args.kinds at-start.args.test c.test-kinds.result c.before.if1.true
-    c.test-kinds.ensures.0
+    out_told at-start.args.kinds at-start.args.test c.test_kinds.result c.before.if1.true
+    c.test_kinds.ensures.0
 
 returns-2 : tie.Need-returns-2
 returns-2 c =

@@ -2,7 +2,7 @@
 use borrow.Author.Rules.{rules}
 use native.Mathlib.Omega.{arith}
 use Rattle.tokens.specs.TokenRead.{word_in}
-use Rattle.form_reader.proofs.OperandReading.{word_found, number_missing, number_wrong, number_right, ScaleSmall}
+use Rattle.form_reader.proofs.OperandReading.{word_found, number_missing, number_wrong, number_right, scale_small}
 use Rattle.form_reader.proofs.operands.read_number.Statement.{statement}
 use Rattle.form_reader.proofs.operands.read_number.Tie as tie
 
@@ -44,7 +44,7 @@ number-bits-requires c κs =
     let at-start = after-place.before.before.before.before in
     omega (
       arith,
-      ScaleSmall (word_in at-start.args.text.now after-place.place.given.0.0 after-place.place.given.0.1.0)
+      scale_small (word_in at-start.args.text.now after-place.place.given.0.0 after-place.place.given.0.1.0)
           c.before.before.before.read_word.ensures c.before.negative.given.1,
     )
 

@@ -7,7 +7,7 @@ use lib.ListN.{length, get_or}
 use Rattle.nodes.specs.Nodes.{row_size}
 use Rattle.definitions.specs.Bytes.{same}
 use Rattle.pool.specs.Pool.{text_in}
-use Rattle.json_reader.proofs.Names.{Walking, walking, step_sizes, name_whole, found_Here, WalkedOn, not_found}
+use Rattle.json_reader.proofs.Names.{Walking, walking, step_sizes, name_whole, found_Here, walked_on, not_found}
 use Rattle.json_reader.proofs.name.has_name.Statement.{statement}
 use Rattle.json_reader.proofs.name.has_name.Tie as tie
 
@@ -101,7 +101,7 @@ loop_again c =
     Walking at-start.args.nodes.now at-start.args.pool.now at-start.args.from at-start.args.to at-start.args.w at-start.args.n
     (at-loop.loop.row + k))
     (sym c.row-size-in.ensures)
-    (WalkedOn at-start.args.nodes.now at-start.args.pool.now at-start.args.from at-start.args.to at-start.args.w at-start.args.n
+    (walked_on at-start.args.nodes.now at-start.args.pool.now at-start.args.from at-start.args.to at-start.args.w at-start.args.n
     at-loop.loop.row at-start.requires.0.within at-loop.loop.invariant in-loop.loop-test.true at-start.requires.0
     (said c.before.before) c.before.if1.false)
 

@@ -141,7 +141,7 @@ value_claims t = (
 )
 
 -- what has been read of the list, whatever the tables were before
-ListOpen
+list_open
     : (t : ℕ) (c : read-list-lts.After-known-told (list_claims t) (read_list_at t) read-list.Post read-list-Inv-loop read-list-μ-loop) (ns ps : List ℕ)
     → let at-loop = c.before.before.before in
     let after-first-part = at-loop.before.before.before in
@@ -150,7 +150,7 @@ ListOpen
     at-start.args.pool.now at-start.args.name at-start.args.c after-first-part.first_part.result
     → OpenParts square 0 (next_of square) 1 at-start.args.left at-start.args.values at-start.args.doc.now ns ps at-loop.loop.nodes
     at-loop.loop.pool at-start.args.c c.before.turn.given.0.0 c.before.turn.given.0.1.0
-ListOpen t c ns ps h =
+list_open t c ns ps h =
     let at-loop = c.before.before.before in
     let at-start = at-loop.before.before.before.before.before.before.before.before in
     subst (λ (u : Turn).
@@ -170,7 +170,7 @@ list_here
 list_here t c =
     let after-first-part = c.before.before.before.before.before.before in
     let at-start = after-first-part.before.before.before.before.before in
-    ListOpen t c at-start.args.nodes.now at-start.args.pool.now
+    list_open t c at-start.args.nodes.now at-start.args.pool.now
     (after-first-part.first_part.ensures square refl refl 0 at-start.args.left at-start.args.pool.now)
 
 list_used
@@ -182,7 +182,7 @@ list_used t c =
     used_within c.before.turn.given.0.0 (part_ready square at-start.args.c c.before.turn.given.0.0 at-start.requires.1.0 (list_here t c))
 
 -- the element that was read
-ListRead
+list_read
     : (t : ℕ) (c : read-list-lts.After-known-told2 (list_claims t) (read_list_at t) read-list.Post read-list-Inv-loop read-list-μ-loop)
     → let after-read-value = c.before.before.before.before.before.before.before.before in
     let after_turn_lem = after-read-value.before.before.before.before in
@@ -191,7 +191,7 @@ ListRead
     Reads Gap.value after_turn_lem.turn.given.0.0.begun at-start.args.left at-start.args.values at-start.args.doc.now at-loop.loop.nodes
     at-loop.loop.pool after-read-value.read-value.new.1.0 after-read-value.read-value.new.1.1.0 0 after_turn_lem.turn.given.0.0
     (Done c.before.to.given.0.0)
-ListRead t c =
+list_read t c =
     let after-read-value = c.before.before.before.before.before.before.before.before in
     as_word (sym c.before.to.given.1 ∙ c.before.before.before.opened.ensures) after-read-value.read-value.ensures
 
@@ -212,7 +212,7 @@ list_behind t c =
     let at-loop = after-known-told.before.before.before in
     let at-start = at-loop.before.before.before.before.before.before.before.before in
     element_read at-start.args.c after-known-told.before.turn.given.0.0 (list_used t after-known-told) (list_here t after-known-told)
-    (ListRead t after-known-told2) c.row_written.ensures
+    (list_read t after-known-told2) c.row_written.ensures
 
 list_small
     : (t : ℕ) (c : read-list-lts.After-row-written (list_claims t) (read_list_at t) read-list.Post read-list-Inv-loop read-list-μ-loop)
@@ -445,7 +445,7 @@ read_list_next_part_requires t c κs =
     behind_ready square at-start.args.c after-known-told.before.turn.given.0.0 after-known-told2.before.to.given.0.0 at-start.requires.1.0
     (omega arith) (omega arith)
     (omega (arith, (list_here t after-known-told).counted))
-    (ListRead t after-known-told2).answer
+    (list_read t after-known-told2).answer
     (list_behind t c.before)
 
 read_list_loop_less : (t : ℕ) → read-list-lts.Need-loop-smaller (list_claims t) (read_list_at t) read-list.Post read-list-Inv-loop read-list-μ-loop
@@ -458,7 +458,7 @@ read_list_loop_less t c =
     let at-start = at-loop.before.before.before.before.before.before.before.before in
     subst (λ (u : Turn). to_read at-start.args.doc.now after-next-part.next-part.result < to_read at-start.args.doc.now u)
     (sym after_turn_lem.turn.given.1)
-    (let m = (ListRead t after-known-told2).answer.moves in
+    (let m = (list_read t after-known-told2).answer.moves in
     reads_less at-start.args.doc.now after_turn_lem.turn.given.0.0 after-known-told2.before.to.given.0.0
     after_turn_lem.turn.given.0.1.0 after-next-part.next-part.result m.ahead m.within after-next-part.next-part.ensures.ahead)
 
@@ -473,8 +473,8 @@ read_list_loop_again t c =
     λ ns ps h.
     c.before.before.next-part.ensures.answer square refl refl 0 at-start.args.left at-start.args.values ns ps
     after-read-value.read-value.new.1.1.0
-    (element_read at-start.args.c after-known-told.before.turn.given.0.0 (list_used t after-known-told) (ListOpen t after-known-told ns ps h)
-    (ListRead t after-known-told2) after-row-written.row_written.ensures)
+    (element_read at-start.args.c after-known-told.before.turn.given.0.0 (list_used t after-known-told) (list_open t after-known-told ns ps h)
+    (list_read t after-known-told2) after-row-written.row_written.ensures)
 
 read_list_returns_2 : (t : ℕ) → read-list-lts.Need-returns-2 (list_claims t) (read_list_at t) read-list.Post read-list-Inv-loop read-list-μ-loop
 read_list_returns_2 t c =

@@ -2,10 +2,10 @@
 -- Assumes nothing.
 use Prim.Native.Nat.{◌-◌}
 use mathlib.Core.Path.{refl}
-use Rattle.text.proofs.Puts.{Copied, copied_start, copied_place, copied_room, CopiedNext, copied_done}
+use Rattle.text.proofs.Puts.{Copied, copied_start, copied_place, copied_room, copied_next, copied_done}
 use native.Mathlib.Omega.{arith}
 use Prim.Native.Nat.{◌-◌}
-use Rattle.text.proofs.Puts.{Copied, copied_start, copied_place, copied_room, CopiedNext, copied_done}
+use Rattle.text.proofs.Puts.{Copied, copied_start, copied_place, copied_room, copied_next, copied_done}
 use Rattle.text.proofs.pieces.copy.Statement.{statement}
 use Rattle.text.proofs.pieces.copy.Tie as tie
 
@@ -69,7 +69,7 @@ loop_again c =
     let l = after-put-byte.before.before.before.before.loop in
     let a = after-put-byte.before.before.before.before.before.before.before.args in
     let p = after-put-byte.before.before.before.before.before.before.before.requires in
-    CopiedNext a.src.now a.from a.to a.pool.now a.w a.n l.pool l.i l.invariant p.2 after-put-byte.put_byte.new.0 _
+    copied_next a.src.now a.from a.to a.pool.now a.w a.n l.pool l.i l.invariant p.2 after-put-byte.put_byte.new.0 _
     after-put-byte.before.before.before.loop-test.true p.1 refl after-put-byte.put_byte.ensures
 
 same_length : tie.Need-same-length invariant-loop decreases-loop
