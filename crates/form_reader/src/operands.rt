@@ -23,7 +23,7 @@ fn slot_of(text: &[u8], at: usize, end: usize, bound: usize) -> Slot
     requires { (at < end) × (end ≤ length text.now) }
     ensures told { SlotAnswer bound (word_in text.now at end) result }
 {
-    if text[at] == b'_' {
+    if text[at] == b'-' {
         return Slot::Nothing;
     }
     match word::read_word(&text[at..end]) {

@@ -76,6 +76,6 @@ pub fn write_minus(out: &mut [u8], at: usize, negative: bool)
     ensures { out.new ≡ written out.old at (minus negative) }
 {
     if negative {
-        out[at] = b'_';
+        out[at] = b'-';
     }
 }

@@ -150,7 +150,7 @@ pub fn read_number(doc: &[u8], at: usize) -> NumberRead
     requires { at ≤ length doc.now }
     ensures { ReadsNumber doc.now at result }
 {
-    let negative = stands_at(doc, at, b'_');
+    let negative = stands_at(doc, at, b'-');
     let start = behind_minus(at, negative);
     let point = whole_end(doc, start);
     let end = fraction_end(doc, point);

@@ -98,7 +98,7 @@ fn point_step(b: u8) -> NumberStep
 fn begin_step(b: u8) -> NumberStep
     ensures { step_of result ≡ look (next begin) b }
 {
-    if b == b'_' {
+    if b == b'-' {
         return NumberStep::To(NumberPhase::AfterMinus);
     }
     int_step(b)
@@ -128,7 +128,7 @@ fn in_frac_step(b: u8) -> NumberStep
 fn after_e_step(b: u8) -> NumberStep
     ensures { step_of result ≡ look (next after_e) b }
 {
-    if b == b'_' {
+    if b == b'-' {
         return NumberStep::To(NumberPhase::AfterSign);
     }
     if b == b'+' {
