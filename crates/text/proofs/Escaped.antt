@@ -87,6 +87,7 @@ hit_two (there _ (there _ (there _ (here i)))) = record { both = refl; some_byte
 hit_two (there _ (there _ (there _ (there _ (here i))))) = record { both = refl; some_byte = omega arith }
 hit_two (there _ (there _ (there _ (there _ (there _ (here i)))))) = record { both = refl; some_byte = omega arith }
 hit_two (there _ (there _ (there _ (there _ (there _ (there _ (here i))))))) = record { both = refl; some_byte = omega arith }
+hit_two {b = b} {e = e} (there _ (there _ (there _ (there _ (there _ (there _ (there _ x98))))))) = elim x98 [ ]
 
 data Short (b : ℕ) : Type 0 where
   is_short : escaped b ≡ 0x5C ∷ short_form b ∷ [] → 0 < short_form b → Short b

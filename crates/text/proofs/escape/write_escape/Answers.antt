@@ -1,0 +1,65 @@
+-- `text::escape::write_escape` meets its contract: how a byte is written goes by its short form (`Escaped`). Assumes nothing.
+use Prim.Native.Nat.{◌+◌}
+use mathlib.Core.Path.{refl, sym, ap}
+use lib.ListN.{length, length-set}
+use Rattle.definitions.specs.Plain.{escaped}
+use Rattle.text.proofs.Escaped.{escaped_short, escaped_hex, escaped_itself, length_hex_escape}
+use Rattle.text.proofs.Writing.{writes_none, writes_next, writes_same}
+use native.Mathlib.Omega.{arith}
+use Rattle.text.proofs.escape.write_escape.Goals as goal
+
+pub bounds-out-at : goal.bounds-out-at
+bounds-out-at c =
+    omega (arith, ap length (escaped_short _ c.short_form-c.result c.short_form-c.ensures.found c.if-c-ne0.true), c.requires)
+
+pub bounds-out-at-then-c-ne0 : goal.bounds-out-at-then-c-ne0
+bounds-out-at-then-c-ne0 c =
+    simp length-set (omega (
+      arith,
+      ap length (escaped_short _ c.short_form-c.result c.short_form-c.ensures.found c.if-c-ne0.true),
+      c.requires,
+    ))
+
+pub shape_of-out-then-c-ne0 : goal.shape_of-out-then-c-ne0
+shape_of-out-then-c-ne0 c = simp length-set
+
+pub returns-then-c-ne0 : goal.returns-then-c-ne0
+returns-then-c-ne0 c =
+    record { written = let a = c.args in
+    let e = (escaped_short _ c.short_form-c.result c.short_form-c.ensures.found c.if-c-ne0.true) in
+    let s = ap length e in
+    let l = c.requires in
+    writes_same (escaped a.b) (a.at + 2)
+    (writes_next (a.at + 1) c.short_form-c.result
+    (writes_next a.at 0x5C (writes_none a.out.now a.at) refl (omega arith)) refl (omega arith))
+    (sym e) (omega arith) }
+
+pub write_hex-requires : goal.write_hex-requires
+write_hex-requires c =
+    let e = (escaped_hex _ c.short_form-c.result c.short_form-c.ensures.found c.if-c-ne0.false
+    c.if-b-lt32.true) in
+    omega (arith, ap length e, length_hex_escape c.args.b, c.requires)
+
+pub returns-then-b-lt32 : goal.returns-then-b-lt32
+returns-then-b-lt32 c =
+    record { written = let a = c.args in
+    writes_same (escaped a.b) c.write_hex.result c.write_hex.ensures.written
+    (sym (escaped_hex _ c.short_form-c.result c.short_form-c.ensures.found c.if-c-ne0.false
+    c.if-b-lt32.true))
+    refl }
+
+pub bounds-out-at-2 : goal.bounds-out-at-2
+bounds-out-at-2 c =
+    omega (
+      arith,
+      ap length (escaped_itself _ c.short_form-c.result c.short_form-c.ensures.found c.if-c-ne0.false c.if-b-lt32.false),
+      c.requires,
+    )
+
+pub returns : goal.returns
+returns c =
+    record { written = let a = c.args in
+    let e = (escaped_itself _ c.short_form-c.result c.short_form-c.ensures.found c.if-c-ne0.false c.if-b-lt32.false) in
+    let s = ap length e in
+    let l = c.requires in
+    writes_same (escaped a.b) (a.at + 1) (writes_next a.at a.b (writes_none a.out.now a.at) refl (omega arith)) (sym e) refl }
