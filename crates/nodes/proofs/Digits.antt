@@ -18,6 +18,8 @@ one_less (suc k) digits h e = digit_zero k digits e ∙ ap (λ (j : ℕ). ends_i
   where
     less : k ≡ suc k - 1
     less = omega arith
+one_less Prim.Native.Nat.zero digits h e = elim h [ ]
 
 pub no_zero : (left digits : ℕ) → 0 < left → (digits % 10 ≡ 0 → ⊥) → false ≡ ends_in_zeros left digits
 no_zero (suc k) digits h f = sym (digit_other k digits f)
+no_zero Prim.Native.Nat.zero digits h f = elim h [ ]

@@ -197,6 +197,7 @@ module _ {text : Bytes} {start r : ℕ} (s : Skips text start r) where
       where
         a_word_of : {w : Bytes} → WordBytes w → 0 < length w → Word w
         a_word_of (next_byte x k) l = a_word (next_byte x k)
+        a_word_of Rattle.laws.specs.TokenGrammar.no_bytes l = elim l [ ]
 
         stops : Dec (end < length text) → WordEnd (drop end text)
         stops (yes l) = subst WordEnd (sym (byte_here text end l)) (at_a_border (g.stops l))

@@ -1,0 +1,10 @@
+-- `slices::document_short` meets its contract. Assumes nothing.
+use mathlib.Core.Path.{ap, ◌∙◌}
+use mathlib.Core.List.{[], ◌∷◌}
+use Rattle.definitions.specs.Operations.{slices_short}
+use Rattle.slices.proofs.document_short.Goals as goal
+
+pub returns : goal.returns
+returns c =
+    record { told = let a = c.args in
+    c.two_short.ensures.told ∙ ap (λ ms. slices_short ms (a.nodes ∷ a.pool ∷ [])) (cc) }
