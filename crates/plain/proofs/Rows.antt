@@ -82,12 +82,12 @@ pub record Own (v : Value) (m : ℕ) (rs qs : List ℕ) : Type 0 where
   pub same : rs ≡ head_word v ∷ 3 * size v ∷ m ∷ qs
 
 pub list_apart
-    : {p rs : List ℕ} {m : ℕ} {vs : Items} → Rows p m (Value.list vs) rs
+    : {p : List ℕ} {m : ℕ} {vs : Items} {rs : List ℕ} → Rows p m (Value.list vs) rs
     → (qs : List ℕ) × ItemRows p vs qs × Own (Value.list vs) m rs qs
 list_apart (list_rows r) = (_, r, record { same = refl })
 
 pub rec_apart
-    : {p rs : List ℕ} {m : ℕ} {ms : Members} → Rows p m (Value.rec ms) rs
+    : {p : List ℕ} {m : ℕ} {ms : Members} {rs : List ℕ} → Rows p m (Value.rec ms) rs
     → (qs : List ℕ) × MemberRows p ms qs × Own (Value.rec ms) m rs qs
 rec_apart (rec_rows r) = (_, r, record { same = refl })
 
