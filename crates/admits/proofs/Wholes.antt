@@ -18,7 +18,7 @@ use Rattle.plain.specs.Table.{BoundedNumbers, Holds}
 use Rattle.shapes.specs.Shapes.{kind_bit, has_bit, size_at, members_at}
 use Rattle.shapes.specs.ShapesLaws.{has_kind}
 use Rattle.shapes.specs.Held.{HoldsShape, HoldsFields}
-use Rattle.shapes.specs.HeldLaws.{held-kinds, held_element, held_members, members_within as held_members_within}
+use Rattle.shapes.specs.HeldLaws.{held_kinds, held_element, held_members, members_within as held_members_within}
 use Rattle.admits.specs.Admission.{HoldsItems, HoldsMembers, ValueAsked, ValueTold, ItemsAsked, ItemsTold, MembersAsked, MembersTold, NullsTold}
 use Rattle.admits.proofs.KindBits.{code_told, lacks_kind, kind_enough, int_bit}
 
@@ -51,7 +51,7 @@ module _ (shapes : List ℕ) (row : ℕ) (nodes : List ℕ) (at : ℕ) (pool : L
         coded = λ v h. e _ _ v (standing h) h.bounded;
         there = λ s k v h.
             g
-            ∙ ap₂ (λ (x y : ℕ). has_bit x y) (f ∙ held-kinds k) (e _ _ v (standing h) h.bounded)
+            ∙ ap₂ (λ (x y : ℕ). has_bit x y) (f ∙ held_kinds k) (e _ _ v (standing h) h.bounded)
             ∙ has_kind (kind_of v) s;
       }
 

@@ -127,10 +127,10 @@ int_given = refl
 
 -- ---- literals
 
-number-kinds : (x : Number) (i : Bool) → i ≡ is_int x → kind_bits (only_numeric (numeric_of x)) ≡ elim i [ true ↦ 4 | false ↦ 12 ]
+number_kinds : (x : Number) (i : Bool) → i ≡ is_int x → kind_bits (only_numeric (numeric_of x)) ≡ elim i [ true ↦ 4 | false ↦ 12 ]
 unfolding numeric_of kind_bits only_numeric bit numeric_bits has_list has_rec
-number-kinds x true e = ap (λ (b : Bool). kind_bits (only_numeric (elim b [ true ↦ int_only | false ↦ int_and_dec ]))) (sym e)
-number-kinds x false e = ap (λ (b : Bool). kind_bits (only_numeric (elim b [ true ↦ int_only | false ↦ int_and_dec ]))) (sym e)
+number_kinds x true e = ap (λ (b : Bool). kind_bits (only_numeric (elim b [ true ↦ int_only | false ↦ int_and_dec ]))) (sym e)
+number_kinds x false e = ap (λ (b : Bool). kind_bits (only_numeric (elim b [ true ↦ int_only | false ↦ int_and_dec ]))) (sym e)
 
 number_literal
     : (code operand payload : ℕ) (i : Bool) → code ≡ 12
@@ -140,7 +140,7 @@ unfolding literal_code shape_of
 number_literal code operand payload i e told p Value.null l f g k = omega arith
 number_literal code operand payload i e told p (Value.bool true) l f g k = omega arith
 number_literal code operand payload i e told p (Value.bool false) l f g k = omega arith
-number_literal code operand payload i e told p (Value.number x) l f g number_payload = number-kinds x i (told x g refl)
+number_literal code operand payload i e told p (Value.number x) l f g number_payload = number_kinds x i (told x g refl)
 number_literal code operand payload i e told p (Value.text t) l f g k = omega arith
 number_literal code operand payload i e told p (Value.list vs) l f g k = omega arith
 number_literal code operand payload i e told p (Value.rec ms) l f g k = omega arith

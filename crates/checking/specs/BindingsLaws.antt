@@ -12,7 +12,7 @@ use Rattle.definitions.specs.Checking.{gain_null, stay, cut_to, taken_out, eleme
 use Rattle.laws.specs.Bools.{and_left, and_right, clash}
 use Rattle.laws.specs.Fields.{none_some, find_cases, find_none, find_ascending}
 use Rattle.shapes.specs.Shapes.{bit, numeric_bits, kind_bits, Stands, FieldsStand, members_at, size_at}
-use Rattle.shapes.specs.ShapesLaws.{stands-kinds, stands_element, stands_members}
+use Rattle.shapes.specs.ShapesLaws.{stands_kinds, stands_element, stands_members}
 use Rattle.forms.specs.Forms.{slot}
 use Rattle.checking.specs.KindSets.{stay_element_of, stay_record_of}
 use Rattle.checking.specs.Bindings.{Bound, binding, Bindings, Kept, Binds}
@@ -38,7 +38,7 @@ bound_whole {m} {s} h a l =
 pub bound_row
     : {shapes p : List ℕ} {deep row m : ℕ} {s : Shape} → Stands shapes p row m s → ascending s ≡ true → levels s ≤ deep
     → Bound shapes p deep row (get_or shapes row 0 % 128) s
-bound_row {shapes} {p} {deep} {row} {s} h a l = rw (stands-kinds h) (bound_whole h a l)
+bound_row {shapes} {p} {deep} {row} {s} h a l = rw (stands_kinds h) (bound_whole h a l)
 
 pub bound_nothing : {shapes p : List ℕ} {deep row kinds : ℕ} {s : Shape} → Bound shapes p deep row kinds s → Bound shapes p deep row 0 nothing
 unfolding nothing kind_bits bit numeric_bits has_list has_rec element_of record_of

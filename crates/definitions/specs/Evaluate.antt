@@ -39,7 +39,7 @@ unfolding Limits.standard Limits.smallest Limits.in_range Bytes.bytes Bytes.betw
     ShapeText.with_kind ShapeText.with_element ShapeText.with_member ShapeText.put ShapeText.depth ShapeText.fields_onto ShapeText.numeric_from
     ShapeText.record_from ShapeText.build ShapeText.kind_name ShapeText.kind_words ShapeText.shape_words ShapeText.member_words ShapeText.in_order
     ShapeText.may_follow ShapeText.name_fits ShapeText.member_step ShapeText.element_step ShapeText.bracket_step ShapeText.kind_step ShapeText.want_step
-    ShapeText.step ShapeText.finished ShapeText.read_shape ShapeText.write-kinds ShapeText.new_line ShapeText.write ShapeText.write_shape Reader.use_place
+    ShapeText.step ShapeText.finished ShapeText.read_shape ShapeText.write_kinds ShapeText.new_line ShapeText.write ShapeText.write_shape Reader.use_place
     Reader.put_place Reader.use_result Reader.put_result Reader.depth Reader.place_depth Reader.binds Reader.bindings Reader.place_bindings Reader.word_number
     Reader.index_fits Reader.among_pairs Reader.pairs_onto Reader.test_words Reader.place_words Reader.result_words Reader.index_step Reader.literal_step
     Reader.pack_step Reader.want_step Reader.step Reader.finished_result Reader.finished_place Reader.empty_reader Reader.read_result Reader.read_reader

@@ -192,9 +192,9 @@ read_shape l s = read_tokens step finished l 0 (length s) (want (shape_open text
 -- ---- writing
 
 -- "words and names follow after single spaces": those of the shape's kinds
-unfoldable pub write-kinds : Shape → List Kind → Bytes
-write-kinds s [] = []
-write-kinds s (k ∷ ks) = elim (has k s) [ true ↦ bytes " " ++ kind_name k | false ↦ [] ] ++ write-kinds s ks
+unfoldable pub write_kinds : Shape → List Kind → Bytes
+write_kinds s [] = []
+write_kinds s (k ∷ ks) = elim (has k s) [ true ↦ bytes " " ++ kind_name k | false ↦ [] ] ++ write_kinds s ks
 
 -- "one form a line, indented by one space for each form around it"
 unfoldable pub new_line : ℕ → Bytes
@@ -205,7 +205,7 @@ unfoldable mutual
   pub write : Shape → ℕ → Bytes
   write (shape n b m t e r) around =
       bytes "(shape"
-      ++ write-kinds (shape n b m t e r) all_kinds
+      ++ write_kinds (shape n b m t e r) all_kinds
       ++ write_element e (suc around)
       ++ write_record r (suc around)
       ++ bytes ")"

@@ -8,7 +8,7 @@ use lib.ListN.{length, get_or}
 use Rattle.definitions.specs.Shape.{Shape, shape, no_list, list_of, nothing, has_list, has_rec, element_of, forms, forms_element}
 use Rattle.laws.specs.Bools.{clash}
 use Rattle.shapes.specs.Shapes.{bit, numeric_bits, kind_bits, has_bit, head_of, head_word, ShapeRows, shape_rows, no_element_rows, no_record_rows, Stands}
-use Rattle.shapes.specs.ShapesLaws.{stands-kinds, stands_element, has_list_bit}
+use Rattle.shapes.specs.ShapesLaws.{stands_kinds, stands_element, has_list_bit}
 use Rattle.join.specs.Replacing.{Put, Puts}
 use Rattle.join.specs.declared.Joined.{Joined}
 use Rattle.join.specs.declared.Joined.TheVariants.{Grown, Full}
@@ -28,7 +28,7 @@ module _ {t p : List ℕ} {row m : ℕ} (used : ℕ) where
       → Put t t used 0 (row + 2) (2 * forms_element (element_of s)) (ShapeRows p 0 (element_start (element_of s)))
   unfolding forms element_of element_start has_list
   ready_listed (shape n b k x no_list r) h i j e =
-      clash e (ap (λ (y : ℕ). has_bit y 32) (stands-kinds h) ∙ has_list_bit n b k x no_list r)
+      clash e (ap (λ (y : ℕ). has_bit y 32) (stands_kinds h) ∙ has_list_bit n b k x no_list r)
   ready_listed (shape n b k x (list_of a) r) h i j e = kept_put (stands_element h) (omega arith) j
 
   pub ready_opened
@@ -48,4 +48,4 @@ module _ {t p : List ℕ} {row m : ℕ} (used : ℕ) where
       record { rows = q.rows; encoded = nothing_rows 0 q.encoded; replaced = q.replaced }
   ready_opened t' (shape n b k x no_list r) h e Full q = q
   ready_opened t' (shape n b k x (list_of a) r) h e o q =
-      clash (ap (λ (y : ℕ). has_bit y 32) (stands-kinds h) ∙ has_list_bit n b k x (list_of a) r) e
+      clash (ap (λ (y : ℕ). has_bit y 32) (stands_kinds h) ∙ has_list_bit n b k x (list_of a) r) e

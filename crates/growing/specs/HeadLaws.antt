@@ -6,7 +6,7 @@ use Rattle.definitions.specs.Shape.{Shape, shape, Element, no_list, list_of, Rec
 use Rattle.definitions.specs.Shape.{nothing, has_list, has_rec, element_of, record_of, only_list, only_rec, forms}
 use Rattle.definitions.specs.Join.{with_null, join, join_element, join_record, join_fields, add_null}
 use Rattle.shapes.specs.Shapes.{head_of, head_word, bit, numeric_bits, kind_bits, size_at, ShapeRows, shape_rows, ElementRows, RecordRows, Stands}
-use Rattle.shapes.specs.ShapesLaws.{kind_bits_lt, union_bits, head-kinds, head_size, stands-kinds, stands_size}
+use Rattle.shapes.specs.ShapesLaws.{kind_bits_lt, union_bits, head_kinds, head_size, stands_kinds, stands_size}
 use Rattle.join.specs.Replacing.{Put}
 use Rattle.join.specs.ReplacingLaws.{Split, split_used, split_put, split_replaced, split_drop, stands_split}
 use Rattle.growing.specs.Growing.{with_element, with_fields}
@@ -85,7 +85,7 @@ pub raise_fits
     → bit_or (kind_bits s) kinds ≡ kind_bits u → 2 * forms s + words ≡ 2 * forms u → 2 * forms u < 2 ^ 56
     → head_of (bit_or (get_or t row 0 % 128) kinds) (size_at t row + words) < 2 ^ 64
 raise_fits {t} {p} {row} {m} {s} kinds words u h f g l =
-    subst (λ (x : ℕ). x < 2 ^ 64) (sym (head_raised t row kinds words s u (stands-kinds h) (stands_size h) f g)) (head_fits u l)
+    subst (λ (x : ℕ). x < 2 ^ 64) (sym (head_raised t row kinds words s u (stands_kinds h) (stands_size h) f g)) (head_fits u l)
 
 -- a word put at a row, in the used words
 pub put_split
@@ -135,7 +135,7 @@ pub kinds_put
 kinds_put {t} {t'} {p} {used} {row} {m} {s} {u} kinds h i j k b l e =
     let a = apart h.encoded in
     let w = subst (λ (x : List ℕ). Split t used row (2 * forms s) (take row t) x (drop (row + 2 * forms s) (take used t))) a.same (stands_split h i j) in
-    let f = head_raised t row kinds 0 s u (stands-kinds h) (stands_size h) b (omega (arith, k.counts)) in
+    let f = head_raised t row kinds 0 s u (stands_kinds h) (stands_size h) b (omega (arith, k.counts)) in
     let w' = put_split (head_word u) (e ∙ ap (λ (x : ℕ). take row t ++ x ∷ drop (row + 1) t) f) w in
     record {
       rows = head_word u ∷ m ∷ a.es ++ a.rs;
@@ -167,7 +167,7 @@ module _
     unfolding size_at
     risen_head =
         head_raised t₂ row kinds words s u
-        (ap (λ (x : ℕ). x % 128) (head_at h.split) ∙ head-kinds s)
+        (ap (λ (x : ℕ). x % 128) (head_at h.split) ∙ head_kinds s)
         (ap (λ (x : ℕ). x / 128) (head_at h.split) ∙ head_size s)
         b
         h.counts

@@ -10,7 +10,7 @@ use Rattle.definitions.specs.Shape.{element_of, record_of, forms, forms_element,
 use Rattle.plain.specs.Table.{Used}
 use Rattle.shapes.specs.Shapes.{kind_bit, has_bit, head_word, size_at, members_at, ElementRows}
 use Rattle.shapes.specs.Shapes.{RecordRows, no_record_rows, record_rows, FieldRows, no_field_rows, Stands, FieldsStand}
-use Rattle.shapes.specs.ShapesLaws.{has_kind, stands-kinds, stands_size, stands_row, members_at_is, length_field_rows, length_element_rows}
+use Rattle.shapes.specs.ShapesLaws.{has_kind, stands_kinds, stands_size, stands_row, members_at_is, length_field_rows, length_element_rows}
 use Rattle.join.specs.Replacing.{Put, Over}
 use Rattle.join.specs.ReplacingLaws.{Split, stands_split, split_inner, split_outer, split_fields, replaced_split}
 use Rattle.growing.specs.Growing.{fields_start, with_fields}
@@ -41,7 +41,7 @@ pub had_told
     → had ≡ has_rec (record_of s)
 unfolding kind_bit
 had_told {s = s} h e f =
-    f ∙ ap (λ (x : ℕ). has_bit x 64) (e ∙ stands-kinds h) ∙ has_kind Kind.rec s ∙ has_record s
+    f ∙ ap (λ (x : ℕ). has_bit x 64) (e ∙ stands_kinds h) ∙ has_kind Kind.rec s ∙ has_record s
 
 members_first : {t p : List ℕ} {row m : ℕ} (s : Shape) → Stands t p row m s → members_at t row ≡ row + 2 + 2 * forms_element (element_of s)
 unfolding element_of

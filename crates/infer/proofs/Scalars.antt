@@ -52,13 +52,13 @@ bits_bool (Value.text t) e l f g h = absurd (h (omega arith))
 bits_bool (Value.list vs) e l f g h = absurd (let z : ⊥ = omega arith in z)
 bits_bool (Value.rec ms) e l f g h = absurd (let z : ⊥ = omega arith in z)
 
-numeric-kinds
+numeric_kinds
     : (b : Bool)
     → elim b as (λ (x : Bool). ℕ) [ true ↦ 4 | false ↦ 12 ]
     ≡ kind_bits (only_numeric (elim b as (λ (x : Bool). Numeric) [ true ↦ int_only | false ↦ int_and_dec ]))
 unfolding kind_bits bit numeric_bits has_list has_rec only_numeric
-numeric-kinds true = refl
-numeric-kinds false = refl
+numeric_kinds true = refl
+numeric_kinds false = refl
 
 pub bits_number
     : {nodes p : List ℕ} {at k r : ℕ} {int : Bool} (v : Value) → ValueStands nodes p at k v → BoundedNumbers v → kind_code v ≡ 3
@@ -71,7 +71,7 @@ bits_number (Value.bool false) h b e f g = absurd (let z : ⊥ = omega arith in 
 bits_number (Value.number x) h b e f g =
     g
     ∙ ap (λ (y : Bool). elim y as (λ (z : Bool). ℕ) [ true ↦ 4 | false ↦ 12 ]) (f x (number_stands h (omega (arith, b.scale))))
-    ∙ numeric-kinds (is_int x)
+    ∙ numeric_kinds (is_int x)
 bits_number (Value.text t) h b e f g = absurd (let z : ⊥ = omega arith in z)
 bits_number (Value.list vs) h b e f g = absurd (let z : ⊥ = omega arith in z)
 bits_number (Value.rec ms) h b e f g = absurd (let z : ⊥ = omega arith in z)

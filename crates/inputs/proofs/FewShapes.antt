@@ -40,9 +40,9 @@ long_shape : long_names 5 shape_words ≡ true
 unfolding evaluate
 long_shape = refl
 
-long-kinds : long_names 3 kind_words ≡ true
+long_kinds : long_names 3 kind_words ≡ true
 unfolding evaluate
-long-kinds = refl
+long_kinds = refl
 
 long_member : long_names 6 member_words ≡ true
 unfolding evaluate
@@ -63,10 +63,10 @@ member_pays k p o (word w) h = tt
 member_pays k p o broken h = tt
 
 -- an element stands behind a kind
-some-kinds : (ks : List Kind) → among Kind.list ks ≡ true → kinds_owe ks ≡ 0
+some_kinds : (ks : List Kind) → among Kind.list ks ≡ true → kinds_owe ks ≡ 0
 unfolding among
-some-kinds [] e = absurd (false≢true e)
-some-kinds (k ∷ ks) e = refl
+some_kinds [] e = absurd (false≢true e)
+some_kinds (k ∷ ks) e = refl
 
 kinds_owe_one : (ks : List Kind) → kinds_owe ks ≤ 1
 kinds_owe_one [] = omega arith
@@ -80,7 +80,7 @@ bracket_pays p o t = told (among Kind.list p.kinds) refl
         : (x : Bool) → among Kind.list p.kinds ≡ x
         → Pays 7 owes (kinds_owe p.kinds) (width t) (elim x as (λ z. Step State) [ true ↦ element_step p o t | false ↦ member_step p o t ])
     told true f =
-        open_pays 7 owes _ t (opens (suc (suc (depth o))) (want (shape_word (as_element p o)))) (some-kinds p.kinds f, omega arith, omega arith)
+        open_pays 7 owes _ t (opens (suc (suc (depth o))) (want (shape_word (as_element p o)))) (some_kinds p.kinds f, omega arith, omega arith)
     told false f = member_pays _ p o t (kinds_owe_one p.kinds)
 
 kind_pays : (p : Parts) (o : Around) (t : Token) → Pays 7 owes (kinds_owe p.kinds) (width t) (kind_step p o t)
@@ -90,7 +90,7 @@ kind_pays p o closing = bracket_pays p o closing
 kind_pays p o (quoted t) = tt
 kind_pays p o (word w) =
     found_pays 7 owes 3 (kinds_owe p.kinds) kind_words w (λ k. where_true (may_follow p.kinds k) (go (want (kind_word (with_kind k p) o))))
-    long-kinds (λ k h. true_pays 7 owes _ (length w) (may_follow p.kinds k) (go (want (kind_word (with_kind k p) o))) (more k h))
+    long_kinds (λ k h. true_pays 7 owes _ (length w) (may_follow p.kinds k) (go (want (kind_word (with_kind k p) o))) (more k h))
   where
     more : (k : Kind) → 3 ≤ length w → kinds_owe p.kinds ≤ kinds_owe (with_kind k p).kinds + length w
     more k h = omega (arith, kinds_owe_one p.kinds)

@@ -10,7 +10,7 @@ use Rattle.definitions.specs.Shape.{Numeric, Shape, shape, Element, no_list, lis
 use Rattle.definitions.specs.Shape.{rec_of, Fields, element_of, record_of, has_list, has_rec, forms}
 use Rattle.definitions.specs.Join.{join}
 use Rattle.shapes.specs.Shapes.{bit, has_bit, ShapeRows, element_rows, record_rows, FieldRows, Stands, FieldsStand, size_at, members_at}
-use Rattle.shapes.specs.ShapesLaws.{has_list_bit, has_rec_bit, stands-kinds, stands_size, stands_within}
+use Rattle.shapes.specs.ShapesLaws.{has_list_bit, has_rec_bit, stands_kinds, stands_size, stands_within}
 use Rattle.shapes.specs.ShapesLaws.{stands_element, stands_members, members_at_is, fields_end, forms_some}
 use Rattle.join.specs.Replacing.{Replaced, Put, Over}
 use Rattle.join.specs.ReplacingLaws.{put_map}
@@ -26,12 +26,12 @@ clash p q r = absurd (false≢true (sym q ∙ sym r ∙ p))
 pub bit_list
     : {t p : List ℕ} {row m : ℕ} {n b x : Bool} {k : Numeric} {e : Element} {r : Record} → Stands t p row m (shape n b k x e r)
     → has_bit (get_or t row 0 % 128) 32 ≡ has_list e
-bit_list {n} {b} {x} {k} {e} {r} h = ap (λ (y : ℕ). has_bit y 32) (stands-kinds h) ∙ has_list_bit n b k x e r
+bit_list {n} {b} {x} {k} {e} {r} h = ap (λ (y : ℕ). has_bit y 32) (stands_kinds h) ∙ has_list_bit n b k x e r
 
 pub bit_rec
     : {t p : List ℕ} {row m : ℕ} {n b x : Bool} {k : Numeric} {e : Element} {r : Record} → Stands t p row m (shape n b k x e r)
     → has_bit (get_or t row 0 % 128) 64 ≡ has_rec r
-bit_rec {n} {b} {x} {k} {e} {r} h = ap (λ (y : ℕ). has_bit y 64) (stands-kinds h) ∙ has_rec_bit n b k x e r
+bit_rec {n} {b} {x} {k} {e} {r} h = ap (λ (y : ℕ). has_bit y 64) (stands_kinds h) ∙ has_rec_bit n b k x e r
 
 -- ---- words before those replaced
 
@@ -93,14 +93,14 @@ module _ {shapes second p : List ℕ} {used row m other k end from to : ℕ} whe
     omega (arith, w.to_is, stands_size v.theirs, stands_within v.theirs),
   )
 
-  module _ (v-kinds : has_bit (get_or shapes row 0 % 128) 64 ≡ false) (t-kinds : has_bit (get_or second other 0 % 128) 64 ≡ true)
+  module _ (v_kinds : has_bit (get_or shapes row 0 % 128) 64 ≡ false) (t_kinds : has_bit (get_or second other 0 % 128) 64 ≡ true)
       (w : Putting shapes second row other end from to) where
     pub put_members_full
         : {shapes₁ : List ℕ} (s t : Shape) → Both shapes second p used row m other k s t → Over shapes shapes₁ used 0 (to - from)
         → Over shapes shapes₁ used (2 * forms s) (2 * forms (join_records s t))
     unfolding join_records record_of join forms has_rec
-    put_members_full (shape n b x y e (rec_of fs)) t v o = clash refl v-kinds (sym (bit_rec v.ours))
-    put_members_full (shape n b x y e no_rec) (shape n' b' x' y' e' no_rec) v o = clash t-kinds refl (bit_rec v.theirs)
+    put_members_full (shape n b x y e (rec_of fs)) t v o = clash refl v_kinds (sym (bit_rec v.ours))
+    put_members_full (shape n b x y e no_rec) (shape n' b' x' y' e' no_rec) v o = clash t_kinds refl (bit_rec v.theirs)
     put_members_full (shape n b x y e no_rec) (shape n' b' x' y' e' (rec_of gs)) v o =
         record { over = omega (arith, o.over, w.from_is, w.to_is, fields_end (stands_members v.theirs)); same = o.same }
 
@@ -110,8 +110,8 @@ module _ {shapes second p : List ℕ} {used row m other k end from to : ℕ} whe
         → shapes₂ ≡ take row shapes₁ ++ (get_or shapes₁ row 0 + 64 + 128 * words) ∷ drop (row + 1) shapes₁ → length shapes₂ ≡ length shapes₁
         → Put shapes shapes₂ used words row (2 * forms s) (ShapeRows p m (join_records s t))
     unfolding join_records record_of join forms has_rec bit
-    put_members_grown (shape n b x y e (rec_of fs)) t v q f g = clash refl v-kinds (sym (bit_rec v.ours))
-    put_members_grown (shape n b x y e no_rec) (shape n' b' x' y' e' no_rec) v q f g = clash t-kinds refl (bit_rec v.theirs)
+    put_members_grown (shape n b x y e (rec_of fs)) t v q f g = clash refl v_kinds (sym (bit_rec v.ours))
+    put_members_grown (shape n b x y e no_rec) (shape n' b' x' y' e' no_rec) v q f g = clash t_kinds refl (bit_rec v.theirs)
     put_members_grown (shape n b x y e no_rec) (shape n' b' x' y' e' (rec_of gs)) v q f g =
         let h = stands_members v.theirs in
         let l : FieldsStand second p from to gs
@@ -125,11 +125,11 @@ module _ {shapes second p : List ℕ} {used row m other k end from to : ℕ} whe
 -- ---- element
 
 module _ {shapes second p : List ℕ} {used row m other k count : ℕ} where
-  module _ (v-kinds : has_bit (get_or shapes row 0 % 128) 32 ≡ false) (t-kinds : has_bit (get_or second other 0 % 128) 32 ≡ true)
+  module _ (v_kinds : has_bit (get_or shapes row 0 % 128) 32 ≡ false) (t_kinds : has_bit (get_or second other 0 % 128) 32 ≡ true)
       (c : count ≡ size_at second (other + 2)) where
     pub put_element_room : (s t : Shape) → Both shapes second p used row m other k s t → other + 2 + count ≤ length second
     unfolding has_list
-    put_element_room s (shape n' b' x' y' no_list r') v = clash t-kinds refl (bit_list v.theirs)
+    put_element_room s (shape n' b' x' y' no_list r') v = clash t_kinds refl (bit_list v.theirs)
     put_element_room s (shape n' b' x' y' (list_of a) r') v =
         omega (arith, c, stands_size (stands_element v.theirs), stands_within (stands_element v.theirs))
 
@@ -137,8 +137,8 @@ module _ {shapes second p : List ℕ} {used row m other k count : ℕ} where
         : {shapes₁ : List ℕ} (s t : Shape) → Both shapes second p used row m other k s t → Over shapes shapes₁ used 0 count
         → Over shapes shapes₁ used (2 * forms s) (2 * forms (join_elements s t))
     unfolding join_elements element_of join forms has_list
-    put_element_full (shape n b x y (list_of d) r) t v o = clash refl v-kinds (sym (bit_list v.ours))
-    put_element_full (shape n b x y no_list r) (shape n' b' x' y' no_list r') v o = clash t-kinds refl (bit_list v.theirs)
+    put_element_full (shape n b x y (list_of d) r) t v o = clash refl v_kinds (sym (bit_list v.ours))
+    put_element_full (shape n b x y no_list r) (shape n' b' x' y' no_list r') v o = clash t_kinds refl (bit_list v.theirs)
     put_element_full (shape n b x y no_list r) (shape n' b' x' y' (list_of a) r') v o =
         record { over = omega (arith, o.over, c, stands_size (stands_element v.theirs)); same = o.same }
 
@@ -148,8 +148,8 @@ module _ {shapes second p : List ℕ} {used row m other k count : ℕ} where
         → shapes₂ ≡ take row shapes₁ ++ (get_or shapes₁ row 0 + 32 + 128 * words) ∷ drop (row + 1) shapes₁ → length shapes₂ ≡ length shapes₁
         → Put shapes shapes₂ used words row (2 * forms s) (ShapeRows p m (join_elements s t))
     unfolding join_elements element_of join forms has_list bit
-    put_element_grown (shape n b x y (list_of d) r) t v q f g = clash refl v-kinds (sym (bit_list v.ours))
-    put_element_grown (shape n b x y no_list r) (shape n' b' x' y' no_list r') v q f g = clash t-kinds refl (bit_list v.theirs)
+    put_element_grown (shape n b x y (list_of d) r) t v q f g = clash refl v_kinds (sym (bit_list v.ours))
+    put_element_grown (shape n b x y no_list r) (shape n' b' x' y' no_list r') v q f g = clash t_kinds refl (bit_list v.theirs)
     put_element_grown (shape n b x y no_list r) (shape n' b' x' y' (list_of a) r') v q f g =
         element_changed 32 v.ours v.within v.used_within
         (put_map (λ rows i. element_rows (copied_rows (stands_element v.theirs) c i)) q)

@@ -8,7 +8,7 @@ use lib.ListN.{length, get_or, take, drop}
 use Rattle.definitions.specs.Shape.{Numeric, Shape, shape, Element, Record, has_list, has_rec, forms, forms_element, forms_record}
 use Rattle.definitions.specs.Join.{with_null}
 use Rattle.shapes.specs.Shapes.{bit, has_bit, kind_bits, head_word, ShapeRows, shape_rows, ElementRows, RecordRows, Stands}
-use Rattle.shapes.specs.ShapesLaws.{has_null_bit, head-kinds, length_element_rows, length_record_rows}
+use Rattle.shapes.specs.ShapesLaws.{has_null_bit, head_kinds, length_element_rows, length_record_rows}
 use Rattle.join.specs.Replacing.{Replaced, Put}
 use Rattle.join.specs.ReplacingLaws.{Split, split_head, split_as, split_put, split_replaced, stands_split, inside_head, inside_replaced}
 use Rattle.join.specs.Joining.{null_head}
@@ -39,7 +39,7 @@ pub null_head_word : (s : Shape) → null_head (head_word s) ≡ head_word (with
 unfolding with_null
 null_head_word (shape n b k t e r) =
     head_null n b k t e r n refl (head_word (shape n b k t e r)) refl
-    (ap (λ (i : ℕ). has_bit i 1) (head-kinds (shape n b k t e r)) ∙ has_null_bit n b k t e r)
+    (ap (λ (i : ℕ). has_bit i 1) (head_kinds (shape n b k t e r)) ∙ has_null_bit n b k t e r)
 
 -- a first word changed, and the rest kept: u differs from s only in kinds other than list and rec
 pub record Headed (p : List ℕ) (m : ℕ) (s u : Shape) (rows : List ℕ) : Type 0 where

@@ -9,7 +9,7 @@ use lib.ListN.{length, get_or, take, drop}
 use Rattle.definitions.specs.Shape.{Shape, shape, element_of, record_of, forms}
 use Rattle.definitions.specs.Join.{join_numeric, join}
 use Rattle.shapes.specs.Shapes.{kind_bits, head_of, head_word, ShapeRows, Stands, size_at}
-use Rattle.shapes.specs.ShapesLaws.{kind_bits_lt, union_bits, length_shape_rows, stands-kinds, stands_size, stands_within, forms_some}
+use Rattle.shapes.specs.ShapesLaws.{kind_bits_lt, union_bits, length_shape_rows, stands_kinds, stands_size, stands_within, forms_some}
 use Rattle.join.specs.Replacing.{Put, Over}
 use Rattle.join.specs.ReplacingLaws.{replaced_then}
 use Rattle.join.specs.Joining.{Joins, join_records, join_elements}
@@ -74,7 +74,7 @@ module _ {shapes shapes₁ second pool p : List ℕ} {used row m other k left : 
           : {a b kinds size : ℕ} → a ≡ get_or shapes₂ row 0 % 128 → b ≡ get_or second other 0 % 128 → kinds ≡ bit_or a b → size ≡ size_at shapes₂ row
           → head_of kinds size ≡ head_word (join s t)
       head_is {a} {b} {kinds} {size} e f o g =
-          head_joined s t a b kinds size (e ∙ stands-kinds elements_stand) (f ∙ stands-kinds j.both.theirs) o (g ∙ stands_size elements_stand)
+          head_joined s t a b kinds size (e ∙ stands_kinds elements_stand) (f ∙ stands_kinds j.both.theirs) o (g ∙ stands_size elements_stand)
 
       pub head_asks
           : {a b kinds size : ℕ} → a ≡ get_or shapes₂ row 0 % 128 → b ≡ get_or second other 0 % 128 → kinds ≡ bit_or a b → size ≡ size_at shapes₂ row

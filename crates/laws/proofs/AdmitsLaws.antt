@@ -15,7 +15,7 @@ use Rattle.laws.specs.Bools.{and_left, and_right, and_intro, not_true}
 use Rattle.laws.specs.Names.{same_refl}
 use Rattle.laws.specs.Distinct.{distinct, distinct_items, distinct_members}
 use Rattle.laws.specs.OrderInduction.{InOption, Ascending, ascending_of_element, ascending_of_record, ascending_found}
-use Rattle.laws.specs.OrderParts.{Elements, AtName, Records, below-kinds, below_elements, below_records, lacking_at}
+use Rattle.laws.specs.OrderParts.{Elements, AtName, Records, below_kinds, below_elements, below_records, lacking_at}
 use Rattle.laws.specs.OrderLaws.{below_refl, below_trans}
 use Rattle.laws.specs.JoinLaws.{join_ascending, join_upper_left, join_upper_right, nothing_ascending, shape_of_ascending, join_items_ascending}
 pub use Rattle.laws.specs.AdmitsMono.{admits_mono}
@@ -105,11 +105,11 @@ mutual
 
   below_admitted
       : (v : Value) (s : Shape) → distinct v ≡ true → ascending s ≡ true → below (shape_of v) s ≡ true → admitted v s ≡ true
-  below_admitted Value.null s d i h = below-kinds only_null s h Kind.null refl
-  below_admitted (Value.bool b) s d i h = below-kinds only_bool s h Kind.bool refl
+  below_admitted Value.null s d i h = below_kinds only_null s h Kind.null refl
+  below_admitted (Value.bool b) s d i h = below_kinds only_bool s h Kind.bool refl
   below_admitted (Value.number x) s d i h =
-      below-kinds (only_numeric (numeric_of x)) s h (kind_of (Value.number x)) (number_kind x)
-  below_admitted (Value.text t) s d i h = below-kinds only_text s h Kind.text refl
+      below_kinds (only_numeric (numeric_of x)) s h (kind_of (Value.number x)) (number_kind x)
+  below_admitted (Value.text t) s d i h = below_kinds only_text s h Kind.text refl
   below_admitted (Value.list vs) s d i h =
       admitted_list vs s
       ∙ element_admits

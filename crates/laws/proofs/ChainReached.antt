@@ -26,7 +26,7 @@ use Rattle.laws.specs.SizeLaws.{forms_mono, levels_mono, write_mono}
 use Rattle.laws.proofs.RoundLaws.{shape_reads_back, nothing_good, join_good}
 use Rattle.laws.specs.Judging.{shape_over, shape_fits, fits_shape}
 use Rattle.laws.specs.Chain.{Each, each_none, each_one, Reordered, Call, start, takes, left_by}
-use Rattle.laws.specs.Chain.{reached, accepted, Reads, LongEnough, ProperSource, In-range}
+use Rattle.laws.specs.Chain.{reached, accepted, Reads, LongEnough, ProperSource, InRange}
 use Rattle.laws.proofs.ChainLists.{each_first, each_rest, each_reordered, each_ordered_back, each_map}
 use Rattle.laws.proofs.ChainSteps.{Accepted, accepted_left, refused_left, taken_accepted}
 
@@ -38,9 +38,9 @@ ok_same {A} {o} {a} {b} p q = ap (from a) (sym p ∙ q)
     from d (ok x) = x
     from d (refused n k) = d
 
--- t is the text of s, a well-formed shape within the limits, which are in range
+-- t is the text of s, a well_formed shape within the limits, which are in range
 pub record Stands (l : Limits) (t : Bytes) (s : Shape) : Type 0 where
-  pub range : In-range l
+  pub range : InRange l
   pub text : t ≡ write_shape s
   pub sorted : ascending s ≡ true
   pub good : GoodShape s
@@ -63,7 +63,7 @@ unfolding evaluate
 nothing_small = (refl, refl, refl)
 
 -- the start is the text of nothing
-pub stands_start : (l : Limits) → In-range l → Stands l start nothing
+pub stands_start : (l : Limits) → InRange l → Stands l start nothing
 stands_start l r =
     record {
       range = r;

@@ -4,17 +4,17 @@ use Rattle.definitions.specs.declared.Limits.{Limits}
 use Rattle.definitions.specs.Shape.{nothing}
 use Rattle.definitions.specs.Operations.{Source}
 use Rattle.laws.specs.OrderLaws.{nothing_below}
-use Rattle.laws.specs.Chain.{Call, start, ProperSource, In-range, Demand3}
+use Rattle.laws.specs.Chain.{Call, start, ProperSource, InRange, Demand3}
 use Rattle.laws.proofs.ChainReached.{Reaches, reaches, stands_start, stands_reads, stands_short, another_order}
 use Rattle.laws.proofs.ChainReaders.{passes}
 
 pub demand_3
-    : (source : Source) → ProperSource source → (for_infer for_check for_run : List ℕ) (l : Limits) → In-range l → (calls : List Call)
+    : (source : Source) → ProperSource source → (for_infer for_check for_run : List ℕ) (l : Limits) → InRange l → (calls : List Call)
     → Demand3 source for_infer for_check for_run l calls
 demand_3 source proper for_infer for_check for_run l range calls =
     record {
       shape = r.shape;
-      well-formed = r.stands.sorted;
+      well_formed = r.stands.sorted;
       reads_as = stands_reads r.stands;
       short_enough = stands_short r.stands;
       admits_each = r.admits_each;

@@ -6,7 +6,7 @@ use Rattle.definitions.specs.Value.{Value}
 use Rattle.definitions.specs.Shape.{Kind, Shape, Element, Record, Fields}
 use Rattle.definitions.specs.Reader.{Place, Result, Pairs, no_pairs, pair, among_pairs}
 use Rattle.definitions.specs.Tokens.{Token, opening, quoted, word, Placed}
-use Rattle.laws.specs.FormGrammar.{at, Head, head, Name, name, KindWords, no-kinds, has_kind, lacks_kind, ShapeForm, shape_form, ElementForm}
+use Rattle.laws.specs.FormGrammar.{at, Head, head, Name, name, KindWords, no_kinds, has_kind, lacks_kind, ShapeForm, shape_form, ElementForm}
 use Rattle.laws.specs.FormGrammar.{no_element, element, RecordForm, no_members, members, MembersForm, no_member, member, PlaceForm, it_form}
 use Rattle.laws.specs.FormGrammar.{field_form, ResultForm, convert_form, keep_form, count_form, each_form, when_form, if_form, num_form}
 use Rattle.laws.specs.FormGrammar.{str_form, yes_form, no_form, none_form, pack_form, PairsForm, no_pair, next_pair, ReaderText, PlaceText}
@@ -76,7 +76,7 @@ name_same {n} name s = first (take_token s)
 
 kinds_same
     : {s : Shape} {ks : List Kind} {ts us vs : List Placed} → KindWords s ks ts us → Same ts vs → Moved (KindWords s ks) vs us
-kinds_same no-kinds e = record { left = _; form = no-kinds; same_left = e }
+kinds_same no_kinds e = record { left = _; form = no_kinds; same_left = e }
 kinds_same {s} {us = us} (has_kind {k = k} {ks = ks} h g) e =
     let t = take_token e in
     let m = kinds_same g t.same_left in

@@ -22,11 +22,11 @@ use Rattle.definitions.specs.Calls.{Called, answered, call, buffer_published, bu
 use Rattle.laws.specs.LimitRanges.{bounds_of}
 use Rattle.laws.specs.Judging.{shape_fits}
 use Rattle.laws.specs.Chain.{Each, each_none, each_one, Reordered, Call, start, infers, takes, left_by, reached, accepted, LongEnough}
-use Rattle.laws.specs.Chain.{Ends, gives, short_work, out_of_steps, too_large, no_room, Passes, ProperSource, In-range, Demand3}
+use Rattle.laws.specs.Chain.{Ends, gives, short_work, out_of_steps, too_large, no_room, Passes, ProperSource, InRange, Demand3}
 use Rattle.laws.proofs.ChainSteps.{Accepted, infers_written, left_taken, refused_left, taken_accepted}
 use Rattle.laws.proofs.ChainReaders.{Passed, check_passed}
 use Rattle.laws.proofs.Demand3.{demand_3}
-use Rattle.laws.specs.AnswerWords.{word_at, In-word}
+use Rattle.laws.specs.AnswerWords.{word_at, InWord}
 use Rattle.laws.specs.AnswerWordsRead.{answered_long, length_back}
 use Rattle.laws.specs.CallLaws.{lent_long, short_lent, long_lent, call_long, call_short}
 use Rattle.laws.specs.HostChain.{InferCall, handed_on, calls, accepts, kept_text, reached_text, accepted_samples, LongBuffers}
@@ -41,7 +41,7 @@ length_read
     → word_at 2 (answered buffer a) ≡ a.length
 unfolding written
 length_read buffer a k h e small =
-    length_back buffer a h (subst (λ (x : Answer). In-word x.length) (sym e) (let n : In-word k = omega arith in n))
+    length_back buffer a h (subst (λ (x : Answer). InWord x.length) (sym e) (let n : InWord k = omega arith in n))
 
 -- ---- infer
 
@@ -49,7 +49,7 @@ length_read buffer a k h e small =
 pub as_operation : InferCall → Call
 as_operation c = record { sample = c.sample; output = c.output; lent = buffer_lent c.answer }
 
-module _ (source : Source) (proper : ProperSource source) (l : Limits) (range : In-range l) where
+module _ (source : Source) (proper : ProperSource source) (l : Limits) (range : InRange l) where
   accepts_as : (c : InferCall) (t : Bytes) → accepts source l c t ≡ takes source buffer_published l (as_operation c) t
   unfolding accepts calls infer_call call takes infers as_operation
   accepts_as c t = refl
@@ -158,7 +158,7 @@ ends_call {l} {r} {v} {u} {output} answer (no_room x w e f short) =
 -- what the host reads behind a run that gave 0 is the plain JSON of what the reader gave
 pub result_handed_on
     : {l : Limits} {r : Result} {v : Value} {u : Shape} {output answer : Bytes} {c : Called} → CallEnds l r v u output answer c
-    → c.number ≡ 0 → In-word (length output)
+    → c.number ≡ 0 → InWord (length output)
     → (x : Ran Value) × (run_reader r l v ≡ ok x) × (admits u x.result ≡ true) × (handed_on c ≡ plain x.result)
 unfolding handed_on written
 result_handed_on {output = output} {answer} (Host.gives x h e a f room) z small = (
@@ -168,7 +168,7 @@ result_handed_on {output = output} {answer} (Host.gives x h e a f room) z small 
   ap (λ (k : ℕ). take k (plain x.result ++ drop (length (plain x.result)) output))
       (ap (word_at 2) (sym (answered_long answer (written (length (plain x.result)) x.steps false) h))
       ∙ length_back answer (written (length (plain x.result)) x.steps false) h
-      (let n : In-word (length (plain x.result)) = omega arith in n))
+      (let n : InWord (length (plain x.result)) = omega arith in n))
       ∙ take-append_seam (plain x.result) _,
 )
 result_handed_on (Host.short_answer h) z small = absurd (let w : ⊥ = omega arith in w)
@@ -176,7 +176,7 @@ result_handed_on (Host.out_of_steps p h e) z small = absurd (let w : ⊥ = omega
 result_handed_on (Host.too_large x h e f) z small = absurd (let w : ⊥ = omega arith in w)
 result_handed_on (Host.no_room x h e f room) z small = absurd (let w : ⊥ = omega arith in w)
 
-module _ (l : Limits) (range : In-range l) where
+module _ (l : Limits) (range : InRange l) where
   pub check_length
       : (reader text output answer : Bytes) (r : Result) (s u : Shape)
       → Passed buffer_published (buffer_lent answer) l reader text output r s u
@@ -214,11 +214,11 @@ module _ (l : Limits) (range : In-range l) where
 -- ---- the demand
 
 pub demand_3_over_calls
-    : (source : Source) → ProperSource source → (l : Limits) → In-range l → (list : List InferCall) → Demand3OverCalls source l list
+    : (source : Source) → ProperSource source → (l : Limits) → InRange l → (list : List InferCall) → Demand3OverCalls source l list
 demand_3_over_calls source proper l range list =
     record {
       shape = d.shape;
-      well-formed = d.well-formed;
+      well_formed = d.well_formed;
       reads_as = ap (λ (t : Bytes). read_shape l t) (sym same_text) ∙ d.reads_as;
       short_enough = subst (λ (t : Bytes). length t ≤ l.bytes) same_text d.short_enough;
       admits_each = subst (Each _) same_samples d.admits_each;

@@ -14,7 +14,7 @@ use Rattle.definitions.specs.Admits.{kind_of, admits, admitted}
 use Rattle.definitions.specs.Reader.{Place, to_int, Result, read_reader}
 use Rattle.definitions.specs.Running.{Ran, run_reader}
 use Rattle.laws.specs.LimitRanges.{bounds_of}
-use Rattle.laws.specs.Chain.{In-range}
+use Rattle.laws.specs.Chain.{InRange}
 use Rattle.laws.specs.Ints.{unscaled_int, is_an_int}
 use Rattle.laws.specs.SoundKinds.{int_admits}
 use Rattle.laws.specs.CheckRules.{by_int}
@@ -56,7 +56,7 @@ given_admitted at p l v x e =
 
 -- it is one value, so that no limit is in the way
 pub given_reads_back
-    : (l : Limits) → In-range l → (text s : Bytes) (at : ℕ) (p : Place) (v : Value) (x : Ran Value)
+    : (l : Limits) → InRange l → (text s : Bytes) (at : ℕ) (p : Place) (v : Value) (x : Ran Value)
     → read_reader l text ≡ ok (Result.convert at to_int p) → read_json l s ≡ ok v → run_reader (Result.convert at to_int p) l v ≡ ok x
     → read_json l (plain x.result) ≡ ok x.result
 unfolding size nesting

@@ -137,10 +137,10 @@ plain_number_number x r = subst (λ s. Rfc.number s (numeral_of x) r) (sym apart
         Rfc.no_exp
 
 -- a number that keeps the limits is written as a number that means it
-pub plain-number-reads
+pub plain_number_reads
     : (x : Number) → GoodNumber x → (r : Bytes)
     → (d : Numeral) × Rfc.number (plain_number x ++ r) d r × (number_of d ≡ x) × (beyond d ≡ false)
-plain-number-reads x g r = (numeral_of x, plain_number_number x r, number_of_numeral x g, within_limits x g)
+plain_number_reads x g r = (numeral_of x, plain_number_number x r, number_of_numeral x g, within_limits x g)
 
 -- ---- lengths
 

@@ -68,14 +68,14 @@ rescale : {f : Numeral} {m : Bool} {c s : ℕ} {x : Bool} (t : ℕ) → s ≡ t 
 rescale {f} {m} {c} {s} {x} t e h = subst (λ k. Reads f m c k x) e h
 
 -- in s there are the rest of a fraction and an exponent that lead from d to f
-abbrev In-frac : Numeral → Numeral → Bytes → Bytes → Type 0
-In-frac d f s r =
+abbrev InFrac : Numeral → Numeral → Bytes → Bytes → Type 0
+InFrac d f s r =
     (k n : ℕ) × (x : Bool) × (w : Bytes) × Rfc.digits d.coefficient s k n w × Rfc.exp w x r
     × Reads f d.negative k (d.scale + n) x
 
 frac_rest
     : {d f : Numeral} {xs : Bytes} {q : Phase} → Walk in_frac d xs q f → complete q ≡ true → d.exponent ≡ false → (r : Bytes)
-    → In-frac d f (xs ++ r) r
+    → InFrac d f (xs ++ r) r
 unfolding extend shifted
 frac_rest {d} stay c z r =
     (d.coefficient, 0, false, r, Rfc.no_digits, Rfc.no_exp, rescale (d.scale + 0) (omega arith) (reads_itself d z))
@@ -87,25 +87,25 @@ frac_rest {d} (step {xs} {b} (frac_e x) w) c z r =
     (d.coefficient, 0, true, b ∷ xs ++ r, Rfc.no_digits, k.0, rescale (d.scale + 0) (omega arith) (reads_e d b k.1))
 
 -- the same behind an int
-abbrev At-frac : Numeral → Numeral → Bytes → Bytes → Type 0
-At-frac d f s r =
+abbrev AtFrac : Numeral → Numeral → Bytes → Bytes → Type 0
+AtFrac d f s r =
     (k n : ℕ) × (x : Bool) × (w : Bytes) × Rfc.frac d.coefficient s k n w × Rfc.exp w x r
     × Reads f d.negative k (d.scale + n) x
 
-no_more : (d : Numeral) → d.exponent ≡ false → (r : Bytes) → At-frac d d r r
+no_more : (d : Numeral) → d.exponent ≡ false → (r : Bytes) → AtFrac d d r r
 no_more d z r =
     (d.coefficient, 0, false, r, Rfc.no_frac, Rfc.no_exp, rescale (d.scale + 0) (omega arith) (reads_itself d z))
 
 e_more
     : (d : Numeral) {f : Numeral} {xs : Bytes} {q : Phase} {b : ℕ} → Rfc.e b → Walk after_e (extend after_e d b) xs q f → complete q ≡ true
-    → (r : Bytes) → At-frac d f (b ∷ xs ++ r) r
+    → (r : Bytes) → AtFrac d f (b ∷ xs ++ r) r
 e_more d {f} {xs} {q} {b} x w c r =
     let k = e_rest x w c r in
     (d.coefficient, 0, true, b ∷ xs ++ r, Rfc.no_frac, k.0, rescale (d.scale + 0) (omega arith) (reads_e d b k.1))
 
 point_rest
     : {d f : Numeral} {xs : Bytes} {q : Phase} → Walk after_point d xs q f → complete q ≡ true → d.exponent ≡ false
-    → (r : Bytes) → At-frac d f (0x2E ∷ xs ++ r) r
+    → (r : Bytes) → AtFrac d f (0x2E ∷ xs ++ r) r
 unfolding extend shifted complete
 point_rest stay c z r = absurd (false≢true c)
 point_rest {d} (step (point_digit i) w) c z r =
@@ -115,24 +115,24 @@ point_rest {d} (step (point_digit i) w) c z r =
 
 zero_rest
     : {d f : Numeral} {xs : Bytes} {q : Phase} → Walk after_zero d xs q f → complete q ≡ true → d.exponent ≡ false
-    → (r : Bytes) → At-frac d f (xs ++ r) r
+    → (r : Bytes) → AtFrac d f (xs ++ r) r
 unfolding extend
 zero_rest {d} stay c z r = no_more d z r
 zero_rest (step zero_point w) c z r = point_rest w c z r
 zero_rest {d} (step (zero_e x) w) c z r = e_more d x w c r
 
 -- the same with the rest of an int before it
-abbrev In-int : Numeral → Numeral → Bytes → Bytes → Type 0
-In-int d f s r =
+abbrev InInt : Numeral → Numeral → Bytes → Bytes → Type 0
+InInt d f s r =
     (i m k n : ℕ) × (x : Bool) × (u w : Bytes) × Rfc.digits d.coefficient s i m u × Rfc.frac i u k n w × Rfc.exp w x r
     × Reads f d.negative k (d.scale + n) x
 
-no_int : (d f : Numeral) (s r : Bytes) → At-frac d f s r → In-int d f s r
+no_int : (d f : Numeral) (s r : Bytes) → AtFrac d f s r → InInt d f s r
 no_int d f s r k = (d.coefficient, 0, k.0, k.1, k.2, s, k.3, Rfc.no_digits, k.4, k.5, k.6)
 
 int_rest
     : {d f : Numeral} {xs : Bytes} {q : Phase} → Walk in_int d xs q f → complete q ≡ true → d.exponent ≡ false → (r : Bytes)
-    → In-int d f (xs ++ r) r
+    → InInt d f (xs ++ r) r
 unfolding extend shifted
 int_rest {d} stay c z r = no_int d d r r (no_more d z r)
 int_rest (step (int_digit i) w) c z r =
@@ -154,7 +154,7 @@ as_number {f} {m} {x} {c} {n} {s} {r} g h = subst (λ d. Rfc.number s d r) (sym 
 -- an int and what follows, behind the minus
 int_sound
     : {m : Bool} {f : Numeral} {s t r : Bytes} {b : ℕ} → Rfc.minus_part s m (b ∷ t) → In 0x31 0x39 b
-    → In-int (extend in_int (signed m) b) f t r → Rfc.number s f r
+    → InInt (extend in_int (signed m) b) f t r → Rfc.number s f r
 unfolding extend shifted
 int_sound {t} {b} p i k = as_number (Rfc.numeral p (Rfc.int_digits i from) k.8 k.9) (rescale k.3 (omega arith) k.10)
   where
@@ -162,7 +162,7 @@ int_sound {t} {b} p i k = as_number (Rfc.numeral p (Rfc.int_digits i from) k.8 k
     from = subst (λ c. Rfc.digits c t k.0 k.1 k.5) (omega arith) k.7
 
 zero_sound
-    : {m : Bool} {f : Numeral} {s t r : Bytes} → Rfc.minus_part s m (0x30 ∷ t) → At-frac (signed m) f t r → Rfc.number s f r
+    : {m : Bool} {f : Numeral} {s t r : Bytes} → Rfc.minus_part s m (0x30 ∷ t) → AtFrac (signed m) f t r → Rfc.number s f r
 zero_sound p k = as_number (Rfc.numeral p Rfc.int_zero k.4 k.5) (rescale k.1 (omega arith) k.6)
 
 minus_sound

@@ -56,14 +56,14 @@ start false = begin
 start true = after_minus
 
 -- where a fraction may begin, and where an exponent may
-data At-point : Phase → Type 0 where
-  point_zero : At-point after_zero
-  point_int : At-point in_int
+data AtPoint : Phase → Type 0 where
+  point_zero : AtPoint after_zero
+  point_int : AtPoint in_int
 
-data At-e : Phase → Type 0 where
-  e_zero : At-e after_zero
-  e_int : At-e in_int
-  e_frac : At-e in_frac
+data AtE : Phase → Type 0 where
+  e_zero : AtE after_zero
+  e_int : AtE in_int
+  e_frac : AtE in_frac
 
 minus_through : {m : Bool} {s t : Bytes} → Rfc.minus_part s m t → Through begin no_digits (start m) (signed m) s t
 unfolding start no_digits extend
@@ -82,7 +82,7 @@ start_digit true i = minus_digit i
 
 int_through
     : (m : Bool) {c : ℕ} {s r : Bytes} → Rfc.int s c r
-    → (p : Phase) × At-point p × Through (start m) (signed m) p (num m c 0 false) s r
+    → (p : Phase) × AtPoint p × Through (start m) (signed m) p (num m c 0 false) s r
 unfolding extend shifted
 int_through m Rfc.int_zero = (after_zero, point_zero, through_one (start_zero m))
 int_through m (Rfc.int_digits {b} {c} {s} i h) =
@@ -91,17 +91,17 @@ int_through m (Rfc.int_digits {b} {c} {s} i h) =
     subst (λ a. Through (start m) (signed m) in_int (num m a 0 false) (b ∷ s) s) (omega arith) (through_one (start_digit m i)) in
     (in_int, point_int, through_append one w.2)
 
-at_point : {p : Phase} → At-point p → Step p 0x2E after_point
+at_point : {p : Phase} → AtPoint p → Step p 0x2E after_point
 at_point point_zero = zero_point
 at_point point_int = int_point
 
-point_e : {p : Phase} → At-point p → At-e p
+point_e : {p : Phase} → AtPoint p → AtE p
 point_e point_zero = e_zero
 point_e point_int = e_int
 
 frac_through
-    : (m : Bool) {p : Phase} → At-point p → {c d n : ℕ} {s r : Bytes} → Rfc.frac c s d n r
-    → (q : Phase) × At-e q × Through p (num m c 0 false) q (num m d n false) s r
+    : (m : Bool) {p : Phase} → AtPoint p → {c d n : ℕ} {s r : Bytes} → Rfc.frac c s d n r
+    → (q : Phase) × AtE q × Through p (num m c 0 false) q (num m d n false) s r
 unfolding extend shifted
 frac_through m {p} a Rfc.no_frac = (p, point_e a, through_none)
 frac_through m {p} a {c} {d} (Rfc.point {b} {n} {s} {r} i (Rfc.digit j h)) =
@@ -110,12 +110,12 @@ frac_through m {p} a {c} {d} (Rfc.point {b} {n} {s} {r} i (Rfc.digit j h)) =
     subst (λ j. Through in_frac (num m (c * 10 + (b - 0x30)) 1 false) in_frac (num m d j false) s r) (omega arith) w.2 in
     (in_frac, e_frac, through_append (through_one (at_point a)) (through_append (through_one (point_digit i)) more))
 
-at_e : {p : Phase} → At-e p → {b : ℕ} → Rfc.e b → Step p b after_e
+at_e : {p : Phase} → AtE p → {b : ℕ} → Rfc.e b → Step p b after_e
 at_e e_zero x = zero_e x
 at_e e_int x = int_e x
 at_e e_frac x = frac_e x
 
-e_complete : {p : Phase} → At-e p → complete p ≡ true
+e_complete : {p : Phase} → AtE p → complete p ≡ true
 unfolding complete
 e_complete e_zero = refl
 e_complete e_int = refl
@@ -135,7 +135,7 @@ sign_through Rfc.plus (Rfc.digit i h) =
     through_append (through_one e_plus) (through_append (through_one (sign_digit i)) (exp_digits_through h))
 
 exp_through
-    : (m : Bool) (c n : ℕ) {p : Phase} → At-e p → {x : Bool} {s r : Bytes} → Rfc.exp s x r
+    : (m : Bool) (c n : ℕ) {p : Phase} → AtE p → {x : Bool} {s r : Bytes} → Rfc.exp s x r
     → (q : Phase) × (complete q ≡ true) × Through p (num m c n false) q (num m c n x) s r
 unfolding extend complete
 exp_through m c n {p} a Rfc.no_exp = (p, e_complete a, through_none)

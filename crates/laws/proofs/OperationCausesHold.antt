@@ -30,20 +30,20 @@ module _ (published lent : List ℕ) (l : Limits) where
   -- ---- plain
 
   module _ (document output : Bytes) where
-    abbrev After-plain : Refusal → Type 0
-    After-plain k = (v : Value) × (read_json l document ≡ ok v) × EndCause 15 false (plain v) output k
+    abbrev AfterPlain : Refusal → Type 0
+    AfterPlain k = (v : Value) × (read_json l document ≡ ok v) × EndCause 15 false (plain v) output k
 
-    plain_late : (k : Refusal) → After-plain k → 6 ≤ k.stage
+    plain_late : (k : Refusal) → AfterPlain k → 6 ≤ k.stage
     plain_late k (v, e, c) = let n : 6 < k.stage = end_late k c in omega arith
 
-    plain_end : (v : Value) → read_json l document ≡ ok v → RefusedWithTheFirst After-plain (answer_in output (passed (to_write (plain v) 0)))
+    plain_end : (v : Value) → read_json l document ≡ ok v → RefusedWithTheFirst AfterPlain (answer_in output (passed (to_write (plain v) 0)))
     plain_end v e =
         first_by (λ k c. (v, e, c))
         (λ k (w, f, c). subst (λ (z : Value). EndCause 15 false (plain z) output k) (ok_same f e) c)
         (end_first 15 false (plain v) output 0 (passed (to_write (plain v) 0)) (lit< tt) (λ z. absurd (true≢false (sym z))) (λ z. refl))
 
     abbrev PlainCauses : Refusal → Type 0
-    PlainCauses = CauseOf published lent l (Cause l document) document NoCause [] After-plain
+    PlainCauses = CauseOf published lent l (Cause l document) document NoCause [] AfterPlain
 
     plain_end_to
         : (v : Value) → read_json l document ≡ ok v → (k : Refusal) → EndCause 15 false (plain v) output k
@@ -77,16 +77,16 @@ module _ (published lent : List ℕ) (l : Limits) where
   -- ---- infer
 
   module _ (first document output : Bytes) where
-    abbrev After-infer : Refusal → Type 0
-    After-infer k =
+    abbrev AfterInfer : Refusal → Type 0
+    AfterInfer k =
         (s : Shape) × (v : Value) × (read_shape l first ≡ ok s) × (read_json l document ≡ ok v) × ShapeEnd l output (join s (shape_of v)) k
 
-    infer_late : (k : Refusal) → After-infer k → 6 ≤ k.stage
+    infer_late : (k : Refusal) → AfterInfer k → 6 ≤ k.stage
     infer_late k (s, v, e, f, c) = let n : 6 < k.stage = end_late k c in omega arith
 
     infer_end
         : (s : Shape) (v : Value) → read_shape l first ≡ ok s → read_json l document ≡ ok v
-        → RefusedWithTheFirst After-infer (answer_in output (shape_out l (join s (shape_of v))))
+        → RefusedWithTheFirst AfterInfer (answer_in output (shape_out l (join s (shape_of v))))
     infer_end s v e f =
         first_by (λ k c. (s, v, e, f, c))
         (λ k (s', v', e', f', c).
@@ -95,7 +95,7 @@ module _ (published lent : List ℕ) (l : Limits) where
         (shape_first l output (join s (shape_of v)))
 
     abbrev InferCauses : Refusal → Type 0
-    InferCauses = CauseOf published lent l (ShapeCause l first) first (Cause l document) document After-infer
+    InferCauses = CauseOf published lent l (ShapeCause l first) first (Cause l document) document AfterInfer
 
     infer_end_to
         : (s : Shape) (v : Value) → read_shape l first ≡ ok s → read_json l document ≡ ok v → (k : Refusal)
@@ -135,16 +135,16 @@ module _ (published lent : List ℕ) (l : Limits) where
   -- ---- join
 
   module _ (first second output : Bytes) where
-    abbrev After-join : Refusal → Type 0
-    After-join k =
+    abbrev AfterJoin : Refusal → Type 0
+    AfterJoin k =
         (s : Shape) × (t : Shape) × (read_shape l first ≡ ok s) × (read_shape l second ≡ ok t) × ShapeEnd l output (join s t) k
 
-    join_late : (k : Refusal) → After-join k → 6 ≤ k.stage
+    join_late : (k : Refusal) → AfterJoin k → 6 ≤ k.stage
     join_late k (s, t, e, f, c) = let n : 6 < k.stage = end_late k c in omega arith
 
     join_end
         : (s t : Shape) → read_shape l first ≡ ok s → read_shape l second ≡ ok t
-        → RefusedWithTheFirst After-join (answer_in output (shape_out l (join s t)))
+        → RefusedWithTheFirst AfterJoin (answer_in output (shape_out l (join s t)))
     join_end s t e f =
         first_by (λ k c. (s, t, e, f, c))
         (λ k (s', t', e', f', c).
@@ -153,7 +153,7 @@ module _ (published lent : List ℕ) (l : Limits) where
         (shape_first l output (join s t))
 
     abbrev JoinCauses : Refusal → Type 0
-    JoinCauses = CauseOf published lent l (ShapeCause l first) first (ShapeCause l second) second After-join
+    JoinCauses = CauseOf published lent l (ShapeCause l first) first (ShapeCause l second) second AfterJoin
 
     join_end_to
         : (s t : Shape) → read_shape l first ≡ ok s → read_shape l second ≡ ok t → (k : Refusal) → ShapeEnd l output (join s t) k
@@ -192,19 +192,19 @@ module _ (published lent : List ℕ) (l : Limits) where
 
   -- ---- below and admits: nothing comes behind the texts
 
-  abbrev After-none : Refusal → Type 0
-  After-none k = ⊥
+  abbrev AfterNone : Refusal → Type 0
+  AfterNone k = ⊥
 
-  none_late : (k : Refusal) → After-none k → 6 ≤ k.stage
+  none_late : (k : Refusal) → AfterNone k → 6 ≤ k.stage
   none_late k e = absurd e
 
-  said_first : (y : Bool) → RefusedWithTheFirst After-none (say (passed y))
+  said_first : (y : Bool) → RefusedWithTheFirst AfterNone (say (passed y))
   unfolding say said
   said_first y = by_none refl (λ k e. e)
 
   module _ (first second : Bytes) where
     abbrev BelowCauses : Refusal → Type 0
-    BelowCauses = CauseOf published lent l (ShapeCause l first) first (ShapeCause l second) second After-none
+    BelowCauses = CauseOf published lent l (ShapeCause l first) first (ShapeCause l second) second AfterNone
 
     below_to : (k : Refusal) → BelowCauses k → BelowCause published lent l first second k
     below_to k (limits e) = BelowCause.row_18 e
@@ -232,7 +232,7 @@ module _ (published lent : List ℕ) (l : Limits) where
 
   module _ (first document : Bytes) where
     abbrev AdmitsCauses : Refusal → Type 0
-    AdmitsCauses = CauseOf published lent l (ShapeCause l first) first (Cause l document) document After-none
+    AdmitsCauses = CauseOf published lent l (ShapeCause l first) first (Cause l document) document AfterNone
 
     admits_to : (k : Refusal) → AdmitsCauses k → AdmitsCause published lent l first document k
     admits_to k (limits e) = AdmitsCause.row_18 e

@@ -66,16 +66,16 @@ module _ (published lent : List ℕ) (l : Limits) where
             by_cause (at_form n p) (refuses ((refuses_exactly r s n p).0 e)) (exact_number (exact_check r s) e) (before e)
 
   module _ (reader second output : Bytes) where
-    abbrev After-check : Refusal → Type 0
-    After-check k =
+    abbrev AfterCheck : Refusal → Type 0
+    AfterCheck k =
         (r : Result) × (s : Shape) × (read_reader l reader ≡ ok r) × (read_shape l second ≡ ok s) × CheckEnd output r s k
 
-    after_check_late : (k : Refusal) → After-check k → 6 ≤ k.stage
+    after_check_late : (k : Refusal) → AfterCheck k → 6 ≤ k.stage
     after_check_late k (r, s, e, f, c) = check_end_late output k c
 
     after_check
         : (r : Result) (s : Shape) → read_reader l reader ≡ ok r → read_shape l second ≡ ok s
-        → RefusedWithTheFirst After-check (answer_in output (in_text 1 (check_reader r s) >>= λ t. shape_out l t))
+        → RefusedWithTheFirst AfterCheck (answer_in output (in_text 1 (check_reader r s) >>= λ t. shape_out l t))
     after_check r s e f =
         first_by (λ k c. (r, s, e, f, c))
         (λ k (r', s', e', f', c).
@@ -83,7 +83,7 @@ module _ (published lent : List ℕ) (l : Limits) where
         (check_end output r s)
 
     abbrev CheckCauses : Refusal → Type 0
-    CheckCauses = CauseOf published lent l (ReaderCause l reader) reader (ShapeCause l second) second After-check
+    CheckCauses = CauseOf published lent l (ReaderCause l reader) reader (ShapeCause l second) second AfterCheck
 
     check_end_to
         : (r : Result) (s u : Shape) → read_reader l reader ≡ ok r → read_shape l second ≡ ok s → Checks (s ∷ []) r u → (k : Refusal)
@@ -156,16 +156,16 @@ module _ (published lent : List ℕ) (l : Limits) where
         go (refused n p) e = by_cause (at_form n p) (halts ((halts_exactly r l v n p).0 e)) (exact_number (exact_run r l v) e) (before e)
 
   module _ (reader document output : Bytes) where
-    abbrev After-run : Refusal → Type 0
-    After-run k =
+    abbrev AfterRun : Refusal → Type 0
+    AfterRun k =
         (r : Result) × (v : Value) × (read_reader l reader ≡ ok r) × (read_json l document ≡ ok v) × RunEnd output r v k
 
-    after_run_late : (k : Refusal) → After-run k → 6 ≤ k.stage
+    after_run_late : (k : Refusal) → AfterRun k → 6 ≤ k.stage
     after_run_late k (r, v, e, f, c) = run_end_late output k c
 
     after_run
         : (r : Result) (v : Value) → read_reader l reader ≡ ok r → read_json l document ≡ ok v
-        → RefusedWithTheFirst After-run (answer_in output (in_text 1 (run_reader r l v) >>= λ x. result_out l x))
+        → RefusedWithTheFirst AfterRun (answer_in output (in_text 1 (run_reader r l v) >>= λ x. result_out l x))
     after_run r v e f =
         first_by (λ k c. (r, v, e, f, c))
         (λ k (r', v', e', f', c).
@@ -173,7 +173,7 @@ module _ (published lent : List ℕ) (l : Limits) where
         (run_end output r v)
 
     abbrev RunCauses : Refusal → Type 0
-    RunCauses = CauseOf published lent l (ReaderCause l reader) reader (Cause l document) document After-run
+    RunCauses = CauseOf published lent l (ReaderCause l reader) reader (Cause l document) document AfterRun
 
     run_end_to
         : (r : Result) (v w : Value) (m : ℕ) → read_reader l reader ≡ ok r → read_json l document ≡ ok v → Runs l (v ∷ []) 0 r w m

@@ -1,4 +1,4 @@
--- Readers that are accepted are well-formed: no `it` reaches past the document, and no name comes twice. Assumes nothing.
+-- Readers that are accepted are well_formed: no `it` reaches past the document, and no name comes twice. Assumes nothing.
 use Rattle.std.specs.Prelude.{ℕ, ◌≡◌, refl, true, List}
 use Rattle.definitions.specs.declared.Limits.{Limits}
 use Rattle.definitions.specs.Bytes.{Bytes}

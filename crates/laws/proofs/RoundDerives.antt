@@ -11,7 +11,7 @@ use Rattle.laws.specs.Rfc8259 as Rfc
 use Rattle.laws.specs.Good.{GoodValue, good_null, good_bool, good_number, good_text, good_list, good_rec}
 use Rattle.laws.specs.Good.{GoodItems, good_no_items, good_item, GoodMembers, good_no_members, good_member}
 use Rattle.laws.proofs.StringRound.{plain_string}
-use Rattle.laws.proofs.NumberRound.{plain-number-reads}
+use Rattle.laws.proofs.NumberRound.{plain_number_reads}
 
 -- a structural character with no white space around it
 structural_alone : (c : ℕ) (r : Bytes) → Rfc.structural c (c ∷ r) r
@@ -57,7 +57,7 @@ mutual
   value_derives_by good_null r = (Tree.null, Rfc.is_null, refl, null_fits)
   value_derives_by (good_bool {b}) r = bool_derives b r
   value_derives_by (good_number {x} g) r =
-      let (d, n, e, f) = plain-number-reads x g r in
+      let (d, n, e, f) = plain_number_reads x g r in
       (Tree.number d, Rfc.is_number n, ap Value.number e, number_fits f)
   value_derives_by (good_text {t} u) r = (Tree.text t, Rfc.is_string (plain_string t u r), refl, text_fits)
   value_derives_by (good_list {vs} gs) r =

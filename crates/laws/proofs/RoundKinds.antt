@@ -9,7 +9,7 @@ use Rattle.definitions.specs.Tokens.{word, at_place, go, where_true, where_some,
 use Rattle.definitions.specs.Shape.{Kind, all_kinds, rank, among, every, Numeric, no_number, int_only, int_and_dec, Shape}
 use Rattle.definitions.specs.Shape.{shape, Record, no_rec, rec_of, Fields, no_fields, field, has_int, has_dec, has_rec, has}
 use Rattle.definitions.specs.ShapeText.{Parts, Around, want, kind_word, with_kind, fields_onto, numeric_from, record_from, build}
-use Rattle.definitions.specs.ShapeText.{kind_name, in_order, may_follow, kind_step, want_step, step, write-kinds}
+use Rattle.definitions.specs.ShapeText.{kind_name, in_order, may_follow, kind_step, want_step, step, write_kinds}
 use Rattle.laws.specs.Bools.{and_left, and_right, and_intro, or_false_left, or_false_right}
 use Rattle.laws.proofs.LexLaws.{inner, is_word, Bordered, bordered_space}
 use Rattle.laws.proofs.RoundReads.{Reads, Steps, reads_nothing, reads_then, reads_from, reads_space, reads_word}
@@ -64,34 +64,34 @@ kind_part false k = []
 
 write_kinds_cons
     : (s : Shape) (k : Kind) (ks : List Kind) (r : Bytes)
-    → write-kinds s (k ∷ ks) ++ r ≡ kind_part (has k s) k ++ (write-kinds s ks ++ r)
-unfolding write-kinds kind_part
+    → write_kinds s (k ∷ ks) ++ r ≡ kind_part (has k s) k ++ (write_kinds s ks ++ r)
+unfolding write_kinds kind_part
 write_kinds_cons s k ks r = told (has k s) refl
   where
-    told : (b : Bool) → has k s ≡ b → write-kinds s (k ∷ ks) ++ r ≡ kind_part (has k s) k ++ (write-kinds s ks ++ r)
-    told true e = rw (e, write-kinds) (append_assoc (bytes " " ++ kind_name k) (write-kinds s ks) r)
-    told false e = rw (e, write-kinds) refl
+    told : (b : Bool) → has k s ≡ b → write_kinds s (k ∷ ks) ++ r ≡ kind_part (has k s) k ++ (write_kinds s ks ++ r)
+    told true e = rw (e, write_kinds) (append_assoc (bytes " " ++ kind_name k) (write_kinds s ks) r)
+    told false e = rw (e, write_kinds) refl
 
 bordered_part : (b : Bool) (k : Kind) (r : Bytes) → Bordered r → Bordered (kind_part b k ++ r)
 unfolding kind_part bytes
 bordered_part true k r h = bordered_space (kind_name k ++ r)
 bordered_part false k r h = h
 
-pub bordered-kinds : (s : Shape) (ks : List Kind) (r : Bytes) → Bordered r → Bordered (write-kinds s ks ++ r)
-unfolding write-kinds
-bordered-kinds s [] r h = h
-bordered-kinds s (k ∷ ks) r h =
-    subst Bordered (sym (write_kinds_cons s k ks r)) (bordered_part (has k s) k (write-kinds s ks ++ r) (bordered-kinds s ks r h))
+pub bordered_kinds : (s : Shape) (ks : List Kind) (r : Bytes) → Bordered r → Bordered (write_kinds s ks ++ r)
+unfolding write_kinds
+bordered_kinds s [] r h = h
+bordered_kinds s (k ∷ ks) r h =
+    subst Bordered (sym (write_kinds_cons s k ks r)) (bordered_part (has k s) k (write_kinds s ks ++ r) (bordered_kinds s ks r h))
 
 -- the parts with these kinds
-unfoldable pub with-kinds : List Kind → Parts → Parts
-with-kinds ks p = record { kinds = ks; element = p.element; fields = p.fields }
+unfoldable pub with_kinds : List Kind → Parts → Parts
+with_kinds ks p = record { kinds = ks; element = p.element; fields = p.fields }
 
 reads_part
     : (b : Bool) (k : Kind) (p : Parts) (o : Around) (l : Limits) (n : ℕ) (r : Bytes)
     → (b ≡ true → may_follow p.kinds k ≡ true) → Bordered r
-    → Reads l n (want (kind_word p o)) (kind_part b k ++ r) n (want (kind_word (with-kinds (pick b k p.kinds) p) o)) r
-unfolding kind_part bytes pick with-kinds with_kind
+    → Reads l n (want (kind_word p o)) (kind_part b k ++ r) n (want (kind_word (with_kinds (pick b k p.kinds) p) o)) r
+unfolding kind_part bytes pick with_kinds with_kind
 reads_part true k p o l n r h i =
     reads_then
     (reads_space l n (want (kind_word p o)) (kind_name k ++ r))
@@ -99,18 +99,18 @@ reads_part true k p o l n r h i =
 reads_part false k p o l n r h i = reads_nothing l n (want (kind_word p o)) r
 
 -- the kind words that were written for ks
-reads-kinds
+reads_kinds
     : (s : Shape) (ks : List Kind) (p : Parts) → Follow s ks p.kinds → (o : Around) (l : Limits) (n : ℕ) (r : Bytes)
     → Bordered r
-    → Reads l n (want (kind_word p o)) (write-kinds s ks ++ r) n (want (kind_word (with-kinds (picks_onto s ks p.kinds) p) o)) r
-unfolding write-kinds picks_onto with-kinds
-reads-kinds s [] p follow_end o l n r i = reads_nothing l n (want (kind_word p o)) r
-reads-kinds s (k ∷ ks) p (follow_kind h g) o l n r i =
+    → Reads l n (want (kind_word p o)) (write_kinds s ks ++ r) n (want (kind_word (with_kinds (picks_onto s ks p.kinds) p) o)) r
+unfolding write_kinds picks_onto with_kinds
+reads_kinds s [] p follow_end o l n r i = reads_nothing l n (want (kind_word p o)) r
+reads_kinds s (k ∷ ks) p (follow_kind h g) o l n r i =
     reads_from
     (write_kinds_cons s k ks r)
     (reads_then
-    (reads_part (has k s) k p o l n (write-kinds s ks ++ r) h (bordered-kinds s ks r i))
-    (reads-kinds s ks (with-kinds (pick (has k s) k p.kinds) p) g o l n r i))
+    (reads_part (has k s) k p o l n (write_kinds s ks ++ r) h (bordered_kinds s ks r i))
+    (reads_kinds s ks (with_kinds (pick (has k s) k p.kinds) p) g o l n r i))
 
 -- ---- the order of the kind words
 
@@ -153,15 +153,15 @@ follow_all (shape n b m t e r) =
     follow_end))))))
 
 -- the kind words of a shape
-pub reads-all-kinds
+pub reads_all_kinds
     : (s : Shape) (p : Parts) → p.kinds ≡ [] → (o : Around) (l : Limits) (n : ℕ) (r : Bytes) → Bordered r
-    → Reads l n (want (kind_word p o)) (write-kinds s all_kinds ++ r) n (want (kind_word (with-kinds (picks s) p) o)) r
+    → Reads l n (want (kind_word p o)) (write_kinds s all_kinds ++ r) n (want (kind_word (with_kinds (picks s) p) o)) r
 unfolding picks
-reads-all-kinds s p e o l n r i =
+reads_all_kinds s p e o l n r i =
     subst
-    (λ ks. Reads l n (want (kind_word p o)) (write-kinds s all_kinds ++ r) n (want (kind_word (with-kinds (picks_onto s all_kinds ks) p) o)) r)
+    (λ ks. Reads l n (want (kind_word p o)) (write_kinds s all_kinds ++ r) n (want (kind_word (with_kinds (picks_onto s all_kinds ks) p) o)) r)
     e
-    (reads-kinds s all_kinds p (subst (Follow s all_kinds) (sym e) (follow_all s)) o l n r i)
+    (reads_kinds s all_kinds p (subst (Follow s all_kinds) (sym e) (follow_all s)) o l n r i)
 
 -- ---- the kinds picked are those that the shape has
 
@@ -208,21 +208,21 @@ among_picks k s js ks h i =
     ∙ among_picks_other k s ks (pick (has k s) k (picks_onto s js [])) i
     ∙ among_pick_same k (has k s) (picks_onto s js []) (among_picks_other k s js [] h)
 
-pub among-kinds : (k : Kind) (s : Shape) → among k (picks s) ≡ has k s
+pub among_kinds : (k : Kind) (s : Shape) → among k (picks s) ≡ has k s
 unfolding picks all_kinds among rank
-among-kinds Kind.null s =
+among_kinds Kind.null s =
     among_picks Kind.null s [] (Kind.bool ∷ Kind.int ∷ Kind.dec ∷ Kind.text ∷ Kind.list ∷ Kind.rec ∷ []) refl refl
-among-kinds Kind.bool s =
+among_kinds Kind.bool s =
     among_picks Kind.bool s (Kind.null ∷ []) (Kind.int ∷ Kind.dec ∷ Kind.text ∷ Kind.list ∷ Kind.rec ∷ []) refl refl
-among-kinds Kind.int s =
+among_kinds Kind.int s =
     among_picks Kind.int s (Kind.null ∷ Kind.bool ∷ []) (Kind.dec ∷ Kind.text ∷ Kind.list ∷ Kind.rec ∷ []) refl refl
-among-kinds Kind.dec s =
+among_kinds Kind.dec s =
     among_picks Kind.dec s (Kind.null ∷ Kind.bool ∷ Kind.int ∷ []) (Kind.text ∷ Kind.list ∷ Kind.rec ∷ []) refl refl
-among-kinds Kind.text s =
+among_kinds Kind.text s =
     among_picks Kind.text s (Kind.null ∷ Kind.bool ∷ Kind.int ∷ Kind.dec ∷ []) (Kind.list ∷ Kind.rec ∷ []) refl refl
-among-kinds Kind.list s =
+among_kinds Kind.list s =
     among_picks Kind.list s (Kind.null ∷ Kind.bool ∷ Kind.int ∷ Kind.dec ∷ Kind.text ∷ []) (Kind.rec ∷ []) refl refl
-among-kinds Kind.rec s =
+among_kinds Kind.rec s =
     among_picks Kind.rec s (Kind.null ∷ Kind.bool ∷ Kind.int ∷ Kind.dec ∷ Kind.text ∷ Kind.list ∷ []) [] refl refl
 
 -- ---- the shape of its parts
@@ -262,9 +262,9 @@ build_back (shape n b m t e r) =
     let s = shape n b m t e r in
     λ i.
     shape
-    (among-kinds Kind.null s i)
-    (among-kinds Kind.bool s i)
-    (numeric_back m (picks s) (among-kinds Kind.dec s) (among-kinds Kind.int s) i)
-    (among-kinds Kind.text s i)
+    (among_kinds Kind.null s i)
+    (among_kinds Kind.bool s i)
+    (numeric_back m (picks s) (among_kinds Kind.dec s) (among_kinds Kind.int s) i)
+    (among_kinds Kind.text s i)
     e
-    (record_back r (parts_of s) (among-kinds Kind.rec s) refl i)
+    (record_back r (parts_of s) (among_kinds Kind.rec s) refl i)

@@ -12,7 +12,7 @@ use Rattle.definitions.specs.Shape.{Kind, all_kinds, among, Shape, Element, no_l
 use Rattle.definitions.specs.ShapeText.{Parts, no_parts, Around, as_element, as_member, State, want, shape_open, shape_word}
 use Rattle.definitions.specs.ShapeText.{kind_word, member_open, member_word, member_name, member_close, put, depth, build}
 use Rattle.definitions.specs.ShapeText.{name_fits, shape_words, member_words, member_step, element_step, bracket_step, kind_step}
-use Rattle.definitions.specs.ShapeText.{want_step, step, write-kinds, new_line, write, write_element, write_record, write_fields}
+use Rattle.definitions.specs.ShapeText.{want_step, step, write_kinds, new_line, write, write_element, write_record, write_fields}
 use Rattle.laws.specs.Ranges.{gt_leb}
 use Rattle.laws.proofs.LexLaws.{inner, is_word, Bordered, bordered_line}
 use Rattle.laws.proofs.RoundReads.{Steps}
@@ -55,9 +55,9 @@ pub record Behind (p : Parts) (o : Around) (q : State) : Type 0 where
   pub opened : Steps q opening (member_step p o opening)
   pub closed : Steps q closing (member_step p o closing)
 
-pub behind-kinds : (p : Parts) (o : Around) → among Kind.list p.kinds ≡ false → Behind p o (want (kind_word p o))
+pub behind_kinds : (p : Parts) (o : Around) → among Kind.list p.kinds ≡ false → Behind p o (want (kind_word p o))
 unfolding step want_step kind_step bracket_step at_place
-behind-kinds p o h = record { opened = λ at. rw (h, bracket_step) refl; closed = λ at. rw (h, bracket_step) refl }
+behind_kinds p o h = record { opened = λ at. rw (h, bracket_step) refl; closed = λ at. rw (h, bracket_step) refl }
 
 pub behind_element : (p : Parts) (o : Around) → Behind p o (want (member_open p o))
 unfolding step want_step at_place
@@ -101,15 +101,15 @@ append_six a b c d e f z = simp append_assoc
 
 pub write_split
     : (s : Shape) (e : Element) (r : Record) (around : ℕ) (z : Bytes)
-    → bytes "(shape" ++ write-kinds s all_kinds ++ write_element e (suc around) ++ write_record r (suc around) ++ bytes ")" ++ z
+    → bytes "(shape" ++ write_kinds s all_kinds ++ write_element e (suc around) ++ write_record r (suc around) ++ bytes ")" ++ z
     ≡ 0x28
     ∷ bytes "shape"
-    ++ (write-kinds s all_kinds ++ (write_element e (suc around) ++ (write_record r (suc around) ++ 0x29 ∷ z)))
+    ++ (write_kinds s all_kinds ++ (write_element e (suc around) ++ (write_record r (suc around) ++ 0x29 ∷ z)))
 unfolding bytes
 write_split s e r around z =
     ap
     (λ w. 0x28 ∷ bytes "shape" ++ w)
-    (append_four (write-kinds s all_kinds) (write_element e (suc around)) (write_record r (suc around)) (bytes ")") z)
+    (append_four (write_kinds s all_kinds) (write_element e (suc around)) (write_record r (suc around)) (bytes ")") z)
 
 pub fields_split
     : (n : Bytes) (s : Shape) (fs : Fields) (around : ℕ) (z : Bytes)

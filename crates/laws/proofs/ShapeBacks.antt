@@ -13,7 +13,7 @@ use Rattle.laws.specs.FormGrammar.{at, ShapeForm}
 use Rattle.laws.specs.FormRuns.{Walk}
 use Rattle.laws.proofs.FormSteps.{Back, walk_back, open_back, close_back, text_back, true_back, some_back, look_each, named_back}
 use Rattle.laws.proofs.ShapeRests.{Rest, rest_whole, rest_open, rest_word, rest_member, rest_name, rest_close}
-use Rattle.laws.proofs.ShapeRests.{tail_end, tail_member, form_open, kind_begins, no-more-kinds, element_begins}
+use Rattle.laws.proofs.ShapeRests.{tail_end, tail_member, form_open, kind_begins, no_more_kinds, element_begins}
 
 member_back
     : (p : Parts) (o : Around) (x : ℕ) (k : Token) (ts : List Placed) (a : Shape)
@@ -43,7 +43,7 @@ bracket_back p o x ts a = by_list (among Kind.list p.kinds) refl
         (elim l [ true ↦ element_step p o closing | false ↦ member_step p o closing ])
         → Rest (want (kind_word p o)) (at x closing ∷ ts) a)
     by_list true h = (element_begins h, λ b. absurd b)
-    by_list false h = (λ b. no-more-kinds h (member_back p o x opening ts a b), λ b. no-more-kinds h (member_back p o x closing ts a b))
+    by_list false h = (λ b. no_more_kinds h (member_back p o x opening ts a b), λ b. no_more_kinds h (member_back p o x closing ts a b))
 
 pub kind_spelled : (w : Bytes) (k : Kind) → look_word kind_words w ≡ some k → w ≡ kind_name k
 unfolding kind_words all_kinds

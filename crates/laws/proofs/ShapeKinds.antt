@@ -8,7 +8,7 @@ use Rattle.definitions.specs.ShapeText.{kind_name, in_order, may_follow, numeric
 use Rattle.definitions.specs.Tokens.{word, Placed, look_word}
 use Rattle.laws.specs.Bools.{and_left, and_right, and_intro, or_left, or_right}
 use Rattle.laws.specs.Tests.{ltb_lt, lt-ltb, eq-eqb, ne_eqb, lt_or_le}
-use Rattle.laws.specs.FormGrammar.{at, KindWords, no-kinds, has_kind, lacks_kind}
+use Rattle.laws.specs.FormGrammar.{at, KindWords, no_kinds, has_kind, lacks_kind}
 
 -- ---- words
 
@@ -134,7 +134,7 @@ at_or_above {b} {c} h = ⊎_elim inr (λ (t : c ≤ b). inl (omega arith)) (lt_o
 words_from
     : {b : ℕ} {js : List Kind} → Run b js → (s : Shape) {ks ls : List Kind} {ts us : List Placed} → KindsOn b ks ts ls us
     → ((j : Kind) → b ≤ rank j → among j ks ≡ false) → ((j : Kind) → has j s ≡ among j ls) → KindWords s js ts us
-words_from run_end s kinds_end under same = no-kinds
+words_from run_end s kinds_end under same = no_kinds
 words_from run_end s (kinds_next {k = k} a f g) under same = absurd (let y = rank_most k in let z : ⊥ = omega arith in z)
 words_from (run_more {b = b} {k = j} {ks = js} e run) s kinds_end under same =
     lacks_kind (same j ∙ under j (omega arith)) (words_from run s kinds_end (λ i h. under i (omega arith)) same)
@@ -233,7 +233,7 @@ words_to
     → bound ks ≤ b → ((k : Kind) → rank k < b → among k ks ≡ has k s) → ((k : Kind) → b ≤ rank k → among k ks ≡ false)
     → Read s ks ts us
 unfolding bound
-words_to run_end no-kinds ks h same under =
+words_to run_end no_kinds ks h same under =
     record { kinds = ks; chain = kinds_end; agrees = λ k. same k (let z = rank_most k in omega arith) }
 words_to (run_more {b = b} e run) {s} (has_kind {k = j} {ts = ts} f g) ks h same under =
     let r =
@@ -268,6 +268,6 @@ words_to (run_more {b = b} e run) {s} (lacks_kind {k = j} f g) ks h same under =
     (λ k q. under k (omega arith))
 
 -- the words of a shape's kinds are read one behind the other
-pub words-kinds : (s : Shape) {ts us : List Placed} → KindWords s all_kinds ts us → Read s [] ts us
+pub words_kinds : (s : Shape) {ts us : List Placed} → KindWords s all_kinds ts us → Read s [] ts us
 unfolding bound among
-words-kinds s g = words_to run_all g [] (omega arith) (λ k q. absurd (let z : ⊥ = omega arith in z)) (λ k q. refl)
+words_kinds s g = words_to run_all g [] (omega arith) (λ k q. absurd (let z : ⊥ = omega arith in z)) (λ k q. refl)

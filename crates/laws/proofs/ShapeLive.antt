@@ -15,7 +15,7 @@ use Rattle.laws.specs.Names.{before_lt}
 use Rattle.laws.specs.FormGrammar.{at}
 use Rattle.laws.specs.FormRuns.{stay, on, enter}
 use Rattle.laws.proofs.FormStops.{Reaches}
-use Rattle.laws.proofs.ShapeWalks.{shape_opens, member_called, member_closed, element_opens, behind-kinds}
+use Rattle.laws.proofs.ShapeWalks.{shape_opens, member_called, member_closed, element_opens, behind_kinds}
 use Rattle.laws.proofs.ShapeWalks.{behind_element, members_end, shape_named as shape_goes, member_named as member_goes}
 
 -- ---- each state has a completion
@@ -47,7 +47,7 @@ live_word o =
     live_on
     (at 0 (word (bytes "shape")))
     (shape_goes o 0)
-    (live_on (at 0 closing) (members_end (behind-kinds {p = no_parts} refl) 0) (live_put o (build no_parts)))
+    (live_on (at 0 closing) (members_end (behind_kinds {p = no_parts} refl) 0) (live_put o (build no_parts)))
 
 live_open : (o : Around) → Live (want (shape_open o))
 live_open o = live_enter (at 0 opening) (shape_opens o 0) (live_word o)
@@ -84,7 +84,7 @@ live (want (kind_word p o)) =
     ⊎_elim
     (λ (h : among Kind.list p.kinds ≡ true).
     live_enter (at 0 opening) (element_opens p o 0 h) (live_word (as_element p o)))
-    (λ (h : among Kind.list p.kinds ≡ false). live_on (at 0 closing) (members_end (behind-kinds h) 0) (live_put o (build p)))
+    (λ (h : among Kind.list p.kinds ≡ false). live_on (at 0 closing) (members_end (behind_kinds h) 0) (live_put o (build p)))
     (tell (among Kind.list p.kinds))
 live (want (member_open p o)) = live_members p o
 live (want (member_word p o)) = live_on (at 0 (word (bytes "member"))) (member_goes p o 0) (live_name p o)

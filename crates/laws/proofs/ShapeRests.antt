@@ -51,7 +51,7 @@ pub data Rest : State → List Placed → Shape → Type 0 where
   rest_word
       : {o : Around} {a : Shape} {x : ℕ} {ts : List Placed} → Rest (want (kind_word no_parts o)) ts a
       → Rest (want (shape_word o)) (at x (word (bytes "shape")) ∷ ts) a
-  rest-kinds
+  rest_kinds
       : {p : Parts} {o : Around} {ls : List Kind} {s a : Shape} {ts us vs : List Placed}
       → KindsOn (bound p.kinds) p.kinds ts ls us → After (re_kinded p ls) us s vs → Rest (put s o) vs a
       → Rest (want (kind_word p o)) ts a
@@ -162,24 +162,24 @@ pub form_open
     : {o : Around} {a : Shape} {x : ℕ} {ts : List Placed} → Rest (want (shape_word o)) ts a
     → Rest (want (shape_open o)) (at x opening ∷ ts) a
 unfolding no_parts bound
-form_open (rest_word (rest-kinds g t r)) = rest_open (after_form g t) r
+form_open (rest_word (rest_kinds g t r)) = rest_open (after_form g t) r
 
 pub kind_begins
     : {p : Parts} {o : Around} (k : Kind) {a : Shape} {x : ℕ} {ts : List Placed} → may_follow p.kinds k ≡ true
     → Rest (want (kind_word (with_kind k p) o)) ts a → Rest (want (kind_word p o)) (at x (word (kind_name k)) ∷ ts) a
 unfolding with_kind bound
-kind_begins {p} k h (rest-kinds g t r) = rest-kinds (kinds_next (follow_bound p.kinds k h) h g) t r
+kind_begins {p} k h (rest_kinds g t r) = rest_kinds (kinds_next (follow_bound p.kinds k h) h g) t r
 
 -- a state behind kinds without list is one behind the element
-pub no-more-kinds
+pub no_more_kinds
     : {p : Parts} {o : Around} {a : Shape} {ts : List Placed} → among Kind.list p.kinds ≡ false
     → Rest (want (member_open p o)) ts a → Rest (want (kind_word p o)) ts a
-no-more-kinds h (rest_members t r) = rest-kinds kinds_end (after_plain h t) r
+no_more_kinds h (rest_members t r) = rest_kinds kinds_end (after_plain h t) r
 
 element_ends
     : {p : Parts} {o : Around} {e a : Shape} {ts us : List Placed} → among Kind.list p.kinds ≡ true → ShapeForm ts e us
     → Rest (want (member_open (with_element e p) o)) us a → Rest (want (kind_word p o)) ts a
-element_ends h e (rest_members t r) = rest-kinds kinds_end (after_List h e t) r
+element_ends h e (rest_members t r) = rest_kinds kinds_end (after_List h e t) r
 
 -- the bracket of an element
 pub element_begins

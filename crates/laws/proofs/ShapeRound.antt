@@ -11,7 +11,7 @@ use Rattle.definitions.specs.Shape.{has, has_list, has_rec, behind, ascending, f
 use Rattle.definitions.specs.Shape.{levels_element, levels_record, levels_fields, ascending_element, ascending_record, ascending_fields}
 use Rattle.definitions.specs.ShapeText.{Parts, no_parts, with_element, with_member, Around, text_end, as_element, as_member, State, want}
 use Rattle.definitions.specs.ShapeText.{shape_open, shape_word, kind_word, member_open, put, depth, fields_onto, name_fits, finished}
-use Rattle.definitions.specs.ShapeText.{read_shape, write-kinds, new_line, write, write_element, write_record, write_fields, write_shape}
+use Rattle.definitions.specs.ShapeText.{read_shape, write_kinds, new_line, write, write_element, write_record, write_fields, write_shape}
 use Rattle.laws.specs.Bools.{and_left, and_right}
 use Rattle.laws.specs.Rfc3629.{UTF8Octets}
 use Rattle.laws.specs.Good.{GoodShape, good_shape, GoodElement, good_no_list, good_list_of, GoodRecord}
@@ -19,8 +19,8 @@ use Rattle.laws.specs.Good.{good_no_rec, good_rec_of, GoodFields, good_no_fields
 use Rattle.laws.proofs.LexLaws.{bordered_space, bordered_close}
 use Rattle.laws.proofs.RoundReads.{Reads, Steps, reads_nothing, reads_then, reads_from, reads_space, reads_new_line}
 use Rattle.laws.proofs.RoundReads.{reads_open, reads_open_form, reads_close, reads_word, reads_text}
-use Rattle.laws.proofs.RoundKinds.{picks, with-kinds, among-kinds, bordered-kinds, reads-all-kinds, fields_in, parts_of, build_back}
-use Rattle.laws.proofs.RoundPieces.{room, shape_is_word, member_is_word, steps_shape, steps_member, steps_name, Behind, behind-kinds}
+use Rattle.laws.proofs.RoundKinds.{picks, with_kinds, among_kinds, bordered_kinds, reads_all_kinds, fields_in, parts_of, build_back}
+use Rattle.laws.proofs.RoundPieces.{room, shape_is_word, member_is_word, steps_shape, steps_member, steps_name, Behind, behind_kinds}
 use Rattle.laws.proofs.RoundPieces.{behind_element, steps_element, steps_member_shape, steps_member_close, steps_member_open, steps_shape_close}
 use Rattle.laws.proofs.RoundPieces.{write_split, fields_split, bordered_element, bordered_record, follows, follows_behind, follows_first}
 
@@ -65,20 +65,20 @@ shape_parts
     l
     n
     q
-    (bytes "(shape" ++ write-kinds s all_kinds ++ write_element e (suc around) ++ write_record r (suc around) ++ bytes ")" ++ z)
+    (bytes "(shape" ++ write_kinds s all_kinds ++ write_element e (suc around) ++ write_record r (suc around) ++ bytes ")" ++ z)
     k
     (put s o)
     z
-unfolding no_parts with-kinds kinds_alone
+unfolding no_parts with_kinds kinds_alone
 shape_parts s e r around l n m k o q q₁ q₂ z st h d x y b =
     let i₁ = bordered_record r (suc around) (0x29 ∷ z) (bordered_close z) in
     let i₂ = bordered_element e (suc around) (write_record r (suc around) ++ 0x29 ∷ z) i₁ in
-    let i₃ = bordered-kinds s all_kinds (write_element e (suc around) ++ (write_record r (suc around) ++ 0x29 ∷ z)) i₂ in
+    let i₃ = bordered_kinds s all_kinds (write_element e (suc around) ++ (write_record r (suc around) ++ 0x29 ∷ z)) i₂ in
     reads_from
     (write_split s e r around z)
     (reads_then (reads_open_form l n _ st (room l (suc n) (suc (depth o)) h d))
     (reads_then (reads_word l (suc n) (bytes "shape") _ shape_is_word i₃ (steps_shape o))
-    (reads_then (reads-all-kinds s no_parts refl o l (suc n) _ i₂)
+    (reads_then (reads_all_kinds s no_parts refl o l (suc n) _ i₂)
     (reads_then x
     (reads_then y
     (reads_shape_close s l k o q₂ z b))))))
@@ -131,10 +131,10 @@ mutual
       let c : suc n + forms_element e + forms_record r ≡ n + suc (forms_element e + forms_record r) = omega arith in
       let (q₁, d₁, b₁) =
       element_reads ge (and_left (ascending_element e) (ascending_record r) a) (suc around) l (suc n) (picks s) o
-      (write_record r (suc around) ++ 0x29 ∷ z) (among-kinds Kind.list s) h₂ k₂ in
+      (write_record r (suc around) ++ 0x29 ∷ z) (among_kinds Kind.list s) h₂ k₂ in
       let (q₂, d₂, b₂) =
       record_reads gr (and_right (ascending_element e) (ascending_record r) a) (suc around) l (suc n + forms_element e)
-      (kinds_and_element (picks s) e) o q₁ (0x29 ∷ z) b₁ refl (among-kinds Kind.rec s) h₃ k₃ in
+      (kinds_and_element (picks s) e) o q₁ (0x29 ∷ z) b₁ refl (among_kinds Kind.rec s) h₃ k₃ in
       reads_count c (shape_parts s e r around l n _ _ o q q₁ q₂ z st h₁ k₁ d₁ d₂ b₂)
 
   element_reads
@@ -147,7 +147,7 @@ mutual
   element_reads good_no_list a around l n ks o z f h k = (
     want (kind_word (kinds_alone ks) o),
     reads_count (sym (add-zero n)) (reads_nothing l n _ z),
-    behind-kinds (kinds_alone ks) o f,
+    behind_kinds (kinds_alone ks) o f,
   )
   element_reads (good_list_of {s} gs) a around l n ks o z f h k = (
     want (member_open (kinds_and_element ks (list_of s)) o),

@@ -15,7 +15,7 @@ use Rattle.laws.specs.FormGrammar.{at, ShapeForm, shape_form, ElementForm, no_el
 use Rattle.laws.specs.FormGrammar.{RecordForm, no_members, members, MembersForm, no_member, member}
 use Rattle.laws.specs.FormRuns.{Walk, stay, on, walk_append, most, most_append}
 use Rattle.laws.proofs.FormSteps.{head_enter, head_on}
-use Rattle.laws.proofs.ShapeKinds.{KindsOn, kinds_end, kinds_next, words-kinds, numeric_agrees, look_kind}
+use Rattle.laws.proofs.ShapeKinds.{KindsOn, kinds_end, kinds_next, words_kinds, numeric_agrees, look_kind}
 use Rattle.laws.proofs.ShapeRests.{with_record, follows, ended_with, ended_without, behind_follows}
 
 -- ---- the nestings of shape forms, in the order of their brackets
@@ -125,21 +125,21 @@ element_opens p o x h = rw (h, bracket_step)
 -- ---- behind the kinds
 
 -- the state is behind the kinds and the element of these parts
-pub data At-members : State → Parts → Around → Type 0 where
-  behind-kinds : {p : Parts} {o : Around} → among Kind.list p.kinds ≡ false → At-members (want (kind_word p o)) p o
-  behind_element : {p : Parts} {o : Around} → At-members (want (member_open p o)) p o
+pub data AtMembers : State → Parts → Around → Type 0 where
+  behind_kinds : {p : Parts} {o : Around} → among Kind.list p.kinds ≡ false → AtMembers (want (kind_word p o)) p o
+  behind_element : {p : Parts} {o : Around} → AtMembers (want (member_open p o)) p o
 
 members_open
-    : {q : State} {p : Parts} {o : Around} → At-members q p o → (x : ℕ) → among Kind.rec p.kinds ≡ true
+    : {q : State} {p : Parts} {o : Around} → AtMembers q p o → (x : ℕ) → among Kind.rec p.kinds ≡ true
     → step q (at x opening) ≡ go (want (member_word p o))
 unfolding step want_step kind_step bracket_step member_step where_true
-members_open (behind-kinds h) x r = rw (h, bracket_step, r, where_true)
+members_open (behind_kinds h) x r = rw (h, bracket_step, r, where_true)
 members_open behind_element x r = rw (r, where_true)
 
 pub members_end
-    : {q : State} {p : Parts} {o : Around} → At-members q p o → (x : ℕ) → step q (at x closing) ≡ go (put (build p) o)
+    : {q : State} {p : Parts} {o : Around} → AtMembers q p o → (x : ℕ) → step q (at x closing) ≡ go (put (build p) o)
 unfolding step want_step kind_step bracket_step member_step
-members_end (behind-kinds h) x = rw (h, bracket_step)
+members_end (behind_kinds h) x = rw (h, bracket_step)
 members_end behind_element x = refl
 
 -- the parts of these kinds and this element
@@ -156,12 +156,12 @@ kinds_walk {ks = ks} (kinds_next {x = x} {k = k} h f g) o = on (kind_goes (parts
 -- the walk over an element, if there is one
 record ElementWalk (ls : List Kind) (e : Element) (o : Around) (ts us : List Placed) : Type 0 where
   state : State
-  behind : At-members state (parts ls e) o
+  behind : AtMembers state (parts ls e) o
   walk : Walk step (want (kind_word (parts ls no_list) o)) ts (element_depths e (suc (depth o))) state us
 
 -- the walk over the bracket that ends a shape
 end_walk
-    : {q : State} {p : Parts} {o : Around} {s : Shape} {ts vs : List Placed} → At-members q p o → build p ≡ s → (x : ℕ)
+    : {q : State} {p : Parts} {o : Around} {s : Shape} {ts vs : List Placed} → AtMembers q p o → build p ≡ s → (x : ℕ)
     → ts ≡ at x closing ∷ vs → Walk step q ts [] (put s o) vs
 end_walk {q} {p} {o} {s} {ts} {vs} a e x i =
     subst
@@ -194,7 +194,7 @@ mutual
       → ((x : ℕ) → step q (at x opening) ≡ opens (suc (depth o)) (want (shape_word o)))
       → Walk step q ts (shape_depths s (depth o)) (put s o) us
   shape_walk (shape_form {x = x} {ws = ws} {xs = xs} {n = n} {b = b} {t = t} {m = m} {e = e} {r = r} h k f g) o q begins =
-      let read = words-kinds (shape n b m t e r) k in
+      let read = words_kinds (shape n b m t e r) k in
       let ls = read.kinds in
       let ew = element_walk f ls o (sym (read.agrees Kind.list)) in
       head_enter
@@ -213,7 +213,7 @@ mutual
   element_walk
       : {e : Element} {ts us : List Placed} → ElementForm ts e us → (ls : List Kind) (o : Around)
       → has_list e ≡ among Kind.list ls → ElementWalk ls e o ts us
-  element_walk no_element ls o h = record { state = want (kind_word (parts ls no_list) o); behind = behind-kinds (sym h); walk = stay }
+  element_walk no_element ls o h = record { state = want (kind_word (parts ls no_list) o); behind = behind_kinds (sym h); walk = stay }
   element_walk (element {s = s} f) ls o h =
       record {
         state = want (member_open (parts ls (list_of s)) o);
@@ -222,7 +222,7 @@ mutual
       }
 
   record_walk
-      : {r : Record} {ts us : List Placed} → RecordForm ts r us → (p : Parts) (o : Around) (q : State) → At-members q p o
+      : {r : Record} {ts us : List Placed} → RecordForm ts r us → (p : Parts) (o : Around) (q : State) → AtMembers q p o
       → p.fields ≡ no_fields → has_rec r ≡ among Kind.rec p.kinds → (x : ℕ) (vs : List Placed) → us ≡ at x closing ∷ vs
       → Walk step q ts (record_depths r (suc (depth o))) (put (with_record p r) o) vs
   record_walk no_members p o q a e h x vs i = end_walk a (ended_without p (sym h)) x i
@@ -233,7 +233,7 @@ mutual
       (members_walk m p o q a (first_follows p.fields fs e) (sym h) x vs i)
 
   members_walk
-      : {fs : Fields} {ts us : List Placed} → MembersForm ts fs us → (p : Parts) (o : Around) (q : State) → At-members q p o
+      : {fs : Fields} {ts us : List Placed} → MembersForm ts fs us → (p : Parts) (o : Around) (q : State) → AtMembers q p o
       → follows p.fields fs ≡ true → among Kind.rec p.kinds ≡ true → (x : ℕ) (vs : List Placed) → us ≡ at x closing ∷ vs
       → Walk step q ts (fields_depths fs (suc (depth o))) (put (with_record p (rec_of (fields_onto p.fields fs))) o) vs
   members_walk no_member p o q a e h x vs i = end_walk a (ended_with p h) x i

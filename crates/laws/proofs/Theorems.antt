@@ -136,7 +136,7 @@ partial_order = record { reflexive = below_refl; transitive = below_trans; antis
 
 pub least_upper_bound : LeastUpperBound
 least_upper_bound =
-    record { well-formed = join_ascending; above_left = join_upper_left; above_right = join_upper_right; least = join_least }
+    record { well_formed = join_ascending; above_left = join_upper_left; above_right = join_upper_right; least = join_least }
 
 pub admits_is_below : AdmitsIsBelow
 admits_is_below s v d a = (admits_below s v d a, below_admits s v d a)

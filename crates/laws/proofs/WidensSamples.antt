@@ -10,7 +10,7 @@ use Rattle.definitions.specs.Shape.{Shape, nothing}
 use Rattle.definitions.specs.Order.{below}
 use Rattle.definitions.specs.Operations.{Source, check_operation}
 use Rattle.definitions.specs.Calls.{call, buffer_published, buffer_lent, check_call}
-use Rattle.laws.specs.Chain.{Call, start, left_by, reached, ProperSource, In-range}
+use Rattle.laws.specs.Chain.{Call, start, left_by, reached, ProperSource, InRange}
 use Rattle.laws.proofs.ChainReached.{Stands, stands_reads, stands_short, stands_start, reaches}
 use Rattle.laws.proofs.ChainReaders.{check_passed}
 use Rattle.laws.specs.HostChain.{InferCall, reached_text}
@@ -44,7 +44,7 @@ module _ (source : Source) (proper : ProperSource source) where
     reached_further (c ∷ calls) further t = reached_further calls further (left_by source for_infer l c t)
 
     pub reached_ordered
-        : In-range l → (calls further : List Call)
+        : InRange l → (calls further : List Call)
         → Ordered l (reached source for_infer l calls start) (reached source for_infer l (calls ++ further) start)
     reached_ordered range calls further =
         let r = reaches source proper for_infer l calls start nothing (stands_start l range) in
@@ -54,7 +54,7 @@ module _ (source : Source) (proper : ProperSource source) where
 
   -- the same as a host makes the calls
   pub texts_ordered
-      : (l : Limits) → In-range l → (list further : List InferCall)
+      : (l : Limits) → InRange l → (list further : List InferCall)
       → Ordered l (reached_text source l list start) (reached_text source l (list ++ further) start)
   texts_ordered l range list further =
       ordered_as (reached_as source proper l range list start) same_later
@@ -87,10 +87,10 @@ widening =
 -- a check that gave 0 was at a set in range
 range_checked
     : (for_check lent : List ℕ) (l : Limits) (reader text output : Bytes) → (check_operation for_check lent l reader text output).answer.number ≡ 0
-    → In-range l
+    → InRange l
 range_checked for_check lent l reader text output e = (check_passed for_check lent l reader text output e).3.range
 
-range_called : (l : Limits) (reader text output answer : Bytes) → (check_call l reader text output answer).number ≡ 0 → In-range l
+range_called : (l : Limits) (reader text output answer : Bytes) → (check_call l reader text output answer).number ≡ 0 → InRange l
 unfolding check_call call
 range_called l reader text output answer e = range_checked buffer_published (buffer_lent answer) l reader text output e
 

@@ -22,7 +22,7 @@ use Rattle.laws.proofs.JsonAdequate.{json_accepted_to, json_distinct}
 use Rattle.laws.proofs.ReaderFacts.{reader_proper}
 use Rattle.laws.proofs.RoundLaws.{plain_reads_back, plain_idempotent, json_read_good, reader_read_good, run_good}
 use Rattle.laws.specs.RunLaws.{run_distinct}
-use Rattle.laws.specs.Chain.{In-range}
+use Rattle.laws.specs.Chain.{InRange}
 use Rattle.laws.specs.Judging.{Positive, prelude_positive}
 use Rattle.laws.specs.Judging.{stopped_not_passed, passed_same, bind_passed, prelude_passed, text_passed, both_passed, in_text_passed}
 use Rattle.laws.specs.Judging.{result_over, result_out_over, result_out_fits, finish_zero, finish_written, front}
@@ -32,7 +32,7 @@ use Rattle.laws.proofs.WrittenShapes.{refusal_keeps}
 -- ---- what a run gives reads back
 
 -- a document that was read has no more values than a coefficient can count
-read_small : (l : Limits) → In-range l → (s : Bytes) (v : Value) → read_json l s ≡ ok v → size v ≤ most_coefficient
+read_small : (l : Limits) → InRange l → (s : Bytes) (v : Value) → read_json l s ≡ ok v → size v ≤ most_coefficient
 unfolding most_coefficient
 read_small l r s v e =
     let (x, h, f, m) = json_accepted_to l s v e in
@@ -41,7 +41,7 @@ read_small l r s v e =
     le_trans (le_trans k n) (lit≤ tt)
 
 pub result_reads_back
-    : (l : Limits) → In-range l → (text s : Bytes) (r : Result) (v : Value) (x : Ran Value) → read_reader l text ≡ ok r
+    : (l : Limits) → InRange l → (text s : Bytes) (r : Result) (v : Value) (x : Ran Value) → read_reader l text ≡ ok r
     → read_json l s ≡ ok v → run_reader r l v ≡ ok x → size x.result ≤ l.values → nesting x.result ≤ l.nesting
     → read_json l (plain x.result) ≡ ok x.result
 result_reads_back l range text s r v x t e run small shallow =
@@ -141,7 +141,7 @@ module _ (published lent : List ℕ) (l : Limits) where
       )
 
   pub run_operation_reads_back
-      : In-range l → (reader document output : Bytes) → (run_operation read_json published lent l reader document output).answer.number ≡ 0
+      : InRange l → (reader document output : Bytes) → (run_operation read_json published lent l reader document output).answer.number ≡ 0
       → (r : Result) × (v : Value) × (x : Ran Value) × (read_reader l reader ≡ ok r) × (read_json l document ≡ ok v) × (run_reader r l v ≡ ok x)
       × ((run_operation read_json published lent l reader document output).answer.steps ≡ x.steps)
       × (read_json l (take (run_operation read_json published lent l reader document output).answer.length

@@ -11,7 +11,7 @@ use Rattle.definitions.specs.Order.{below}
 use Rattle.definitions.specs.Admits.{kind_of, missing_have_null, admitted, admitted_items, admitted_members, admits}
 use Rattle.laws.specs.Bools.{and_left, and_right, and_intro, or_cases, or_left, or_right}
 use Rattle.laws.specs.OrderInduction.{InOption, Ascending, ascending_of_element, ascending_of_record, ascending_found}
-use Rattle.laws.specs.OrderParts.{Elements, AtName, Records, below-kinds, below_elements, below_records}
+use Rattle.laws.specs.OrderParts.{Elements, AtName, Records, below_kinds, below_elements, below_records}
 use Rattle.laws.specs.AdmitsParts.{admitted_by_element, admitted_by_record, admitted_by_listed}
 use Rattle.laws.specs.AdmitsParts.{admitted_list, admitted_rec, admitted_member, lacked_use, lacked_intro}
 
@@ -35,7 +35,7 @@ lacked_mono n ms (some a) b v f = go (or_cases (has_name n ms) (has Kind.null a)
   where
     go : (has_name n ms ≡ true) ⊎ (has Kind.null a ≡ true) → has_name n ms || has Kind.null b ≡ true
     go (inl h) = or_left (has Kind.null b) h
-    go (inr h) = or_right (has_name n ms) (below-kinds a b v Kind.null h)
+    go (inr h) = or_right (has_name n ms) (below_kinds a b v Kind.null h)
 
 record_mono
     : (ms : Members) (r q : Record) → ascending_record r ≡ true → ascending_record q ≡ true → Records r q
@@ -75,10 +75,10 @@ mutual
   admitted_mono
       : (v : Value) (s t : Shape) → ascending s ≡ true → ascending t ≡ true → below s t ≡ true → admitted v s ≡ true
       → admitted v t ≡ true
-  admitted_mono Value.null s t i j w h = below-kinds s t w Kind.null h
-  admitted_mono (Value.bool b) s t i j w h = below-kinds s t w Kind.bool h
-  admitted_mono (Value.number x) s t i j w h = below-kinds s t w (kind_of (Value.number x)) h
-  admitted_mono (Value.text x) s t i j w h = below-kinds s t w Kind.text h
+  admitted_mono Value.null s t i j w h = below_kinds s t w Kind.null h
+  admitted_mono (Value.bool b) s t i j w h = below_kinds s t w Kind.bool h
+  admitted_mono (Value.number x) s t i j w h = below_kinds s t w (kind_of (Value.number x)) h
+  admitted_mono (Value.text x) s t i j w h = below_kinds s t w Kind.text h
   admitted_mono (Value.list vs) s t i j w h =
       admitted_list vs t
       ∙ element_mono

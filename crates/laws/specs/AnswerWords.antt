@@ -14,8 +14,8 @@ unfoldable pub word_at : (k : ℕ) → Bytes → ℕ
 word_at k buffer = from_little_endian (take 8 (drop (8 * k) buffer))
 
 -- a number that a word can hold
-abbrev pub In-word : ℕ → Type 0
-In-word n = n < 18446744073709551616
+abbrev pub InWord : ℕ → Type 0
+InWord n = n < 18446744073709551616
 
 -- the words of a buffer are the fields of an answer
 pub record WordsOf (buffer : Bytes) (a : Answer) : Type 0 where

@@ -6,7 +6,7 @@ use Rattle.definitions.specs.declared.Answer.{Answer}
 use Rattle.definitions.specs.Bytes.{Bytes}
 use Rattle.definitions.specs.Calls.{little_endian, as_word, answer_words, answered}
 use Rattle.laws.specs.Tests.{le-ltb}
-use Rattle.laws.specs.AnswerWords.{from_little_endian, word_at, In-word, WordsOf}
+use Rattle.laws.specs.AnswerWords.{from_little_endian, word_at, InWord, WordsOf}
 
 -- so many numbers have so many bytes
 unfoldable bound : ℕ → ℕ
@@ -20,7 +20,7 @@ bytes_back (suc k) n h =
     let e : from_little_endian (little_endian k (n / 256)) ≡ n / 256 = bytes_back k (n / 256) (omega arith) in
     omega arith
 
-word_back : (n : ℕ) → In-word n → from_little_endian (little_endian 8 n) ≡ n
+word_back : (n : ℕ) → InWord n → from_little_endian (little_endian 8 n) ≡ n
 unfolding bound
 word_back n h = bytes_back 8 n h
 
@@ -55,16 +55,16 @@ module _ (a : Answer) (rest : Bytes) where
   word_4 = refl
 
 -- the length needs no other field
-pub length_back : (buffer : Bytes) (a : Answer) → 40 ≤ length buffer → In-word a.length → word_at 2 (answered buffer a) ≡ a.length
+pub length_back : (buffer : Bytes) (a : Answer) → 40 ≤ length buffer → InWord a.length → word_at 2 (answered buffer a) ≡ a.length
 length_back buffer a h k = ap (word_at 2) (answered_long buffer a h) ∙ word_2 a (drop 40 buffer) ∙ word_back a.length k
 
-yes_small : (b : Bool) → In-word (as_word b)
+yes_small : (b : Bool) → InWord (as_word b)
 unfolding as_word
 yes_small true = lit< tt
 yes_small false = lit< tt
 
 pub words_read_back
-    : (buffer : Bytes) (a : Answer) → 40 ≤ length buffer → In-word a.text → In-word a.place → In-word a.length → In-word a.steps
+    : (buffer : Bytes) (a : Answer) → 40 ≤ length buffer → InWord a.text → InWord a.place → InWord a.length → InWord a.steps
     → WordsOf (answered buffer a) a
 words_read_back buffer a h t p k s =
     let e = answered_long buffer a h in

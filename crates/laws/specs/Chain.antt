@@ -131,15 +131,15 @@ pub record ProperSource (source : Source) : Type 0 where
   pub names_in_utf8 : (l : Limits) (document : Bytes) (v : Value) → source l document ≡ ok v → GoodShape (shape_of v)
 
 -- a set of limits that no operation refuses
-abbrev pub In-range : Limits → Type 0
-In-range l = in_range l ≡ true
+abbrev pub InRange : Limits → Type 0
+InRange l = in_range l ≡ true
 
 -- "Demand 3 is a single claim about the list and what follows it": of a list of infer calls with any samples and any lent
 -- buffers, where for-infer, for-check and for-run are the published lengths of the work slices
 pub record Demand3 (source : Source) (for_infer for_check for_run : List ℕ) (l : Limits) (calls : List Call) : Type 0 where
   -- the shape reached
   pub shape : Shape
-  pub well-formed : ascending shape ≡ true
+  pub well_formed : ascending shape ≡ true
   pub reads_as : read_shape l (reached source for_infer l calls start) ≡ ok shape
   pub short_enough : length (reached source for_infer l calls start) ≤ l.bytes
   -- "the shape reached admits every accepted sample"

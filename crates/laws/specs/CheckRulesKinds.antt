@@ -166,24 +166,24 @@ cut_int Test.text m = without_dec false m
 cut_int Test.list m = without_dec false m
 cut_int Test.rec m = without_dec false m
 
-cut-kinds : (k : Test) (s : Shape) (j : Kind) → has j (cut_to k s) ≡ has j s && among j (test_kinds k)
+cut_kinds : (k : Test) (s : Shape) (j : Kind) → has j (cut_to k s) ≡ has j s && among j (test_kinds k)
 unfolding cut_to stay has
-cut-kinds k (shape n b m t e r) Kind.null = flip _ n
-cut-kinds k (shape n b m t e r) Kind.bool = flip _ b
-cut-kinds k (shape n b m t e r) Kind.int = cut_int k m
-cut-kinds k (shape n b m t e r) Kind.dec = stay_dec (among Kind.int (test_kinds k)) _ m
-cut-kinds k (shape n b m t e r) Kind.text = flip _ t
-cut-kinds k (shape n b m t e r) Kind.list = stay_list _ e
-cut-kinds k (shape n b m t e r) Kind.rec = stay_rec _ r
+cut_kinds k (shape n b m t e r) Kind.null = flip _ n
+cut_kinds k (shape n b m t e r) Kind.bool = flip _ b
+cut_kinds k (shape n b m t e r) Kind.int = cut_int k m
+cut_kinds k (shape n b m t e r) Kind.dec = stay_dec (among Kind.int (test_kinds k)) _ m
+cut_kinds k (shape n b m t e r) Kind.text = flip _ t
+cut_kinds k (shape n b m t e r) Kind.list = stay_list _ e
+cut_kinds k (shape n b m t e r) Kind.rec = stay_rec _ r
 
 pub cuts : (k : Test) (s : Shape) → Cut (test_kinds k) s (cut_to k s)
 unfolding cut_to
-cuts k s = record { kinds = cut-kinds k s; holds = stay_holds (λ j. among j (test_kinds k)) s }
+cuts k s = record { kinds = cut_kinds k s; holds = stay_holds (λ j. among j (test_kinds k)) s }
 
 pub cuts_as : {k : Test} {ks : List Kind} {s t : Shape} → Means k ks → Cut ks s t → cut_to k s ≡ t
 cuts_as {k} {ks} {s} {t} m c =
     let d : Cut (test_kinds k) s t = subst (λ (x : List Kind). Cut x s t) (sym (means_as m)) c in
-    shape_same s (cut_to k s) t (cuts k s).holds d.holds λ j. cut-kinds k s j ∙ sym (d.kinds j)
+    shape_same s (cut_to k s) t (cuts k s).holds d.holds λ j. cut_kinds k s j ∙ sym (d.kinds j)
 
 -- ---- taking out
 
@@ -194,24 +194,24 @@ or_nothing false b = refl
 flip_or : (a b : Bool) → a && b ≡ b && (a || false)
 flip_or a b = flip a b ∙ or_nothing a b
 
-taken-kinds
+taken_kinds
     : (k : Test) (s : Shape) (j : Kind)
     → has j (taken_out k s)
     ≡ has j s && (not (among j (test_kinds k)) || (among j (Kind.int ∷ []) && has Kind.dec s && not (among Kind.dec (test_kinds k))))
 unfolding taken_out stay has among rank
-taken-kinds k (shape n b m t e r) Kind.null = flip_or (not (among Kind.null (test_kinds k))) n
-taken-kinds k (shape n b m t e r) Kind.bool = flip_or (not (among Kind.bool (test_kinds k))) b
-taken-kinds k (shape n b m t e r) Kind.int = stay_int _ _ m
-taken-kinds k (shape n b m t e r) Kind.dec = stay_dec _ _ m ∙ or_nothing _ (has_dec m)
-taken-kinds k (shape n b m t e r) Kind.text = flip_or (not (among Kind.text (test_kinds k))) t
-taken-kinds k (shape n b m t e r) Kind.list = stay_list _ e ∙ or_nothing _ (has_list e)
-taken-kinds k (shape n b m t e r) Kind.rec = stay_rec _ r ∙ or_nothing _ (has_rec r)
+taken_kinds k (shape n b m t e r) Kind.null = flip_or (not (among Kind.null (test_kinds k))) n
+taken_kinds k (shape n b m t e r) Kind.bool = flip_or (not (among Kind.bool (test_kinds k))) b
+taken_kinds k (shape n b m t e r) Kind.int = stay_int _ _ m
+taken_kinds k (shape n b m t e r) Kind.dec = stay_dec _ _ m ∙ or_nothing _ (has_dec m)
+taken_kinds k (shape n b m t e r) Kind.text = flip_or (not (among Kind.text (test_kinds k))) t
+taken_kinds k (shape n b m t e r) Kind.list = stay_list _ e ∙ or_nothing _ (has_list e)
+taken_kinds k (shape n b m t e r) Kind.rec = stay_rec _ r ∙ or_nothing _ (has_rec r)
 
 pub takes : (k : Test) (s : Shape) → TakenOut (test_kinds k) s (taken_out k s)
 unfolding taken_out
-takes k s = record { kinds = taken-kinds k s; holds = stay_holds (λ j. not (among j (test_kinds k))) s }
+takes k s = record { kinds = taken_kinds k s; holds = stay_holds (λ j. not (among j (test_kinds k))) s }
 
 pub takes_as : {k : Test} {ks : List Kind} {s t : Shape} → Means k ks → TakenOut ks s t → taken_out k s ≡ t
 takes_as {k} {ks} {s} {t} m c =
     let d : TakenOut (test_kinds k) s t = subst (λ (x : List Kind). TakenOut x s t) (sym (means_as m)) c in
-    shape_same s (taken_out k s) t (takes k s).holds d.holds λ j. taken-kinds k s j ∙ sym (d.kinds j)
+    shape_same s (taken_out k s) t (takes k s).holds d.holds λ j. taken_kinds k s j ∙ sym (d.kinds j)

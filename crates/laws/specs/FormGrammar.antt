@@ -29,7 +29,7 @@ pub data Name (n : Bytes) : List Placed → List Placed → Type 0 where
 
 -- the words of those of these kinds that s has, in their order
 pub data KindWords (s : Shape) : List Kind → List Placed → List Placed → Type 0 where
-  no-kinds : {ts : List Placed} → KindWords s [] ts ts
+  no_kinds : {ts : List Placed} → KindWords s [] ts ts
   has_kind
       : {k : Kind} {ks : List Kind} {x : ℕ} {ts us : List Placed} → has k s ≡ true → KindWords s ks ts us
       → KindWords s (k ∷ ks) (at x (word (kind_name k)) ∷ ts) us

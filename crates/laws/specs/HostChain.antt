@@ -110,7 +110,7 @@ pub record PassesCall (source : Source) (l : Limits) (shape : Shape) (reader : B
 pub record Demand3OverCalls (source : Source) (l : Limits) (list : List InferCall) : Type 0 where
   -- the shape reached
   pub shape : Shape
-  pub well-formed : ascending shape ≡ true
+  pub well_formed : ascending shape ≡ true
   pub reads_as : read_shape l (reached_text source l list start) ≡ ok shape
   pub short_enough : length (reached_text source l list start) ≤ l.bytes
   -- "the shape reached admits every accepted sample"

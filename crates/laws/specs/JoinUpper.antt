@@ -10,7 +10,7 @@ use Rattle.laws.specs.Bools.{or_cases, or_left, or_right}
 use Rattle.laws.specs.FieldsPut.{with_null_ascending}
 use Rattle.laws.specs.OrderInduction.{InOption, InElement, InRecord, Step, shape_induction, in_found}
 use Rattle.laws.specs.OrderInduction.{Ascending, ascending_of_element, ascending_of_record, ascending_found}
-use Rattle.laws.specs.OrderParts.{Kinds, Elements, AtName, Records, below-kinds, below_elements, below_records, below_intro}
+use Rattle.laws.specs.OrderParts.{Kinds, Elements, AtName, Records, below_kinds, below_elements, below_records, below_intro}
 use Rattle.laws.specs.OrderLaws.{below_refl}
 use Rattle.laws.specs.JoinParts.{has_join, element_of_join, record_of_join, join_ascending, join_option, find_join}
 
@@ -44,15 +44,15 @@ with_null_record : (s : Shape) → record_of (with_null s) ≡ record_of s
 unfolding record_of with_null
 with_null_record (shape n b m t e r) = refl
 
-pub with-null-kinds : (s : Shape) → Kinds s (with_null s)
+pub with_null_kinds : (s : Shape) → Kinds s (with_null s)
 unfolding has with_null
-with-null-kinds (shape n b m t e r) Kind.null h = refl
-with-null-kinds (shape n b m t e r) Kind.bool h = h
-with-null-kinds (shape n b m t e r) Kind.int h = h
-with-null-kinds (shape n b m t e r) Kind.dec h = h
-with-null-kinds (shape n b m t e r) Kind.text h = h
-with-null-kinds (shape n b m t e r) Kind.list h = h
-with-null-kinds (shape n b m t e r) Kind.rec h = h
+with_null_kinds (shape n b m t e r) Kind.null h = refl
+with_null_kinds (shape n b m t e r) Kind.bool h = h
+with_null_kinds (shape n b m t e r) Kind.int h = h
+with_null_kinds (shape n b m t e r) Kind.dec h = h
+with_null_kinds (shape n b m t e r) Kind.text h = h
+with_null_kinds (shape n b m t e r) Kind.list h = h
+with_null_kinds (shape n b m t e r) Kind.rec h = h
 
 -- null is all that is added
 with_null_only : (s t : Shape) → Kinds s t → has Kind.null t ≡ true → Kinds (with_null s) t
@@ -72,7 +72,7 @@ with_null_upper s h =
     (with_null s)
     h
     (with_null_ascending s h)
-    (with-null-kinds s)
+    (with_null_kinds s)
     (subst (Elements (element_of s)) (sym (with_null_element s)) (elements_same (element_of s) (ascending_of_element s h)))
     (subst (Records (record_of s)) (sym (with_null_record s)) (records_same (record_of s) (ascending_of_record s h)))
 
@@ -85,7 +85,7 @@ with_null_least s t i j v h =
     t
     (with_null_ascending s i)
     j
-    (with_null_only s t (below-kinds s t v) h)
+    (with_null_only s t (below_kinds s t v) h)
     (subst (λ (e : Element). Elements e (element_of t)) (sym (with_null_element s)) (below_elements s t v))
     (subst (λ (r : Record). Records r (record_of t)) (sym (with_null_record s)) (below_records s t v))
 
@@ -246,8 +246,8 @@ records_least (rec_of fs) (rec_of gs) (rec_of hs) h i j k v w = λ n.
     (v n)
     (w n))
 
-least-kinds : (s t u : Shape) → Kinds s u → Kinds t u → Kinds (join s t) u
-least-kinds s t u f g k h = go (or_cases (has k s) (has k t) (sym (has_join k s t) ∙ h))
+least_kinds : (s t u : Shape) → Kinds s u → Kinds t u → Kinds (join s t) u
+least_kinds s t u f g k h = go (or_cases (has k s) (has k t) (sym (has_join k s t) ∙ h))
   where
     go : (has k s ≡ true) ⊎ (has k t ≡ true) → has k u ≡ true
     go (inl e) = f k e
@@ -262,7 +262,7 @@ least n b m t e r f g t' u i j k v w =
     u
     (join_ascending s t' i j)
     k
-    (least-kinds s t' u (below-kinds s u v) (below-kinds t' u w))
+    (least_kinds s t' u (below_kinds s u v) (below_kinds t' u w))
     (subst
     (λ (x : Element). Elements x (element_of u))
     (sym (element_of_join s t'))

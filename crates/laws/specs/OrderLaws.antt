@@ -10,7 +10,7 @@ use Rattle.definitions.specs.Order.{kinds_in, below}
 use Rattle.laws.specs.Fields.{fields_ext}
 use Rattle.laws.specs.OrderInduction.{InOption, InElement, InRecord, Step, shape_induction, in_found}
 use Rattle.laws.specs.OrderInduction.{Ascending, ascending_of_element, ascending_of_record, ascending_found}
-use Rattle.laws.specs.OrderParts.{Kinds, Elements, AtName, Records, below-kinds, below_elements, below_records, below_intro}
+use Rattle.laws.specs.OrderParts.{Kinds, Elements, AtName, Records, below_kinds, below_elements, below_records, below_intro}
 use Rattle.laws.specs.Bools.{bool_eq}
 
 pub nothing_below : (s : Shape) → below nothing s ≡ true
@@ -65,7 +65,7 @@ members_trans
 unfolding Transitive
 members_trans none none q f i j k v w = w
 members_trans none (some b) none f i j k v w = absurd w
-members_trans none (some b) (some c) f i j k v w = below-kinds b c w Kind.null v
+members_trans none (some b) (some c) f i j k v w = below_kinds b c w Kind.null v
 members_trans (some a) none q f i j k v w = absurd v
 members_trans (some a) (some b) none f i j k v w = absurd w
 members_trans (some a) (some b) (some c) f i j k v w = f b c i j k v w
@@ -107,7 +107,7 @@ transitive n b m t e r f g t' u i j k v w =
     u
     i
     k
-    (λ x y. below-kinds t' u w x (below-kinds s t' v x y))
+    (λ x y. below_kinds t' u w x (below_kinds s t' v x y))
     (elements_trans
     e
     (element_of t')
@@ -217,8 +217,8 @@ antisymmetric n b m t e r f g t' i j v w =
     shape_eq
     s
     t'
-    (below-kinds s t' v)
-    (below-kinds t' s w)
+    (below_kinds s t' v)
+    (below_kinds t' s w)
     (elements_antisym
     e
     (element_of t')

@@ -190,9 +190,9 @@ records_intro (rec_of fs) (rec_of gs) i j h =
 
 -- ---- below
 
-pub below-kinds : (s t : Shape) → below s t ≡ true → Kinds s t
+pub below_kinds : (s t : Shape) → below s t ≡ true → Kinds s t
 unfolding below
-below-kinds (shape n b m t e r) s h =
+below_kinds (shape n b m t e r) s h =
     kinds_use
     (shape n b m t e r)
     s

@@ -13,7 +13,7 @@ use Rattle.laws.specs.Names.{order_eq, same_eq, eq_same, before_lt, before_gt}
 use Rattle.laws.specs.Fields.{none_some, find_here, find_there, find_first, find_rest, find_other}
 use Rattle.laws.specs.Fields.{find_none, find_behind, ascending_first, ascending_rest}
 use Rattle.laws.specs.OrderInduction.{InElement, InFields, InRecord, Step, shape_induction, Ascending, ascending_of_element, ascending_of_record}
-use Rattle.laws.specs.OrderParts.{Kinds, Elements, AtName, Records, below-kinds, below_elements, below_records}
+use Rattle.laws.specs.OrderParts.{Kinds, Elements, AtName, Records, below_kinds, below_elements, below_records}
 
 -- ---- members that embed in others
 
@@ -155,7 +155,7 @@ module _
         d
         s
         u
-        (below-kinds s u w)
+        (below_kinds s u w)
         (elements_grow e (element_of u) f (ascending_of_element s i) (ascending_of_element u j) (below_elements s u w) (suc d))
         (records_grow r (record_of u) g (ascending_of_record s i) (ascending_of_record u j) (below_records s u w) (suc d))
 

@@ -7,7 +7,7 @@ use Rattle.definitions.specs.Bytes.{Bytes, bytes}
 use Rattle.definitions.specs.Shape.{Kind, all_kinds, Shape, shape, has, element_of, record_of, ascending, forms, forms_element}
 use Rattle.definitions.specs.Shape.{forms_record, forms_fields, levels, levels_element, levels_record, levels_fields}
 use Rattle.definitions.specs.Order.{below}
-use Rattle.definitions.specs.ShapeText.{kind_name, write-kinds, write, write_element, write_record, write_fields, write_shape}
+use Rattle.definitions.specs.ShapeText.{kind_name, write_kinds, write, write_element, write_record, write_fields, write_shape}
 use Rattle.laws.specs.OrderParts.{Kinds}
 use Rattle.laws.specs.SizeEmbeds.{Growing, size_mono}
 
@@ -75,12 +75,12 @@ word_grows false y k f = zero-le
 word_grows true false k f = absurd (false≢true (f refl))
 word_grows true true k f = le_refl (length (bytes " " ++ kind_name k))
 
-kinds_grow : (s t : Shape) → Kinds s t → (ks : List Kind) → length (write-kinds s ks) ≤ length (write-kinds t ks)
-unfolding write-kinds kind_word
+kinds_grow : (s t : Shape) → Kinds s t → (ks : List Kind) → length (write_kinds s ks) ≤ length (write_kinds t ks)
+unfolding write_kinds kind_word
 kinds_grow s t f [] = zero-le
 kinds_grow s t f (k ∷ ks) =
     rw
-    (length-append (kind_word (has k s) k) (write-kinds s ks), length-append (kind_word (has k t) k) (write-kinds t ks))
+    (length-append (kind_word (has k s) k) (write_kinds s ks), length-append (kind_word (has k t) k) (write_kinds t ks))
     (add-le-add (word_grows (has k s) (has k t) k (f k)) (kinds_grow s t f ks))
 
 write_shapes
@@ -91,7 +91,7 @@ write_shapes
 unfolding write element_of record_of
 write_shapes d (shape n b m t e r) (shape n' b' m' t' e' r') f p q =
     let k
-    : length (write-kinds (shape n b m t e r) all_kinds) ≤ length (write-kinds (shape n' b' m' t' e' r') all_kinds)
+    : length (write_kinds (shape n b m t e r) all_kinds) ≤ length (write_kinds (shape n' b' m' t' e' r') all_kinds)
     = kinds_grow (shape n b m t e r) (shape n' b' m' t' e' r') f all_kinds in
     simp length-append (omega arith)
 

@@ -17,7 +17,7 @@ use Rattle.laws.specs.Bools.{and_left, and_right, and_intro, or_cases, or_left, 
 use Rattle.laws.specs.Names.{same_refl, same_eq, same_sym}
 use Rattle.laws.specs.Fields.{none_some, some_same, find_here, find_there, find_none}
 use Rattle.laws.specs.FieldsPut.{find_insert_here, find_insert_there}
-use Rattle.laws.specs.JoinUpper.{with_null_has, with-null-kinds}
+use Rattle.laws.specs.JoinUpper.{with_null_has, with_null_kinds}
 use Rattle.laws.specs.Bools.{and_two}
 use Rattle.laws.specs.SoundKinds.{number_kind}
 
@@ -73,7 +73,7 @@ with_null_admits : (v : Value) (s : Shape) → admitted v s ≡ true → admitte
 unfolding admitted has element_of record_of with_null
 with_null_admits Value.null (shape n b m t e r) h = refl
 with_null_admits (Value.bool b) (shape n c m t e r) h = h
-with_null_admits (Value.number x) s h = with-null-kinds s (kind_of (Value.number x)) h
+with_null_admits (Value.number x) s h = with_null_kinds s (kind_of (Value.number x)) h
 with_null_admits (Value.text t) (shape n b m u e r) h = h
 with_null_admits (Value.list vs) (shape n b m t e r) h = h
 with_null_admits (Value.rec ms) (shape n b m t e r) h = h

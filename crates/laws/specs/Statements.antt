@@ -39,11 +39,11 @@ use Rattle.laws.specs.Good.{GoodValue, GoodShape}
 use Rattle.laws.specs.Readers.{scoped, proper, Safe}
 use Rattle.laws.specs.CheckRules.{Checks, Refuses}
 use Rattle.laws.specs.RunRules.{PlaceRuns, Runs, Stuck, OutOfSteps}
-use Rattle.laws.specs.Chain.{Call, start, reached, ProperSource, In-range, Demand3}
+use Rattle.laws.specs.Chain.{Call, start, reached, ProperSource, InRange, Demand3}
 use Rattle.laws.specs.Larger.{Larger, ReadsOn}
 use Rattle.laws.specs.OperationCauses.{RefusedWithTheFirst, PlainCause, InferCause, JoinCause, BelowCause, AdmitsCause}
 use Rattle.laws.specs.OperationCauses.{CheckCause, RunCause}
-use Rattle.laws.specs.AnswerWords.{In-word, WordsOf}
+use Rattle.laws.specs.AnswerWords.{InWord, WordsOf}
 use Rattle.laws.specs.HostChain.{InferCall, handed_on, reached_text, CallEnds, Demand3OverCalls}
 use Rattle.laws.specs.OldField.{old_check_reader, NullNotWanted, old_run_reader, StuckOnNull}
 use Rattle.laws.specs.OldOperations.{old_check_operation, old_run_operation, old_check_call, old_run_call, MeetsNullChecked, MeetsNull}
@@ -108,7 +108,7 @@ DocumentsReadBack =
 -- so does what a run gives, within the limits of 14
 abbrev pub ResultsReadBack : Type 0
 ResultsReadBack =
-    (l : Limits) → In-range l → (text s : Bytes) (r : Result) (v : Value) (x : Ran Value) → read_reader l text ≡ ok r
+    (l : Limits) → InRange l → (text s : Bytes) (r : Result) (v : Value) (x : Ran Value) → read_reader l text ≡ ok r
     → read_json l s ≡ ok v → run_reader r l v ≡ ok x → size x.result ≤ l.values → nesting x.result ≤ l.nesting
     → read_json l (plain x.result) ≡ ok x.result
 
@@ -159,7 +159,7 @@ pub record WrittenDocumentsReadBack : Type 0 where
       → (v : Value) × (read_json l document ≡ ok v)
       × (read_json l (wrote (plain_operation read_json published lent l document output)) ≡ ok v)
   pub by_run
-      : (published lent : List ℕ) (l : Limits) → In-range l → (reader document output : Bytes)
+      : (published lent : List ℕ) (l : Limits) → InRange l → (reader document output : Bytes)
       → (run_operation read_json published lent l reader document output).answer.number ≡ 0
       → (r : Result) × (v : Value) × (x : Ran Value) × (read_reader l reader ≡ ok r) × (read_json l document ≡ ok v) × (run_reader r l v ≡ ok x)
       × ((run_operation read_json published lent l reader document output).answer.steps ≡ x.steps)
@@ -239,7 +239,7 @@ pub record PartialOrder : Type 0 where
 
 -- and `join` gives the least upper bound, again a shape of the paper
 pub record LeastUpperBound : Type 0 where
-  pub well-formed : (s t : Shape) → ascending s ≡ true → ascending t ≡ true → ascending (join s t) ≡ true
+  pub well_formed : (s t : Shape) → ascending s ≡ true → ascending t ≡ true → ascending (join s t) ≡ true
   pub above_left : (s t : Shape) → ascending s ≡ true → ascending t ≡ true → below s (join s t) ≡ true
   pub above_right : (s t : Shape) → ascending s ≡ true → ascending t ≡ true → below t (join s t) ≡ true
   pub least
@@ -308,7 +308,7 @@ CheckedReadersAreSafe =
 -- for every source of documents that keeps to what is asked of one, every set of limits in range and every list of calls
 abbrev pub Demand3From : Source → Type 0
 Demand3From source =
-    (for_infer for_check for_run : List ℕ) (l : Limits) → In-range l → (calls : List Call)
+    (for_infer for_check for_run : List ℕ) (l : Limits) → InRange l → (calls : List Call)
     → Demand3 source for_infer for_check for_run l calls
 
 abbrev pub Demand3FromEverySource : Type 0
@@ -354,85 +354,85 @@ pub record CallsAreOperations : Type 0 where
 -- what a call put into a buffer of 40 bytes or more is read from it, where the numbers fit into words
 abbrev pub AnswersReadBack : Type 0
 AnswersReadBack =
-    (buffer : Bytes) (a : Answer) → 40 ≤ length buffer → In-word a.text → In-word a.place → In-word a.length → In-word a.steps
+    (buffer : Bytes) (a : Answer) → 40 ≤ length buffer → InWord a.text → InWord a.place → InWord a.length → InWord a.steps
     → WordsOf (answered buffer a) a
 
 -- for every source that keeps to what is asked of one, every set of limits in range and every list of infer calls as a host makes them
 abbrev pub Demand3OfCallsFromEverySource : Type 0
 Demand3OfCallsFromEverySource =
-    (source : Source) → ProperSource source → (l : Limits) → In-range l → (list : List InferCall) → Demand3OverCalls source l list
+    (source : Source) → ProperSource source → (l : Limits) → InRange l → (list : List InferCall) → Demand3OverCalls source l list
 
 -- and so for JSON documents
 abbrev pub Demand3OfCalls : Type 0
-Demand3OfCalls = (l : Limits) → In-range l → (list : List InferCall) → Demand3OverCalls read_json l list
+Demand3OfCalls = (l : Limits) → InRange l → (list : List InferCall) → Demand3OverCalls read_json l list
 
 -- what the host then reads behind a run call that returned 0 is the plain JSON of the value, in every output that a word can count
 abbrev pub ResultsHandedOn : Type 0
 ResultsHandedOn =
     (l : Limits) (r : Result) (v : Value) (u : Shape) (output answer : Bytes) (c : Called) → CallEnds l r v u output answer c
-    → c.number ≡ 0 → In-word (length output)
+    → c.number ≡ 0 → InWord (length output)
     → (x : Ran Value) × (run_reader r l v ≡ ok x) × (admits u x.result ≡ true) × (handed_on c ≡ plain x.result)
 
 -- the paper's own limits are in range
 abbrev pub StandardInRange : Type 0
-StandardInRange = In-range standard
+StandardInRange = InRange standard
 
 -- ---- request Q-6: one set beside another
 
 -- an operation that succeeds at a set comes to the same at every larger one in range, with slices as long as published for that
 pub record OperationsGoOn (source : Source) : Type 0 where
   pub by_plain
-      : (l m : Limits) → Larger l m → In-range m → (published lent for_larger lent_to_it : List ℕ) → slices_short for_larger lent_to_it ≡ false
+      : (l m : Limits) → Larger l m → InRange m → (published lent for_larger lent_to_it : List ℕ) → slices_short for_larger lent_to_it ≡ false
       → (document output : Bytes) → (plain_operation source published lent l document output).answer.number ≡ 0
       → plain_operation source for_larger lent_to_it m document output ≡ plain_operation source published lent l document output
   pub by_infer
-      : (l m : Limits) → Larger l m → In-range m → (published lent for_larger lent_to_it : List ℕ) → slices_short for_larger lent_to_it ≡ false
+      : (l m : Limits) → Larger l m → InRange m → (published lent for_larger lent_to_it : List ℕ) → slices_short for_larger lent_to_it ≡ false
       → (shape document output : Bytes) → (infer_operation source published lent l shape document output).answer.number ≡ 0
       → infer_operation source for_larger lent_to_it m shape document output ≡ infer_operation source published lent l shape document output
   pub by_join
-      : (l m : Limits) → Larger l m → In-range m → (published lent for_larger lent_to_it : List ℕ) → slices_short for_larger lent_to_it ≡ false
+      : (l m : Limits) → Larger l m → InRange m → (published lent for_larger lent_to_it : List ℕ) → slices_short for_larger lent_to_it ≡ false
       → (first second output : Bytes) → (join_operation published lent l first second output).answer.number ≡ 0
       → join_operation for_larger lent_to_it m first second output ≡ join_operation published lent l first second output
   pub by_below
-      : (l m : Limits) → Larger l m → In-range m → (published lent for_larger lent_to_it : List ℕ) → slices_short for_larger lent_to_it ≡ false
+      : (l m : Limits) → Larger l m → InRange m → (published lent for_larger lent_to_it : List ℕ) → slices_short for_larger lent_to_it ≡ false
       → (first second : Bytes) → (below_operation published lent l first second).number ≡ 0
       → below_operation for_larger lent_to_it m first second ≡ below_operation published lent l first second
   pub by_admits
-      : (l m : Limits) → Larger l m → In-range m → (published lent for_larger lent_to_it : List ℕ) → slices_short for_larger lent_to_it ≡ false
+      : (l m : Limits) → Larger l m → InRange m → (published lent for_larger lent_to_it : List ℕ) → slices_short for_larger lent_to_it ≡ false
       → (shape document : Bytes) → (admits_operation source published lent l shape document).number ≡ 0
       → admits_operation source for_larger lent_to_it m shape document ≡ admits_operation source published lent l shape document
   pub by_check
-      : (l m : Limits) → Larger l m → In-range m → (published lent for_larger lent_to_it : List ℕ) → slices_short for_larger lent_to_it ≡ false
+      : (l m : Limits) → Larger l m → InRange m → (published lent for_larger lent_to_it : List ℕ) → slices_short for_larger lent_to_it ≡ false
       → (reader shape output : Bytes) → (check_operation published lent l reader shape output).answer.number ≡ 0
       → check_operation for_larger lent_to_it m reader shape output ≡ check_operation published lent l reader shape output
   pub by_run
-      : (l m : Limits) → Larger l m → In-range m → (published lent for_larger lent_to_it : List ℕ) → slices_short for_larger lent_to_it ≡ false
+      : (l m : Limits) → Larger l m → InRange m → (published lent for_larger lent_to_it : List ℕ) → slices_short for_larger lent_to_it ≡ false
       → (reader document output : Bytes) → (run_operation source published lent l reader document output).answer.number ≡ 0
       → run_operation source for_larger lent_to_it m reader document output ≡ run_operation source published lent l reader document output
 
 -- and so does a C call, with the buffers that it had
 pub record CallsGoOn (source : Source) : Type 0 where
   pub by_plain
-      : (l m : Limits) → Larger l m → In-range m → (document output buffer : Bytes) → (plain_call source l document output buffer).number ≡ 0
+      : (l m : Limits) → Larger l m → InRange m → (document output buffer : Bytes) → (plain_call source l document output buffer).number ≡ 0
       → plain_call source m document output buffer ≡ plain_call source l document output buffer
   pub by_infer
-      : (l m : Limits) → Larger l m → In-range m → (shape document output buffer : Bytes)
+      : (l m : Limits) → Larger l m → InRange m → (shape document output buffer : Bytes)
       → (infer_call source l shape document output buffer).number ≡ 0
       → infer_call source m shape document output buffer ≡ infer_call source l shape document output buffer
   pub by_join
-      : (l m : Limits) → Larger l m → In-range m → (first second output buffer : Bytes) → (join_call l first second output buffer).number ≡ 0
+      : (l m : Limits) → Larger l m → InRange m → (first second output buffer : Bytes) → (join_call l first second output buffer).number ≡ 0
       → join_call m first second output buffer ≡ join_call l first second output buffer
   pub by_below
-      : (l m : Limits) → Larger l m → In-range m → (first second buffer : Bytes) → (below_call l first second buffer).number ≡ 0
+      : (l m : Limits) → Larger l m → InRange m → (first second buffer : Bytes) → (below_call l first second buffer).number ≡ 0
       → below_call m first second buffer ≡ below_call l first second buffer
   pub by_admits
-      : (l m : Limits) → Larger l m → In-range m → (shape document buffer : Bytes) → (admits_call source l shape document buffer).number ≡ 0
+      : (l m : Limits) → Larger l m → InRange m → (shape document buffer : Bytes) → (admits_call source l shape document buffer).number ≡ 0
       → admits_call source m shape document buffer ≡ admits_call source l shape document buffer
   pub by_check
-      : (l m : Limits) → Larger l m → In-range m → (reader shape output buffer : Bytes) → (check_call l reader shape output buffer).number ≡ 0
+      : (l m : Limits) → Larger l m → InRange m → (reader shape output buffer : Bytes) → (check_call l reader shape output buffer).number ≡ 0
       → check_call m reader shape output buffer ≡ check_call l reader shape output buffer
   pub by_run
-      : (l m : Limits) → Larger l m → In-range m → (reader document output buffer : Bytes)
+      : (l m : Limits) → Larger l m → InRange m → (reader document output buffer : Bytes)
       → (run_call source l reader document output buffer).number ≡ 0
       → run_call source m reader document output buffer ≡ run_call source l reader document output buffer
 
@@ -518,7 +518,7 @@ pub record ZeroFractionsAreInts : Type 0 where
       : (at : ℕ) (p : Place) (l : Limits) (v : Value) (x : Ran Value) → run_reader (Result.convert at to_int p) l v ≡ ok x
       → admits (only_numeric int_only) x.result ≡ true
   pub reads_back
-      : (l : Limits) → In-range l → (text s : Bytes) (at : ℕ) (p : Place) (v : Value) (x : Ran Value)
+      : (l : Limits) → InRange l → (text s : Bytes) (at : ℕ) (p : Place) (v : Value) (x : Ran Value)
       → read_reader l text ≡ ok (Result.convert at to_int p) → read_json l s ≡ ok v → run_reader (Result.convert at to_int p) l v ≡ ok x
       → read_json l (plain x.result) ≡ ok x.result
 

@@ -13,7 +13,7 @@ use Rattle.definitions.specs.Reader.{Place, Conversion, Result, Pairs, no_pairs,
 use Rattle.definitions.specs.Checking.{field_kinds, convert_kinds, list_kinds, if_kinds, wants, listed, field_shape, convert_shape}
 use Rattle.definitions.specs.Checking.{check_place, check, check_pairs, check_reader}
 use Rattle.laws.specs.OrderInduction.{InOption, Ascending, ascending_of_record, ascending_found}
-use Rattle.laws.specs.OrderParts.{AtName, Records, below-kinds, below_records}
+use Rattle.laws.specs.OrderParts.{AtName, Records, below_kinds, below_records}
 use Rattle.laws.specs.JoinLaws.{nothing_ascending, shape_of_ascending}
 use Rattle.laws.specs.SoundShapes.{convert_ascending}
 use Rattle.laws.specs.WidensShapes.{Under, UnderFields, under_refl, under_join, under_list, under_rec, under_no_fields, under_insert}
@@ -104,7 +104,7 @@ widens_field at n {s} {t} h =
     (widens_bind
     (widens_listed at n (record_of s) (record_of t) (ascending_of_record s h.sorted) (ascending_of_record t h.sorted_above)
     (below_records s t h.order)) λ a b k.
-    grew (under_gained (has Kind.null s) (has Kind.null t) (below-kinds s t h.order Kind.null) k))
+    grew (under_gained (has Kind.null s) (has Kind.null t) (below_kinds s t h.order Kind.null) k))
 
 place_widens : (p : Place) {env above : List Shape} → Follows env above → Widens Under (check_place p env) (check_place p above)
 unfolding check_place

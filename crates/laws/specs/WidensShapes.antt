@@ -16,7 +16,7 @@ use Rattle.laws.specs.Bools.{and_two, and_three, and_intro, or_cases, or_left, o
 use Rattle.laws.specs.Names.{same_eq}
 use Rattle.laws.specs.FieldsPut.{with_null_ascending, find_insert_here, find_insert_there, insert_ascending}
 use Rattle.laws.specs.OrderInduction.{ascending_of_element}
-use Rattle.laws.specs.OrderParts.{Kinds, Elements, AtName, Records, records_intro, below-kinds, below_elements, below_records, below_intro}
+use Rattle.laws.specs.OrderParts.{Kinds, Elements, AtName, Records, records_intro, below_kinds, below_elements, below_records, below_intro}
 use Rattle.laws.specs.OrderLaws.{nothing_below, below_refl, below_trans}
 use Rattle.laws.specs.JoinUpper.{with_null_has, with_null_upper, with_null_least}
 use Rattle.laws.specs.JoinLaws.{nothing_ascending, join_ascending, join_mono}
@@ -149,16 +149,16 @@ stay_order kept (shape n b m t e r) (shape n' b' m' t' e' r') i j k h =
     members false g = tt
 
 module _ (k : Test) {s t : Shape} (h : Under s t) where
-  cut-kinds : Kinds (cut_to k s) (cut_to k t)
-  cut-kinds j e =
+  cut_kinds : Kinds (cut_to k s) (cut_to k t)
+  cut_kinds j e =
       let (a, b) = and_two (has j s) (among j (test_kinds k)) (sym ((cuts k s).kinds j) ∙ e) in
-      (cuts k t).kinds j ∙ and_intro (below-kinds s t h.order j a) b
+      (cuts k t).kinds j ∙ and_intro (below_kinds s t h.order j a) b
 
   -- dec above is there where dec is there below, and so int stays above where it stays below
-  taken-kinds : Kinds (taken_out k s) (taken_out k t)
-  taken-kinds j e =
+  taken_kinds : Kinds (taken_out k s) (taken_out k t)
+  taken_kinds j e =
       let (a, b) = and_two (has j s) (not (among j (test_kinds k)) || int_stays (test_kinds k) s j) (sym ((takes k s).kinds j) ∙ e) in
-      (takes k t).kinds j ∙ and_intro (below-kinds s t h.order j a) (stays (or_cases _ _ b))
+      (takes k t).kinds j ∙ and_intro (below_kinds s t h.order j a) (stays (or_cases _ _ b))
     where
       stays
           : (not (among j (test_kinds k)) ≡ true) ⊎ (int_stays (test_kinds k) s j ≡ true)
@@ -166,7 +166,7 @@ module _ (k : Test) {s t : Shape} (h : Under s t) where
       stays (inl x) = or_left _ x
       stays (inr x) =
           let (a, b, c) = and_three (among j (Kind.int ∷ [])) (has Kind.dec s) (not (among Kind.dec (test_kinds k))) x in
-          or_right (not (among j (test_kinds k))) (and_intro (and_intro a (below-kinds s t h.order Kind.dec b)) c)
+          or_right (not (among j (test_kinds k))) (and_intro (and_intro a (below_kinds s t h.order Kind.dec b)) c)
 
   -- "P's shape cut to K"
   pub under_cut : Under (cut_to k s) (cut_to k t)
@@ -174,7 +174,7 @@ module _ (k : Test) {s t : Shape} (h : Under s t) where
   under_cut =
       let a = cut_ascending k s h.sorted in
       let b = cut_ascending k t h.sorted_above in
-      record { sorted = a; sorted_above = b; order = stay_order _ s t a b cut-kinds h.order }
+      record { sorted = a; sorted_above = b; order = stay_order _ s t a b cut_kinds h.order }
 
   -- "K's kinds taken out"
   pub under_taken : Under (taken_out k s) (taken_out k t)
@@ -182,4 +182,4 @@ module _ (k : Test) {s t : Shape} (h : Under s t) where
   under_taken =
       let a = taken_ascending k s h.sorted in
       let b = taken_ascending k t h.sorted_above in
-      record { sorted = a; sorted_above = b; order = stay_order _ s t a b taken-kinds h.order }
+      record { sorted = a; sorted_above = b; order = stay_order _ s t a b taken_kinds h.order }

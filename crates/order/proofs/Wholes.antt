@@ -14,7 +14,7 @@ use Rattle.definitions.specs.Order.{kinds_in, lacked_have_null, below, below_ele
 use Rattle.laws.specs.Bools.{not_true, clash, not_fails}
 use Rattle.shapes.specs.Shapes.{kind_bit, has_bit, size_at, members_at}
 use Rattle.shapes.specs.Held.{HoldsShape, HoldsFields}
-use Rattle.shapes.specs.HeldLaws.{held-kinds, held_has, held_element, held_members}
+use Rattle.shapes.specs.HeldLaws.{held_kinds, held_has, held_element, held_members}
 use Rattle.order.specs.Comparing.{ShapesAsked, ShapesTold, PartsAsked, ElementTold, RecordTold, ListedAsked, FieldsAsked, FieldsTold, NullsTold}
 use Rattle.order.proofs.KindsIn.{kind_in, kinds_all, kinds_beyond}
 
@@ -42,7 +42,7 @@ module _ (first : List ℕ) (a : ℕ) (second : List ℕ) (b : ℕ) (pool : List
         sym
         (below_parts s t
         ∙ ap (λ (p : Bool). p && below_element (element_of s) (element_of t) && below_record (record_of s) (record_of t))
-        (kinds_beyond s t (λ q. h (ap₂ (λ (i j : ℕ). bit_or i j) (e ∙ held-kinds g) (f ∙ held-kinds k) ∙ q ∙ sym (f ∙ held-kinds k)))))
+        (kinds_beyond s t (λ q. h (ap₂ (λ (i j : ℕ). bit_or i j) (e ∙ held_kinds g) (f ∙ held_kinds k) ∙ q ∙ sym (f ∙ held_kinds k)))))
 
     pub kinds_pass : not w ≡ false → Passed
     kinds_pass v =
@@ -50,7 +50,7 @@ module _ (first : List ℕ) (a : ℕ) (second : List ℕ) (b : ℕ) (pool : List
         record {
           kinds = λ s g t k.
               kinds_all s t
-              (ap₂ (λ (i j : ℕ). bit_or i j) (sym (e ∙ held-kinds g)) (sym (f ∙ held-kinds k)) ∙ h ∙ f ∙ held-kinds k);
+              (ap₂ (λ (i j : ℕ). bit_or i j) (sym (e ∙ held_kinds g)) (sym (f ∙ held_kinds k)) ∙ h ∙ f ∙ held_kinds k);
         }
 
   pub parts_asked : {left : ℕ} → Passed → ShapesAsked first a second b pool left → PartsAsked first a second b pool left

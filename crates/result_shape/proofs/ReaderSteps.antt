@@ -68,13 +68,13 @@ module _
         there : 0 < length bindings
         there = omega (arith, j.room, levels_some r)
 
-        few-kinds : kinds < 128
-        few-kinds = omega arith
+        few_kinds : kinds < 128
+        few_kinds = omega arith
 
         bound_first : Bindings shapes p bindings₁ deep 1 (s ∷ [])
         bound_first =
             bindings_more (none_bound shapes p bindings deep) there
-            (binds bindings bindings₁ 0 0 kinds bound there few-kinds
+            (binds bindings bindings₁ 0 0 kinds bound there few_kinds
             (subst (λ (k : ℕ). Bound shapes p deep 0 k s) (sym kinds_are) (bound_row j.stands j.ascends j.nests)))
 
         reader_meets : MeetsResult table shapes pool bindings₁ result₁ p 0 1 2 0 m deep r (s ∷ []) t 0 nothing

@@ -31,9 +31,9 @@ pub record KindsSoFar (text : Bytes) (at kinds i : ℕ) : Type 0 where
   pub ahead : at ≤ i
   pub within : i ≤ length text
 
-pub no-kinds : {text : Bytes} {at : ℕ} → at ≤ length text → KindsSoFar text at 0 at
+pub no_kinds : {text : Bytes} {at : ℕ} → at ≤ length text → KindsSoFar text at 0 at
 unfolding no_parts
-no-kinds h = record { listed = []; held = none_held; run = λ l n o. refl; ahead = omega arith; within = h }
+no_kinds h = record { listed = []; held = none_held; run = λ l n o. refl; ahead = omega arith; within = h }
 
 -- ---- a word
 

@@ -24,10 +24,10 @@ use Rattle.shape_reader.specs.declared.reading.FormRead.TheVariants.{Done}
 use Rattle.shape_reader.specs.ShapeParts.{kind_code, shape_bytes, Follows, Ready, ReadsForm}
 use Rattle.shape_reader.specs.declared.leaves.Leaf.{Leaf}
 use Rattle.shape_reader.specs.declared.leaves.Leaf.TheVariants as LeafIs
-use Rattle.shape_reader.specs.Leaves.{kinds_bytes, In-turn, no_more, one_more, KindsStand, OthersAnswer, Other-kinds}
+use Rattle.shape_reader.specs.Leaves.{kinds_bytes, InTurn, no_more, one_more, KindsStand, OthersAnswer, OtherKinds}
 use Rattle.shape_reader.specs.Leaves.{LeafAnswer, StandsLeaf, LeafFound, FoundAnswer, FindsLeaf}
 use Rattle.shape_reader.proofs.ElementForms.{element_none}
-use Rattle.shape_reader.proofs.KindReading.{KindsSoFar, no-kinds, one_kind, kinds_end}
+use Rattle.shape_reader.proofs.KindReading.{KindsSoFar, no_kinds, one_kind, kinds_end}
 use Rattle.shape_reader.proofs.KindSets.{held_small, dec_behind, other_kind}
 use Rattle.shape_reader.proofs.MemberForms.{no_members, last_turn}
 use Rattle.shape_reader.proofs.MemberReading.{shape_closed}
@@ -73,7 +73,7 @@ record KindsEnded (text : Bytes) (at m end : ℕ) : Type 0 where
   pub ends : end ≡ place + 1
 
 kinds_on
-    : {text : Bytes} {at i n m : ℕ} {ks : List Kind} → In-turn n ks m → KindsSoFar text at n i → StandsAt text i (kinds_bytes ks)
+    : {text : Bytes} {at i n m : ℕ} {ks : List Kind} → InTurn n ks m → KindsSoFar text at n i → StandsAt text i (kinds_bytes ks)
     → KindsEnded text at m (i + length (kinds_bytes ks))
 unfolding kinds_bytes
 kinds_on {i} no_more s t = record { place = i; so_far = s; bracket = t; ends = refl }
@@ -186,10 +186,10 @@ module _ {text : Bytes} {at x : ℕ} (t : EightTold text at x) where
 -- ---- what was told of them
 
 pub others_small
-    : {text : Bytes} {at end : ℕ} {r : Leaf} {set : KindSet.Shape} → Other-kinds text at r → r ≡ LeafIs.Of set end → 1 + set.kinds < 128
+    : {text : Bytes} {at end : ℕ} {r : Leaf} {set : KindSet.Shape} → OtherKinds text at r → r ≡ LeafIs.Of set end → 1 + set.kinds < 128
 others_small {text} {at} x e = (subst (OthersAnswer text at) e x.answer).1.small
 
-pub others_leaf : {text : Bytes} {at : ℕ} {r : Leaf} → StandsAt text at (0x28 ∷ shape_bytes) → Other-kinds text (at + 6) r → StandsLeaf text at r
+pub others_leaf : {text : Bytes} {at : ℕ} {r : Leaf} → StandsAt text at (0x28 ∷ shape_bytes) → OtherKinds text (at + 6) r → StandsLeaf text at r
 others_leaf {text} {at} {r} s x = record { answer = pick r x.answer }
   where
     pick : (u : Leaf) → OthersAnswer text (at + 6) u → LeafAnswer text at u
@@ -198,7 +198,7 @@ others_leaf {text} {at} {r} s x = record { answer = pick r x.answer }
 
 pub null_others
     : {text : Bytes} (at : ℕ) {x end : ℕ} {r : Leaf} {set : KindSet.Shape} → EightTold text (at + 6) x → x % 0x10000000000 ≡ 0x6C6C756E20
-    → Other-kinds text (at + 11) r → r ≡ LeafIs.Of set end → KindsStand 0 text (at + 6) (1 + set.kinds) end
+    → OtherKinds text (at + 11) r → r ≡ LeafIs.Of set end → KindsStand 0 text (at + 6) (1 + set.kinds) end
 null_others {text} at {end} {set} t e x i =
     null_then t e
     (subst (λ (j : ℕ). KindsStand 1 text j (1 + set.kinds) end) (let f : at + 11 ≡ at + 6 + 5 = omega arith in f)
@@ -236,7 +236,7 @@ leaf_found {text} values left c {place} {set} j skipped s k =
     })
     refl
     in
-    let kinds = kinds_on k.in_turn (no-kinds begun.answer.within) k.stand in
+    let kinds = kinds_on k.in_turn (no_kinds begun.answer.within) k.stand in
     let closed = closing_stands kinds.bracket in
     record {
       place = kinds.place;

@@ -30,7 +30,7 @@ use Rattle.shape_reader.specs.declared.opening.ShapeOpening.TheVariants as Openi
 use Rattle.shape_reader.specs.declared.opening.ShapeHead.TheVariants as HeadIs
 use Rattle.tokens.specs.Expecting.{an_opening, a_word, sort, BracketAnswer, WordAnswer, ExpectsOpening, ExpectsWord, JudgesFull}
 use Rattle.shape_reader.specs.ShapeParts.{reading, Limited, shape_bytes, ExpectedAnswer, Expects, ShapeBegun}
-use Rattle.shape_reader.specs.ShapeParts.{OpeningAnswer, BeginsShape, KindsAnswer, Reads-kinds, OpensForm}
+use Rattle.shape_reader.specs.ShapeParts.{OpeningAnswer, BeginsShape, KindsAnswer, ReadsKinds, OpensForm}
 use Rattle.shape_reader.proofs.Steps.{goes_on, opens_on, opens_full, misplaced_found, lacking, only_shape, shape_goes}
 
 -- ---- a fixed word
@@ -139,7 +139,7 @@ module _ {text : Bytes} {values left : ℕ} (c : Cursor) {b : ShapeOpening} (x :
     pub begun_at : ShapeBegun text values left c at
     begun_at = subst (OpeningAnswer text values left c) e x.answer
 
-    module _ {k : Kinds} (z : Reads-kinds text at k) where
+    module _ {k : Kinds} (z : ReadsKinds text at k) where
       pub form_open : {kinds : KindSet.Shape} {to : ℕ} → k ≡ KindsAre.Read kinds to → OpensForm text values left c (HeadIs.Form kinds to)
       form_open f =
           let y = begun_at in

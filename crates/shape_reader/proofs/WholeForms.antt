@@ -37,11 +37,11 @@ rec_kind ks e fs = pick (among Kind.rec ks)
     pick true = refl
     pick false = refl
 
-built-kinds
+built_kinds
     : {ks : List Kind} {kinds : ℕ} (e : Element) (fs : Fields) → KindsHeld ks kinds → has_list e ≡ has_bit kinds 32
     → kind_bits (build (parts ks e fs)) ≡ kinds
 unfolding kind_bits build bits_of with_parts
-built-kinds {ks} e fs k h =
+built_kinds {ks} e fs k h =
     ap₂ (with_parts ks)
     (h ∙ has_list_kind k)
     (rec_kind ks e fs)
@@ -168,7 +168,7 @@ module _
                 : head_word (build (parts opens.listed element.element members.fields)) ≡ head_of set.kinds (2 * (to.begun - c.begun))
             unfolding head_word
             head_is =
-                let bits = built-kinds element.element members.fields opens.held element.is_list in
+                let bits = built_kinds element.element members.fields opens.held element.is_list in
                 let counted = length_shape_rows rows_held in
                 omega (arith, bits, counted, both.counted)
 

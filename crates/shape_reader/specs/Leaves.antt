@@ -20,14 +20,14 @@ kinds_bytes [] = 0x29 ∷ []
 kinds_bytes (k ∷ ks) = 0x20 ∷ kind_name k ++ kinds_bytes ks
 
 -- each kind may follow those before it, whose bits are n; the bits of all are m
-pub data In-turn : (n : ℕ) → List Kind → (m : ℕ) → Type 0 where
-  no_more : {n : ℕ} → In-turn n [] n
-  one_more : {n m : ℕ} {k : Kind} {ks : List Kind} → Follows n (kind_bit k) true → In-turn (n + kind_bit k) ks m → In-turn n (k ∷ ks) m
+pub data InTurn : (n : ℕ) → List Kind → (m : ℕ) → Type 0 where
+  no_more : {n : ℕ} → InTurn n [] n
+  one_more : {n m : ℕ} {k : Kind} {ks : List Kind} → Follows n (kind_bit k) true → InTurn (n + kind_bit k) ks m → InTurn n (k ∷ ks) m
 
 -- kinds stand from one place up to another, behind those of the bits n; none has parts
 pub record KindsStand (n : ℕ) (text : Bytes) (at m end : ℕ) : Type 0 where
   pub listed : List Kind
-  pub in_turn : In-turn n listed m
+  pub in_turn : InTurn n listed m
   pub stand : StandsAt text at (kinds_bytes listed)
   pub size : end ≡ at + length (kinds_bytes listed)
   pub bare : has_bit m 32 ≡ false
@@ -40,7 +40,7 @@ abbrev pub OthersAnswer : Bytes → ℕ → Leaf → Type 0
 OthersAnswer text at (LeafIs.Of kinds end) = KindsStand 0 text at kinds.kinds end × KindsStand 1 text at (1 + kinds.kinds) end
 OthersAnswer text at LeafIs.Other = Unit {0}
 
-pub record Other-kinds (text : Bytes) (at : ℕ) (r : Leaf) : Type 0 where
+pub record OtherKinds (text : Bytes) (at : ℕ) (r : Leaf) : Type 0 where
   pub answer : OthersAnswer text at r
 
 -- the bracket, the word `shape` and kinds

@@ -131,8 +131,8 @@ unfoldable pub behind : Bool → Parts → Around → Want
 behind true p o = shape_open (as_element p o)
 behind false p o = member_open p o
 
-abbrev pub behind-kinds : Parts → Around → Want
-behind-kinds p o = behind (among Kind.list p.kinds) p o
+abbrev pub behind_kinds : Parts → Around → Want
+behind_kinds p o = behind (among Kind.list p.kinds) p o
 
 -- kinds have been read, and what comes behind them must come
 pub record KindsRead (text : Bytes) (at kinds to : ℕ) : Type 0 where
@@ -141,7 +141,7 @@ pub record KindsRead (text : Bytes) (at kinds to : ℕ) : Type 0 where
   pub run
       : (l : Limits) (n : ℕ) (o : Around)
       → reading l n text (want (kind_word no_parts o)) at
-      ≡ reading l n text (want (behind-kinds (parts listed no_list no_fields) o)) to
+      ≡ reading l n text (want (behind_kinds (parts listed no_list no_fields) o)) to
   pub ahead : at ≤ to
   pub within : to ≤ length text
 
@@ -152,7 +152,7 @@ KindsAnswer text at (KindsAre.Refused place) =
     (l : Limits) (n : ℕ) (o : Around) → reading l n text (want (kind_word no_parts o)) at ≡ refused 7 place
 
 -- the answer r behind the word `shape`
-pub record Reads-kinds (text : Bytes) (at : ℕ) (r : Kinds) : Type 0 where
+pub record ReadsKinds (text : Bytes) (at : ℕ) (r : Kinds) : Type 0 where
   pub answer : KindsAnswer text at r
 
 -- ---- a shape up to its kinds
@@ -164,7 +164,7 @@ pub record Opens (text : Bytes) (values left : ℕ) (c : Cursor) (kinds at : ℕ
   pub run
       : (l : Limits) (o : Around) → Limited l o values left
       → reading l c.begun text (want (shape_open o)) c.at
-      ≡ reading l (suc c.begun) text (want (behind-kinds (parts listed no_list no_fields) o)) at
+      ≡ reading l (suc c.begun) text (want (behind_kinds (parts listed no_list no_fields) o)) at
   pub ahead : c.at ≤ at
   pub within : at ≤ length text
   pub begun : c.begun < values
@@ -369,7 +369,7 @@ pub record ElementDone
   pub element : Element
   pub run
       : (l : Limits) (o : Around) → Limited l o values (suc left) → (ks : List Kind) → KindsHeld ks kinds
-      → reading l c.begun text (want (behind-kinds (parts ks no_list no_fields) o)) c.at
+      → reading l c.begun text (want (behind_kinds (parts ks no_list no_fields) o)) c.at
       ≡ reading l to.begun text (want (member_open (parts ks element no_fields) o)) to.at
   pub rows : List ℕ
   pub held : ElementRows (take to.top pool') element rows
@@ -383,7 +383,7 @@ ElementAnswer left values text shapes pool shapes' pool' kinds c (Done to) =
     ElementDone left values text shapes pool shapes' pool' kinds c to
 ElementAnswer left values text shapes pool shapes' pool' kinds c (Refused number place) =
     (l : Limits) (o : Around) → Limited l o values (suc left) → (ks : List Kind) → KindsHeld ks kinds
-    → reading l c.begun text (want (behind-kinds (parts ks no_list no_fields) o)) c.at ≡ refused number place
+    → reading l c.begun text (want (behind_kinds (parts ks no_list no_fields) o)) c.at ≡ refused number place
 
 -- the answer r behind the kinds, and the tables that were shapes and pool
 pub record ReadsElement

@@ -3,7 +3,7 @@ ghost use Rattle.std.specs.Prelude.{◌≡◌, ◌≤◌, length};
 ghost use Rattle.definitions.specs.ShapeText.{kind_words};
 ghost use Rattle.definitions.specs.Tokens.{look_word};
 ghost use Rattle.tokens.specs.TokenRead.{word_in};
-ghost use Rattle.shape_reader.specs.ShapeParts.{kind_code, Follows, Reads-kinds};
+ghost use Rattle.shape_reader.specs.ShapeParts.{kind_code, Follows, ReadsKinds};
 
 use shapes::Shape;
 use tokens::expect::Spelled;
@@ -48,7 +48,7 @@ pub enum Kinds {
 // Reads the kind words behind the word `shape`.
 pub fn read_kinds(text: &[u8], at: usize) -> Kinds
     requires { at ≤ length text.now }
-    ensures read { Reads-kinds text.now at result }
+    ensures read { ReadsKinds text.now at result }
 {
     let mut kinds = Shape::NOTHING;
     let mut i = at;

@@ -2,7 +2,7 @@
 // is laid out in another way is read word by word. A constant has the bytes that stand beside it, the first in the lowest place, and kind
 // words with the space before them.
 ghost use Rattle.std.specs.Prelude.{◌≤◌, length};
-ghost use Rattle.shape_reader.specs.Leaves.{Other-kinds, StandsLeaf, FindsLeaf};
+ghost use Rattle.shape_reader.specs.Leaves.{OtherKinds, StandsLeaf, FindsLeaf};
 
 use crate::reading::Cursor;
 use shapes::Shape;
@@ -17,7 +17,7 @@ pub enum Leaf {
 // The kinds of numbers that stand at a place, up to the closing bracket.
 fn number_kinds(text: &[u8], at: usize) -> Leaf
     requires { at ≤ length text.now }
-    ensures told { Other-kinds text.now at result }
+    ensures told { OtherKinds text.now at result }
 {
     if text.len() - at < 9 {
         return Leaf::Other;
@@ -45,7 +45,7 @@ fn number_kinds(text: &[u8], at: usize) -> Leaf
 // The kinds without null that stand at a place, up to the closing bracket.
 fn other_kinds(text: &[u8], at: usize) -> Leaf
     requires { at ≤ length text.now }
-    ensures told { Other-kinds text.now at result }
+    ensures told { OtherKinds text.now at result }
 {
     if text.len() - at < 8 {
         return Leaf::Other;

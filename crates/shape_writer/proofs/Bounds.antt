@@ -9,7 +9,7 @@ use Rattle.definitions.specs.Bytes.{Bytes, bytes}
 use Rattle.definitions.specs.Shape.{all_kinds, Shape, shape, Element, no_list, list_of, Record, no_rec, rec_of}
 use Rattle.definitions.specs.Shape.{Fields, no_fields, field, forms, forms_element, forms_record, forms_fields}
 use Rattle.definitions.specs.Plain.{plain_text}
-use Rattle.definitions.specs.ShapeText.{write, write_element, write_record, write_fields, write-kinds, new_line}
+use Rattle.definitions.specs.ShapeText.{write, write_element, write_record, write_fields, write_kinds, new_line}
 use Rattle.laws.proofs.StringWritten.{plain_most}
 use Rattle.pool.specs.Pool.{words}
 use Rattle.nodes.specs.Nodes.{Refers, refers}
@@ -19,7 +19,7 @@ use Rattle.shape_writer.specs.Layout.{word_of, head_text, label_text}
 use Rattle.shape_writer.specs.Writing.{Deliverable, Printable}
 use Rattle.shape_writer.proofs.Lines.{length_new_line}
 use Rattle.shape_writer.proofs.Names.{length_label}
-use Rattle.shape_writer.proofs.Heads.{length_head, head-of-kinds}
+use Rattle.shape_writer.proofs.Heads.{length_head, head_of_kinds}
 use Rattle.shape_writer.proofs.Forms.{holds_within}
 
 -- ---- names
@@ -55,7 +55,7 @@ head_bound kinds =
 length_form
     : (s : Shape) (around : ℕ) (e : Element) (r : Record)
     → write s around
-    ≡ bytes "(shape" ++ write-kinds s all_kinds ++ write_element e (suc around) ++ write_record r (suc around) ++ bytes ")"
+    ≡ bytes "(shape" ++ write_kinds s all_kinds ++ write_element e (suc around) ++ write_record r (suc around) ++ bytes ")"
     → length (write s around)
     ≡ length (head_text (kind_bits s)) + length (write_element e (suc around)) + length (write_record r (suc around)) + 1
 unfolding bytes
@@ -63,12 +63,12 @@ length_form s around e r f =
     omega (
       arith,
       ap length f,
-      ap length (head-of-kinds s),
+      ap length (head_of_kinds s),
       length-append
-          (bytes "(shape" ++ write-kinds s all_kinds ++ write_element e (suc around) ++ write_record r (suc around))
+          (bytes "(shape" ++ write_kinds s all_kinds ++ write_element e (suc around) ++ write_record r (suc around))
           (bytes ")"),
-      length-append (bytes "(shape" ++ write-kinds s all_kinds ++ write_element e (suc around)) (write_record r (suc around)),
-      length-append (bytes "(shape" ++ write-kinds s all_kinds) (write_element e (suc around)),
+      length-append (bytes "(shape" ++ write_kinds s all_kinds ++ write_element e (suc around)) (write_record r (suc around)),
+      length-append (bytes "(shape" ++ write_kinds s all_kinds) (write_element e (suc around)),
     )
 
 length_field

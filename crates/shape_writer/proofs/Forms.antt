@@ -9,13 +9,13 @@ use lib.ListN.{length, get_or, drop, length-append}
 use Rattle.definitions.specs.Bytes.{Bytes, bytes}
 use Rattle.definitions.specs.Shape.{Kind, all_kinds, Numeric, Shape, shape, Element, no_list, list_of, Record}
 use Rattle.definitions.specs.Shape.{no_rec, rec_of, Fields, no_fields, field, has, has_list, forms, forms_element}
-use Rattle.definitions.specs.ShapeText.{write, write_element, write_record, write_fields, write-kinds, new_line}
+use Rattle.definitions.specs.ShapeText.{write, write_element, write_record, write_fields, write_kinds, new_line}
 use Rattle.shapes.specs.Shapes.{kind_bit, kind_bits, has_bit, Stands, FieldsStand, no_field_rows, size_at}
 use Rattle.shapes.specs.ShapesLaws.{forms_some, stands_size, stands_within, stands_element, stands_members, members_at_is}
 use Rattle.shape_writer.specs.Layout.{head_text}
 use Rattle.shapes.specs.Held.{HoldsShape, HoldsFields}
-use Rattle.shapes.specs.HeldLaws.{held-kinds, held_has, held_element}
-use Rattle.shape_writer.proofs.Heads.{head-of-kinds}
+use Rattle.shapes.specs.HeldLaws.{held_kinds, held_has, held_element}
+use Rattle.shape_writer.proofs.Heads.{head_of_kinds}
 
 -- ---- members
 
@@ -94,9 +94,9 @@ unfolding write
 listed_text n b x k a r around next e =
     ap
     (λ (t : Bytes). t ++ new_line next ++ write a next ++ (write_fields (fields_of r) next ++ bytes ")"))
-    (head-of-kinds (shape n b k x (list_of a) r))
+    (head_of_kinds (shape n b k x (list_of a) r))
     ∙ regroup_listed
-    (bytes "(shape" ++ write-kinds (shape n b k x (list_of a) r) all_kinds)
+    (bytes "(shape" ++ write_kinds (shape n b k x (list_of a) r) all_kinds)
     (new_line next)
     (write a next)
     (write_fields (fields_of r) next)
@@ -104,7 +104,7 @@ listed_text n b x k a r around next e =
     ∙ ap
     (λ (i : ℕ).
     bytes "(shape"
-    ++ write-kinds (shape n b k x (list_of a) r) all_kinds
+    ++ write_kinds (shape n b k x (list_of a) r) all_kinds
     ++ (new_line i ++ write a i)
     ++ write_fields (fields_of r) i
     ++ bytes ")")
@@ -112,7 +112,7 @@ listed_text n b x k a r around next e =
     ∙ ap
     (λ (t : Bytes).
     bytes "(shape"
-    ++ write-kinds (shape n b k x (list_of a) r) all_kinds
+    ++ write_kinds (shape n b k x (list_of a) r) all_kinds
     ++ (new_line (suc around) ++ write a (suc around))
     ++ t
     ++ bytes ")")
@@ -124,13 +124,13 @@ unlisted_text
     ≡ write (shape n b k x no_list r) around
 unfolding write
 unlisted_text n b x k r around next e =
-    ap (λ (t : Bytes). t ++ (write_fields (fields_of r) next ++ bytes ")")) (head-of-kinds (shape n b k x no_list r))
+    ap (λ (t : Bytes). t ++ (write_fields (fields_of r) next ++ bytes ")")) (head_of_kinds (shape n b k x no_list r))
     ∙ regroup_unlisted
-    (bytes "(shape" ++ write-kinds (shape n b k x no_list r) all_kinds)
+    (bytes "(shape" ++ write_kinds (shape n b k x no_list r) all_kinds)
     (write_fields (fields_of r) next)
     (bytes ")")
     ∙ ap
-    (λ (t : Bytes). bytes "(shape" ++ write-kinds (shape n b k x no_list r) all_kinds ++ [] ++ t ++ bytes ")")
+    (λ (t : Bytes). bytes "(shape" ++ write_kinds (shape n b k x no_list r) all_kinds ++ [] ++ t ++ bytes ")")
     (ap (write_fields (fields_of r)) e ∙ write_fields_of r (suc around))
 
 module _ {shapes pool : List ℕ} {row : ℕ} (around : ℕ) where
@@ -180,9 +180,9 @@ leaf_text around {s = shape n b k x (list_of a) r} h e = absurd (let z : ⊥ = o
 leaf_text around {s = shape n b k x no_list (rec_of (field m a fs))} h e =
     absurd (let z : ⊥ = omega (arith, holds_size h, e, forms_some a) in z)
 leaf_text around {s = shape n b k x no_list (rec_of no_fields)} h e =
-    ap (λ (i : ℕ). head_text i ++ bytes ")") (held-kinds h) ∙ unlisted_text n b x k (rec_of no_fields) around (suc around) refl
+    ap (λ (i : ℕ). head_text i ++ bytes ")") (held_kinds h) ∙ unlisted_text n b x k (rec_of no_fields) around (suc around) refl
 leaf_text around {s = shape n b k x no_list no_rec} h e =
-    ap (λ (i : ℕ). head_text i ++ bytes ")") (held-kinds h) ∙ unlisted_text n b x k no_rec around (suc around) refl
+    ap (λ (i : ℕ). head_text i ++ bytes ")") (held_kinds h) ∙ unlisted_text n b x k no_rec around (suc around) refl
 
 -- ---- lengths
 
@@ -216,12 +216,12 @@ unfolding write
 head_short (shape n b k x e r) around =
     omega (
       arith,
-      ap length (head-of-kinds (shape n b k x e r)),
+      ap length (head_of_kinds (shape n b k x e r)),
       length-append
-          (bytes "(shape" ++ write-kinds (shape n b k x e r) all_kinds ++ write_element e (suc around) ++ write_record r (suc around))
+          (bytes "(shape" ++ write_kinds (shape n b k x e r) all_kinds ++ write_element e (suc around) ++ write_record r (suc around))
           (bytes ")"),
       length-append
-          (bytes "(shape" ++ write-kinds (shape n b k x e r) all_kinds ++ write_element e (suc around))
+          (bytes "(shape" ++ write_kinds (shape n b k x e r) all_kinds ++ write_element e (suc around))
           (write_record r (suc around)),
-      length-append (bytes "(shape" ++ write-kinds (shape n b k x e r) all_kinds) (write_element e (suc around)),
+      length-append (bytes "(shape" ++ write_kinds (shape n b k x e r) all_kinds) (write_element e (suc around)),
     )

@@ -7,7 +7,7 @@ use mathlib.Core.List.{[], ◌++◌, append_assoc, append-nil}
 use lib.ListN.{length, length-append}
 use Rattle.definitions.specs.Bytes.{Bytes, bytes}
 use Rattle.definitions.specs.Shape.{Kind, all_kinds, Shape, has}
-use Rattle.definitions.specs.ShapeText.{kind_name, write-kinds}
+use Rattle.definitions.specs.ShapeText.{kind_name, write_kinds}
 use Rattle.text.specs.Writes.{Writes}
 use Rattle.text.specs.WritesLaws.{writes_then, writes_as}
 use Rattle.shapes.specs.Shapes.{kind_bit, kind_bits, has_bit}
@@ -87,9 +87,9 @@ regroup
     → x ++ a ++ b ++ c ++ d ++ e ++ f ++ g ≡ x ++ (a' ++ (b' ++ (c' ++ (d' ++ (e' ++ (f' ++ (g' ++ [])))))))
 regroup x p q r s t u v = rw (p, q, r, s, t, u, v) (simp (append_assoc, append-nil))
 
-pub head-of-kinds : (s : Shape) → head_text (kind_bits s) ≡ bytes "(shape" ++ write-kinds s all_kinds
-unfolding head_text write-kinds all_kinds kind_bit kind_name bytes
-head-of-kinds s =
+pub head_of_kinds : (s : Shape) → head_text (kind_bits s) ≡ bytes "(shape" ++ write_kinds s all_kinds
+unfolding head_text write_kinds all_kinds kind_bit kind_name bytes
+head_of_kinds s =
     regroup
     (bytes "(shape")
     (word_kind s Kind.null)

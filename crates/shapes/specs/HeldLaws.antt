@@ -5,7 +5,7 @@ use Rattle.definitions.specs.Bytes.{Bytes}
 use Rattle.definitions.specs.Shape.{Kind, Numeric, Shape, shape, Element, list_of, Record, rec_of, Fields, no_fields, field, has}
 use Rattle.pool.specs.Pool.{text_in}
 use Rattle.shapes.specs.Shapes.{kind_bit, kind_bits, has_bit, ShapeRows, size_at, members_at}
-use Rattle.shapes.specs.ShapesLaws.{has_kind, forms_some, stands-kinds, stands_size, stands_name, stands_within, stands_element}
+use Rattle.shapes.specs.ShapesLaws.{has_kind, forms_some, stands_kinds, stands_size, stands_name, stands_within, stands_element}
 use Rattle.shapes.specs.ShapesLaws.{stands_members, SomeFields, some_fields, fields_left, fields_first, fields_rest, fields_end, fields_some}
 use Rattle.shapes.specs.Members.{Listed, SomeListed, Found_at, Names}
 use Rattle.shapes.specs.declared.Member.{Member}
@@ -35,12 +35,12 @@ held_front shapes pool n top r h l = held_behind shapes pool pool n top r h l re
 -- ---- a shape
 
 module _ {shapes pool : List ℕ} {row : ℕ} {s : Shape} where
-  pub held-kinds : HoldsShape shapes pool row s → get_or shapes row 0 % 128 ≡ kind_bits s
-  held-kinds h = stands-kinds h.stands
+  pub held_kinds : HoldsShape shapes pool row s → get_or shapes row 0 % 128 ≡ kind_bits s
+  held_kinds h = stands_kinds h.stands
 
   -- whether it has a kind
   pub held_has : (k : Kind) → HoldsShape shapes pool row s → has_bit (get_or shapes row 0 % 128) (kind_bit k) ≡ has k s
-  held_has k h = ap (λ (x : ℕ). has_bit x (kind_bit k)) (held-kinds h) ∙ has_kind k s
+  held_has k h = ap (λ (x : ℕ). has_bit x (kind_bit k)) (held_kinds h) ∙ has_kind k s
 
   pub held_within : HoldsShape shapes pool row s → (2 ≤ size_at shapes row) × (row + size_at shapes row ≤ length shapes)
   held_within h =

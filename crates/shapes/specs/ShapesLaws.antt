@@ -286,9 +286,9 @@ bits_with_null s = union_bits s only_null ∙ ap kind_bits (join_null s)
 
 -- ---- the first word
 
-pub head-kinds : (s : Shape) → head_word s % 128 ≡ kind_bits s
+pub head_kinds : (s : Shape) → head_word s % 128 ≡ kind_bits s
 unfolding head_word
-head-kinds s = omega (arith, kind_bits_lt s)
+head_kinds s = omega (arith, kind_bits_lt s)
 
 pub head_size : (s : Shape) → head_word s / 128 ≡ 2 * forms s
 unfolding head_word
@@ -385,8 +385,8 @@ name_placed
 name_placed t row rest (shape_rows is js) e = get_or_row t row 1 e
 
 module _ {t p : List ℕ} {row m : ℕ} {s : Shape} where
-  pub stands-kinds : Stands t p row m s → get_or t row 0 % 128 ≡ kind_bits s
-  stands-kinds h = ap (λ (x : ℕ). x % 128) (head_placed t row h.rest h.encoded h.placed) ∙ head-kinds s
+  pub stands_kinds : Stands t p row m s → get_or t row 0 % 128 ≡ kind_bits s
+  stands_kinds h = ap (λ (x : ℕ). x % 128) (head_placed t row h.rest h.encoded h.placed) ∙ head_kinds s
 
   pub stands_size : Stands t p row m s → size_at t row ≡ 2 * forms s
   unfolding size_at
@@ -519,10 +519,10 @@ members_at_by
     → members_at t row ≡ row + 2 + 2 * forms_element e
 unfolding forms has_list
 members_at_by t row {n} {b} {x} {k} no_list {r} h =
-    members_next t row (ap (λ (y : ℕ). has_bit y 32) (stands-kinds h) ∙ has_list_bit n b k x no_list r)
+    members_next t row (ap (λ (y : ℕ). has_bit y 32) (stands_kinds h) ∙ has_list_bit n b k x no_list r)
     ∙ sym (add-zero (row + 2))
 members_at_by t row {n} {b} {x} {k} (list_of a) {r} h =
-    members_behind t row (ap (λ (y : ℕ). has_bit y 32) (stands-kinds h) ∙ has_list_bit n b k x (list_of a) r)
+    members_behind t row (ap (λ (y : ℕ). has_bit y 32) (stands_kinds h) ∙ has_list_bit n b k x (list_of a) r)
     ∙ ap (λ (y : ℕ). row + 2 + y) (stands_size (stands_element h))
 
 pub members_at_is

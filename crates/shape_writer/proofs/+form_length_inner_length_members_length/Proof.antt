@@ -10,7 +10,7 @@ use borrow.Fn.PlainCycle.{Measures, is, falls, and}
 use lib.ListN.{length}
 use Rattle.shapes.specs.Shapes.{has_bit}
 use Rattle.shapes.specs.ShapesLaws.{forms_some}
-use Rattle.shapes.specs.HeldLaws.{held-kinds}
+use Rattle.shapes.specs.HeldLaws.{held_kinds}
 use Rattle.shape_writer.specs.Layout.{head_text}
 use Rattle.shape_writer.proofs.Forms.{holds_size, holds_within, listed, unlisted, length_listed, length_unlisted, head_short}
 use Rattle.shape_writer.proofs.Lines.{length_new_line}
@@ -161,7 +161,7 @@ form_length_add_result t c =
       arith,
       at-start.requires.1.room,
       sum_listed l
-          (after-head-length.head_length.ensures ∙ ap (λ (k : ℕ). length (head_text k)) (after-kinds.kinds.ensures ∙ held-kinds at-start.requires.1.holds))
+          (after-head-length.head_length.ensures ∙ ap (λ (k : ℕ). length (head_text k)) (after-kinds.kinds.ensures ∙ held_kinds at-start.requires.1.holds))
           (c.form-length.ensures l.element l.holds) refl,
     )
 
@@ -176,7 +176,7 @@ form_length_add_result_2 t c =
       arith,
       at-start.requires.1.room,
       sum_listed l
-          (after-head-length.head_length.ensures ∙ ap (λ (k : ℕ). length (head_text k)) (after-kinds.kinds.ensures ∙ held-kinds at-start.requires.1.holds))
+          (after-head-length.head_length.ensures ∙ ap (λ (k : ℕ). length (head_text k)) (after-kinds.kinds.ensures ∙ held_kinds at-start.requires.1.holds))
           (c.form-length.ensures l.element l.holds) refl,
     )
 
@@ -191,7 +191,7 @@ form_length_add_result_3 t c =
       arith,
       at-start.requires.1.room,
       sum_listed l
-          (after-head-length.head_length.ensures ∙ ap (λ (k : ℕ). length (head_text k)) (after-kinds.kinds.ensures ∙ held-kinds at-start.requires.1.holds))
+          (after-head-length.head_length.ensures ∙ ap (λ (k : ℕ). length (head_text k)) (after-kinds.kinds.ensures ∙ held_kinds at-start.requires.1.holds))
           (c.form-length.ensures l.element l.holds) refl,
     )
 
@@ -221,7 +221,7 @@ form_length_add_result_4 t c =
       arith,
       at-start.requires.1.room,
       sum_listed l
-          (after-has.before.head_length.ensures ∙ ap (λ (k : ℕ). length (head_text k)) (after-kinds.kinds.ensures ∙ held-kinds at-start.requires.1.holds))
+          (after-has.before.head_length.ensures ∙ ap (λ (k : ℕ). length (head_text k)) (after-kinds.kinds.ensures ∙ held_kinds at-start.requires.1.holds))
           (c.before.form-length.ensures l.element l.holds)
           (c.members_length.ensures l.fields (rw (after-has.before.before.size.ensures, c.before.before.size2.ensures) l.members)),
     )
@@ -232,7 +232,7 @@ form_length_returns t c s h =
     let after-kinds = after-has.before.before.before in
     let l = listed after-kinds.before.before.before.args.around h
     (ap (λ (k : ℕ). has_bit k 32) (sym after-kinds.kinds.ensures) ∙ sym after-has.has.ensures ∙ c.before.before.before.if1.true) in
-    sum_listed l (after-has.before.head_length.ensures ∙ ap (λ (k : ℕ). length (head_text k)) (after-kinds.kinds.ensures ∙ held-kinds h))
+    sum_listed l (after-has.before.head_length.ensures ∙ ap (λ (k : ℕ). length (head_text k)) (after-kinds.kinds.ensures ∙ held_kinds h))
     (c.before.form-length.ensures l.element l.holds)
     (c.members_length.ensures l.fields (rw (after-has.before.before.size.ensures, c.before.before.size2.ensures) l.members))
 
@@ -261,7 +261,7 @@ form_length_add_result_5 t c =
       at-start.requires.1.room,
       length_unlisted l,
       (c.before.before.before.head_length.ensures
-          ∙ ap (λ (k : ℕ). length (head_text k)) (after-size.before.kinds.ensures ∙ held-kinds at-start.requires.1.holds)),
+          ∙ ap (λ (k : ℕ). length (head_text k)) (after-size.before.kinds.ensures ∙ held_kinds at-start.requires.1.holds)),
       (c.members-length2.ensures l.fields (rw after-size.size.ensures l.members)),
     )
 
@@ -274,7 +274,7 @@ form_length_returns_2 t c s h =
     omega (
       arith,
       length_unlisted l,
-      (c.before.before.before.head_length.ensures ∙ ap (λ (k : ℕ). length (head_text k)) (after-size.before.kinds.ensures ∙ held-kinds h)),
+      (c.before.before.before.head_length.ensures ∙ ap (λ (k : ℕ). length (head_text k)) (after-size.before.kinds.ensures ∙ held_kinds h)),
       (c.members-length2.ensures l.fields (rw after-size.size.ensures l.members)),
     )
 

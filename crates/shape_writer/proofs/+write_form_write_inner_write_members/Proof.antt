@@ -12,7 +12,7 @@ use Rattle.definitions.specs.Bytes.{bytes}
 use Rattle.text.specs.WritesLaws.{writes_then, writes_as}
 use Rattle.shapes.specs.Shapes.{has_bit}
 use Rattle.shapes.specs.ShapesLaws.{forms_some}
-use Rattle.shapes.specs.HeldLaws.{held-kinds}
+use Rattle.shapes.specs.HeldLaws.{held_kinds}
 use Rattle.shape_writer.specs.Layout.{head_text}
 use Rattle.shape_writer.proofs.Lines.{length_new_line}
 use Rattle.shape_writer.proofs.Forms.{holds_size, holds_within, listed, unlisted, leaf_text, length_listed, length_unlisted, head_short}
@@ -137,7 +137,7 @@ write_form_write_head_requires t c κs =
       arith,
       at-start.requires.1.room,
       head_short at-start.requires.1.shape at-start.args.around,
-      ap (λ (k : ℕ). length (head_text k)) (c.before.before.kinds.ensures ∙ held-kinds at-start.requires.1.holds),
+      ap (λ (k : ℕ). length (head_text k)) (c.before.before.kinds.ensures ∙ held_kinds at-start.requires.1.holds),
     )
 
 write_form_add_next : (t : ℕ) → write-form-lts.Need-overflow-add-next (form_claims t) (write_form_at t) write-form.Post
@@ -159,7 +159,7 @@ write_form_write_line_requires t c κs =
       arith,
       at-start.requires.1.room,
       length_listed l,
-      ap (λ (k : ℕ). length (head_text k)) (after-kinds.kinds.ensures ∙ held-kinds at-start.requires.1.holds),
+      ap (λ (k : ℕ). length (head_text k)) (after-kinds.kinds.ensures ∙ held_kinds at-start.requires.1.holds),
       after-write-head.write-head.ensures.end,
       after-write-head.write-head.auto.0,
     )
@@ -183,7 +183,7 @@ write_form_write_form_requires t c κs =
               arith,
               at-start.requires.1.room,
               length_listed l,
-              ap (λ (k : ℕ). length (head_text k)) (after-kinds.kinds.ensures ∙ held-kinds at-start.requires.1.holds),
+              ap (λ (k : ℕ). length (head_text k)) (after-kinds.kinds.ensures ∙ held_kinds at-start.requires.1.holds),
               after-write-head.write-head.ensures.end,
               after-write-head.write-head.auto.0,
               after-write-line.write-line.ensures.end,
@@ -213,7 +213,7 @@ write_form_write_members_requires t c κs =
               arith,
               at-start.requires.1.room,
               length_listed l,
-              ap (λ (k : ℕ). length (head_text k)) (after-kinds.kinds.ensures ∙ held-kinds at-start.requires.1.holds),
+              ap (λ (k : ℕ). length (head_text k)) (after-kinds.kinds.ensures ∙ held_kinds at-start.requires.1.holds),
               after-write-head.write-head.ensures.end,
               after-write-head.write-head.auto.0,
               after-write-line.write-line.ensures.end,
@@ -238,7 +238,7 @@ write_form_returns t c s h =
     (writes_then (omega (arith, at-start.requires.1.room))
     (writes_then (omega (arith, at-start.requires.1.room))
     (writes_then (omega (arith, at-start.requires.1.room))
-    (writes_as (ap head_text (after-size.before.kinds.ensures ∙ held-kinds h)) after-has.before.before.before.write-head.ensures)
+    (writes_as (ap head_text (after-size.before.kinds.ensures ∙ held_kinds h)) after-has.before.before.before.write-head.ensures)
     after-write-line.write-line.ensures)
     (after-write-form.write-form.ensures l.element l.holds))
     (c.before.before.write-members.ensures l.fields (rw (after-size.size.ensures, after-write-line.before.before.size2.ensures) l.members)))
@@ -259,7 +259,7 @@ write_form_write_members_requires_2 t c κs =
               arith,
               at-start.requires.1.room,
               length_unlisted l,
-              ap (λ (k : ℕ). length (head_text k)) (after-kinds.kinds.ensures ∙ held-kinds at-start.requires.1.holds),
+              ap (λ (k : ℕ). length (head_text k)) (after-kinds.kinds.ensures ∙ held_kinds at-start.requires.1.holds),
               after-write-head.write-head.ensures.end,
               after-write-head.write-head.auto.0,
             );
@@ -276,7 +276,7 @@ write_form_returns_2 t c s h =
     (ap (λ (k : ℕ). has_bit k 32) (sym after-kinds.kinds.ensures) ∙ sym else1.before.has.ensures ∙ else1.if1.false) in
     writes_as l.text
     (writes_then (omega (arith, at-start.requires.1.room))
-    (writes_as (ap head_text (after-kinds.kinds.ensures ∙ held-kinds h)) after-write-head.write-head.ensures)
+    (writes_as (ap head_text (after-kinds.kinds.ensures ∙ held_kinds h)) after-write-head.write-head.ensures)
     (c.before.before.write-members2.ensures l.fields (rw after-write-head.before.before.size.ensures l.members)))
 
 -- ---- write_inner

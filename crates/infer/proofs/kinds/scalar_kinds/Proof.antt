@@ -13,7 +13,7 @@ returns-2 : tie.Need-returns-2
 returns-2 c p k v h b l =
     let after-row-kind = c.before.before.before.before in
     bits_number v h b (kind_told h after-row-kind.row-kind.ensures ∙ c.before.before.if2.true) c.before.row-is-int.ensures
-    c.number-kinds.ensures
+    c.number_kinds.ensures
 
 returns-3 : tie.Need-returns-3
 returns-3 c p k v h b l = bits_text v (kind_told h c.before.before.before.row-kind.ensures ∙ c.if3.true)

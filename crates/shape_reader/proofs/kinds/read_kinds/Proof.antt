@@ -9,7 +9,7 @@ use Rattle.tokens.specs.declared.expect.Spelled.{Spelled}
 use Rattle.tokens.specs.Expecting.{WordAnswer}
 use Rattle.shape_reader.specs.ShapeParts.{Follows}
 use Rattle.shape_reader.proofs.KindSets.{held_small}
-use Rattle.shape_reader.proofs.KindReading.{KindsSoFar, no-kinds, one_kind, no_kind_word, kinds_end}
+use Rattle.shape_reader.proofs.KindReading.{KindsSoFar, no_kinds, one_kind, no_kind_word, kinds_end}
 use Rattle.shape_reader.proofs.Openings.{found_word}
 use Rattle.shape_reader.proofs.kinds.read_kinds.Statement.{statement}
 use Rattle.shape_reader.proofs.kinds.read_kinds.Tie as tie
@@ -21,7 +21,7 @@ abbrev decreases-loop : tie.decreases-loop
 decreases-loop text at kinds₀ i₀ kinds i = length text - i
 
 loop-holds : tie.Need-loop-init invariant-loop decreases-loop
-loop-holds c = no-kinds c.before.requires
+loop-holds c = no_kinds c.before.requires
 
 next-word-requires : tie.Need-next-word-requires invariant-loop decreases-loop
 next-word-requires c κs = c.loop.invariant.within
