@@ -73,11 +73,11 @@ record KindsEnded (text : Bytes) (at m end : ℕ) : Type 0 where
   pub ends : end ≡ place + 1
 
 kinds_on
-    : {text : Bytes} {at i n m : ℕ} {ks : List Kind} → InTurn n ks m → KindsSoFar text at n i → StandsAt text i (kinds_bytes ks)
+    : {text : Bytes} {at n i m : ℕ} {ks : List Kind} → InTurn n ks m → KindsSoFar text at n i → StandsAt text i (kinds_bytes ks)
     → KindsEnded text at m (i + length (kinds_bytes ks))
 unfolding kinds_bytes
-kinds_on {i} no_more s t = record { place = i; so_far = s; bracket = t; ends = refl }
-kinds_on {text} {at} {i} {m} (one_more {k} {ks} f g) s t =
+kinds_on {i = i} no_more s t = record { place = i; so_far = s; bracket = t; ends = refl }
+kinds_on {text = text} {at = at} {i = i} {m = m} (one_more {k} {ks} f g) s t =
     let behind = stands_behind (0x20 ∷ []) (kind_name k ++ kinds_bytes ks) t in
     let rest = stands_behind (kind_name k) (kinds_bytes ks) behind in
     let found =
