@@ -270,9 +270,10 @@ comes_to {shapes} {first} {last} {n} {p} {fs} {i} {row} {m = m} all_of a h e l =
     subst (λ (x : ℕ). Finds shapes first last n p fs x true)
     (let f : i ≡ row = omega (arith, l, fields_end a.stand) in f)
     (found_there a (ap (λ (x : Bytes). order x m) e ∙ order_refl m))
-comes_to {n = n} {m = m} (behind_first {n = q} {s} {fs = gs} l) a h e f =
+comes_to {shapes = shapes} {n = n} {i = i} {m = m} (behind_first {n = q} {s} {fs = gs} l) a h e f =
     let later : order q m ≡ Ordering.lt = lt_before q m (last_behind q l (ascending_rest q s gs h) (ascending_behind q s gs h)) in
-    comes_to l (goes_on a (ap (λ (x : Bytes). order x q) e ∙ order_flip q m ∙ ap flip later)) (ascending_rest q s gs h) e f
+    comes_to {i = i + size_at shapes i} l (goes_on a (ap (λ (x : Bytes). order x q) e ∙ order_flip q m ∙ ap flip later)) (ascending_rest q s gs h)
+    e f
 
 listed_of
     : {shapes pool : List ℕ} {used first last : ℕ} {p : List ℕ} {fs : Fields} → MeetsFields shapes pool used first last p fs
