@@ -80,6 +80,13 @@ module _ (forms shapes pool b : List ℕ) (row d : ℕ) (choose : get_or forms r
         omega (arith, stands_within (choose_second m.stands), forms_some r₂),
         omega (arith, stands_within (choose_third m.stands), forms_some r₃),
       )
+      go (Rattle.definitions.specs.Reader.convert at _ _) m x4 = elim x4 [ ]
+      go (Rattle.definitions.specs.Reader.keep at _) m x4 = elim x4 [ ]
+      go (Rattle.definitions.specs.Reader.count at _) m x5 = elim x5 [ ]
+      go (Rattle.definitions.specs.Reader.each at _ _) m x7 = elim x7 [ ]
+      go (Rattle.definitions.specs.Reader.when at _ _ _ _) m x10 = elim x10 [ ]
+      go (Rattle.definitions.specs.Reader.literal at _) m x8 = elim x8 [ ]
+      go (Rattle.definitions.specs.Reader.pack at _) m x9 = elim x9 [ ]
 
   -- what comes behind the first result, and behind the second
   abbrev behind_first : (at : ℕ) (r₂ r₃ : Result) (env : List Shape) → Outcome ℕ Shape → Outcome ℕ Shape
@@ -106,6 +113,13 @@ module _ (forms shapes pool b : List ℕ) (row d : ℕ) (choose : get_or forms r
         go : (r : Result) → Meets asked.p asked.m asked.deep r asked.env → IsChoose r → FormAsked forms shapes pool b (row + 3) d
         go (Result.choose at r₁ r₂ r₃) m is_choose =
             record { p = asked.p; m = 0; deep = asked.deep; form = r₁; env = asked.env; meets = first_meets m }
+        go (Rattle.definitions.specs.Reader.convert at _ _) m x4 = elim x4 [ ]
+        go (Rattle.definitions.specs.Reader.keep at _) m x4 = elim x4 [ ]
+        go (Rattle.definitions.specs.Reader.count at _) m x5 = elim x5 [ ]
+        go (Rattle.definitions.specs.Reader.each at _ _) m x7 = elim x7 [ ]
+        go (Rattle.definitions.specs.Reader.when at _ _ _ _) m x10 = elim x10 [ ]
+        go (Rattle.definitions.specs.Reader.literal at _) m x8 = elim x8 [ ]
+        go (Rattle.definitions.specs.Reader.pack at _) m x9 = elim x9 [ ]
 
     module _ (b₁ : List ℕ) (part₁ : Checked) (answer₁ : GivesForm forms shapes pool b b₁ (row + 3) d part₁) where
       first_refuses
@@ -114,6 +128,13 @@ module _ (forms shapes pool b : List ℕ) (row d : ℕ) (choose : get_or forms r
       unfolding check ◌>>=◌
       first_refuses {number} {place} f {env} (Result.choose at r₁ r₂ r₃) h is_choose =
           ap (behind_first at r₂ r₃ env) (part_told forms shapes pool part₁ (checked.Refused number place) answer₁ f (first_meets h))
+      first_refuses {number = number} {place = place} f {p = p} {m = m} {deep = deep} {env = env} (Rattle.definitions.specs.Reader.convert at _ _) h x4 = elim x4 [ ]
+      first_refuses {number = number} {place = place} f {p = p} {m = m} {deep = deep} {env = env} (Rattle.definitions.specs.Reader.keep at _) h x4 = elim x4 [ ]
+      first_refuses {number = number} {place = place} f {p = p} {m = m} {deep = deep} {env = env} (Rattle.definitions.specs.Reader.count at _) h x5 = elim x5 [ ]
+      first_refuses {number = number} {place = place} f {p = p} {m = m} {deep = deep} {env = env} (Rattle.definitions.specs.Reader.each at _ _) h x7 = elim x7 [ ]
+      first_refuses {number = number} {place = place} f {p = p} {m = m} {deep = deep} {env = env} (Rattle.definitions.specs.Reader.when at _ _ _ _) h x10 = elim x10 [ ]
+      first_refuses {number = number} {place = place} f {p = p} {m = m} {deep = deep} {env = env} (Rattle.definitions.specs.Reader.literal at _) h x8 = elim x8 [ ]
+      first_refuses {number = number} {place = place} f {p = p} {m = m} {deep = deep} {env = env} (Rattle.definitions.specs.Reader.pack at _) h x9 = elim x9 [ ]
 
       pub first_refused : {number place : ℕ} → part₁ ≡ checked.Refused number place → GivesForm forms shapes pool b b₁ row d part₁
       first_refused f =
@@ -145,6 +166,13 @@ module _ (forms shapes pool b : List ℕ) (row d : ℕ) (choose : get_or forms r
             go : (r : Result) → Meets asked.p asked.m asked.deep r asked.env → IsChoose r → FormAsked forms shapes pool b₁ at_second d
             go (Result.choose at r₁ r₂ r₃) m is_choose =
                 record { p = asked.p; m = 0; deep = asked.deep; form = r₂; env = asked.env; meets = second_Meets m }
+            go (Rattle.definitions.specs.Reader.convert at _ _) m x4 = elim x4 [ ]
+            go (Rattle.definitions.specs.Reader.keep at _) m x4 = elim x4 [ ]
+            go (Rattle.definitions.specs.Reader.count at _) m x5 = elim x5 [ ]
+            go (Rattle.definitions.specs.Reader.each at _ _) m x7 = elim x7 [ ]
+            go (Rattle.definitions.specs.Reader.when at _ _ _ _) m x10 = elim x10 [ ]
+            go (Rattle.definitions.specs.Reader.literal at _) m x8 = elim x8 [ ]
+            go (Rattle.definitions.specs.Reader.pack at _) m x9 = elim x9 [ ]
 
         module _ (b₂ : List ℕ) (part₂ : Checked) (answer₂ : GivesForm forms shapes pool b₁ b₂ at_second d part₂) where
           kept_second : Kept b b₂ d
@@ -159,6 +187,13 @@ module _ (forms shapes pool b : List ℕ) (row d : ℕ) (choose : get_or forms r
               ap (behind_first at r₂ r₃ env) t.1
               ∙ ap (behind_second at r₃ env t.0)
               (part_told forms shapes pool part₂ (checked.Refused number place) answer₂ g (second_Meets h))
+          second_refuses {number = number} {place = place} g {p = p} {m = m} {deep = deep} {env = env} (Rattle.definitions.specs.Reader.convert at _ _) h x4 = elim x4 [ ]
+          second_refuses {number = number} {place = place} g {p = p} {m = m} {deep = deep} {env = env} (Rattle.definitions.specs.Reader.keep at _) h x4 = elim x4 [ ]
+          second_refuses {number = number} {place = place} g {p = p} {m = m} {deep = deep} {env = env} (Rattle.definitions.specs.Reader.count at _) h x5 = elim x5 [ ]
+          second_refuses {number = number} {place = place} g {p = p} {m = m} {deep = deep} {env = env} (Rattle.definitions.specs.Reader.each at _ _) h x7 = elim x7 [ ]
+          second_refuses {number = number} {place = place} g {p = p} {m = m} {deep = deep} {env = env} (Rattle.definitions.specs.Reader.when at _ _ _ _) h x10 = elim x10 [ ]
+          second_refuses {number = number} {place = place} g {p = p} {m = m} {deep = deep} {env = env} (Rattle.definitions.specs.Reader.literal at _) h x8 = elim x8 [ ]
+          second_refuses {number = number} {place = place} g {p = p} {m = m} {deep = deep} {env = env} (Rattle.definitions.specs.Reader.pack at _) h x9 = elim x9 [ ]
 
           pub second_refused : {number place : ℕ} → part₂ ≡ checked.Refused number place → GivesForm forms shapes pool b b₂ row d part₂
           second_refused g =
@@ -190,6 +225,13 @@ module _ (forms shapes pool b : List ℕ) (row d : ℕ) (choose : get_or forms r
                 go : (r : Result) → Meets asked.p asked.m asked.deep r asked.env → IsChoose r → FormAsked forms shapes pool b₂ at_third d
                 go (Result.choose at r₁ r₂ r₃) m is_choose =
                     record { p = asked.p; m = 0; deep = asked.deep; form = r₃; env = asked.env; meets = third_meets m }
+                go (Rattle.definitions.specs.Reader.convert at _ _) m x4 = elim x4 [ ]
+                go (Rattle.definitions.specs.Reader.keep at _) m x4 = elim x4 [ ]
+                go (Rattle.definitions.specs.Reader.count at _) m x5 = elim x5 [ ]
+                go (Rattle.definitions.specs.Reader.each at _ _) m x7 = elim x7 [ ]
+                go (Rattle.definitions.specs.Reader.when at _ _ _ _) m x10 = elim x10 [ ]
+                go (Rattle.definitions.specs.Reader.literal at _) m x8 = elim x8 [ ]
+                go (Rattle.definitions.specs.Reader.pack at _) m x9 = elim x9 [ ]
 
             module _ (b₃ : List ℕ) (part₃ : Checked) (answer₃ : GivesForm forms shapes pool b₂ b₃ at_third d part₃) where
               kept_third : Kept b b₃ d
@@ -211,6 +253,13 @@ module _ (forms shapes pool b : List ℕ) (row d : ℕ) (choose : get_or forms r
                   whole_is h
                   ∙ ap (λ (o : Outcome ℕ Shape). o >>= λ t₃. wants at if_kinds (told_first h).0 (ok (join (told_second h).0 t₃)))
                   (part_told forms shapes pool part₃ (checked.Refused number place) answer₃ k (third_meets h))
+              third_refuses {number = number} {place = place} k {p = p} {m = m} {deep = deep} {env = env} (Rattle.definitions.specs.Reader.convert at _ _) h x4 = elim x4 [ ]
+              third_refuses {number = number} {place = place} k {p = p} {m = m} {deep = deep} {env = env} (Rattle.definitions.specs.Reader.keep at _) h x4 = elim x4 [ ]
+              third_refuses {number = number} {place = place} k {p = p} {m = m} {deep = deep} {env = env} (Rattle.definitions.specs.Reader.count at _) h x5 = elim x5 [ ]
+              third_refuses {number = number} {place = place} k {p = p} {m = m} {deep = deep} {env = env} (Rattle.definitions.specs.Reader.each at _ _) h x7 = elim x7 [ ]
+              third_refuses {number = number} {place = place} k {p = p} {m = m} {deep = deep} {env = env} (Rattle.definitions.specs.Reader.when at _ _ _ _) h x10 = elim x10 [ ]
+              third_refuses {number = number} {place = place} k {p = p} {m = m} {deep = deep} {env = env} (Rattle.definitions.specs.Reader.literal at _) h x8 = elim x8 [ ]
+              third_refuses {number = number} {place = place} k {p = p} {m = m} {deep = deep} {env = env} (Rattle.definitions.specs.Reader.pack at _) h x9 = elim x9 [ ]
 
               pub third_refused : {number place : ℕ} → part₃ ≡ checked.Refused number place → GivesForm forms shapes pool b b₃ row d part₃
               third_refused k =
@@ -236,6 +285,13 @@ module _ (forms shapes pool b : List ℕ) (row d : ℕ) (choose : get_or forms r
                     same
                     (w if_kinds t.0 (join u.0 v.0) t.2 bool_wanted
                     (sym (union_bits u.0 v.0) ∙ ap₂ (λ (y z : ℕ). bit_or y z) u.2 v.2))
+                chooses {p = p} {m = m} {deep = deep} {env = env} (Rattle.definitions.specs.Reader.convert at _ _) h x5 = elim x5 [ ]
+                chooses {p = p} {m = m} {deep = deep} {env = env} (Rattle.definitions.specs.Reader.keep at _) h x5 = elim x5 [ ]
+                chooses {p = p} {m = m} {deep = deep} {env = env} (Rattle.definitions.specs.Reader.count at _) h x6 = elim x6 [ ]
+                chooses {p = p} {m = m} {deep = deep} {env = env} (Rattle.definitions.specs.Reader.each at _ _) h x8 = elim x8 [ ]
+                chooses {p = p} {m = m} {deep = deep} {env = env} (Rattle.definitions.specs.Reader.when at _ _ _ _) h x11 = elim x11 [ ]
+                chooses {p = p} {m = m} {deep = deep} {env = env} (Rattle.definitions.specs.Reader.literal at _) h x9 = elim x9 [ ]
+                chooses {p = p} {m = m} {deep = deep} {env = env} (Rattle.definitions.specs.Reader.pack at _) h x10 = elim x10 [ ]
 
                 pub choose_told : GivesForm forms shapes pool b b₃ row d x
                 choose_told = record { told = λ p m deep r env h. chooses r h (as_choose h); kept = kept_third }

@@ -66,6 +66,13 @@ module _ (forms shapes pool b : List ℕ) (row d : ℕ) (each : get_or forms row
         omega (arith, stands_within (each_result m.stands), forms_some r),
         part_there at (length b) d q r m.room,
       )
+      go (Rattle.definitions.specs.Reader.convert at _ _) m x4 = elim x4 [ ]
+      go (Rattle.definitions.specs.Reader.keep at _) m x4 = elim x4 [ ]
+      go (Rattle.definitions.specs.Reader.count at _) m x5 = elim x5 [ ]
+      go (Rattle.definitions.specs.Reader.when at _ _ _ _) m x9 = elim x9 [ ]
+      go (Rattle.definitions.specs.Reader.choose at _ _ _) m x9 = elim x9 [ ]
+      go (Rattle.definitions.specs.Reader.literal at _) m x8 = elim x8 [ ]
+      go (Rattle.definitions.specs.Reader.pack at _) m x9 = elim x9 [ ]
 
   pub each_place_asked : FormAsked forms shapes pool b row d → PlaceAsked forms shapes pool b (row + 3)
   each_place_asked h = go h.form h.meets (as_each h.meets)
@@ -80,6 +87,13 @@ module _ (forms shapes pool b : List ℕ) (row d : ℕ) (each : get_or forms row
             env = h.env;
             meets = record { pooled = m.pooled; stands = each_place m.stands; bound = m.bound };
           }
+      go (Rattle.definitions.specs.Reader.convert at _ _) m x4 = elim x4 [ ]
+      go (Rattle.definitions.specs.Reader.keep at _) m x4 = elim x4 [ ]
+      go (Rattle.definitions.specs.Reader.count at _) m x5 = elim x5 [ ]
+      go (Rattle.definitions.specs.Reader.when at _ _ _ _) m x9 = elim x9 [ ]
+      go (Rattle.definitions.specs.Reader.choose at _ _ _) m x9 = elim x9 [ ]
+      go (Rattle.definitions.specs.Reader.literal at _) m x8 = elim x8 [ ]
+      go (Rattle.definitions.specs.Reader.pack at _) m x9 = elim x9 [ ]
 
   module _ (l : Located) (gives : GivesPlace forms shapes pool b (row + 3) l) where
     module _ {p : List ℕ} {m deep at : ℕ} {q : Place} {r : Result} {env : List Shape} (h : Meets p m deep (Result.each at q r) env) where
@@ -102,6 +116,13 @@ module _ (forms shapes pool b : List ℕ) (row d : ℕ) (each : get_or forms row
         ap
         (λ (o : Outcome ℕ Shape). o >>= λ s. check r (element_shape (element_of s) ∷ env) >>= λ t. wants at list_kinds s (ok (only_list (list_of t))))
         (found h (located.Refused number place) e)
+    refuses {number = number} {place = place} e {p = p} {m = m} {deep = deep} {env = env} (Rattle.definitions.specs.Reader.convert at _ _) h x4 = elim x4 [ ]
+    refuses {number = number} {place = place} e {p = p} {m = m} {deep = deep} {env = env} (Rattle.definitions.specs.Reader.keep at _) h x4 = elim x4 [ ]
+    refuses {number = number} {place = place} e {p = p} {m = m} {deep = deep} {env = env} (Rattle.definitions.specs.Reader.count at _) h x5 = elim x5 [ ]
+    refuses {number = number} {place = place} e {p = p} {m = m} {deep = deep} {env = env} (Rattle.definitions.specs.Reader.when at _ _ _ _) h x9 = elim x9 [ ]
+    refuses {number = number} {place = place} e {p = p} {m = m} {deep = deep} {env = env} (Rattle.definitions.specs.Reader.choose at _ _ _) h x9 = elim x9 [ ]
+    refuses {number = number} {place = place} e {p = p} {m = m} {deep = deep} {env = env} (Rattle.definitions.specs.Reader.literal at _) h x8 = elim x8 [ ]
+    refuses {number = number} {place = place} e {p = p} {m = m} {deep = deep} {env = env} (Rattle.definitions.specs.Reader.pack at _) h x9 = elim x9 [ ]
 
     pub each_refused
         : {number place : ℕ} (x : Checked) → l ≡ located.Refused number place → PassesUp l x → GivesForm forms shapes pool b b row d x
@@ -120,6 +141,13 @@ module _ (forms shapes pool b : List ℕ) (row d : ℕ) (each : get_or forms row
           go : (r : Result) → Meets h.p h.m h.deep r h.env → IsEach r → SomeBound shapes at_row kinds
           go (Result.each at q r) m is_each =
               record { p = h.p; deep = h.deep; shape = _; bound = (found m (located.At at_row kinds) e).2 }
+          go (Rattle.definitions.specs.Reader.convert at _ _) m x4 = elim x4 [ ]
+          go (Rattle.definitions.specs.Reader.keep at _) m x4 = elim x4 [ ]
+          go (Rattle.definitions.specs.Reader.count at _) m x5 = elim x5 [ ]
+          go (Rattle.definitions.specs.Reader.when at _ _ _ _) m x9 = elim x9 [ ]
+          go (Rattle.definitions.specs.Reader.choose at _ _ _) m x9 = elim x9 [ ]
+          go (Rattle.definitions.specs.Reader.literal at _) m x8 = elim x8 [ ]
+          go (Rattle.definitions.specs.Reader.pack at _) m x9 = elim x9 [ ]
 
       module _
           (b₁ : List ℕ) (binds : BindsElement shapes b b₁ d at_row kinds) {body : ℕ} (body_is : body ≡ after forms (row + 3)) where
@@ -137,6 +165,13 @@ module _ (forms shapes pool b : List ℕ) (row d : ℕ) (each : get_or forms row
             go : (r : Result) → Meets h.p h.m h.deep r h.env → IsEach r
                 → FormAsked forms shapes pool b₁ body (d + 1)
             go (Result.each at q r) m is_each = record { p = h.p; m = 0; deep = h.deep; form = r; env = _; meets = body_meets m }
+            go (Rattle.definitions.specs.Reader.convert at _ _) m x4 = elim x4 [ ]
+            go (Rattle.definitions.specs.Reader.keep at _) m x4 = elim x4 [ ]
+            go (Rattle.definitions.specs.Reader.count at _) m x5 = elim x5 [ ]
+            go (Rattle.definitions.specs.Reader.when at _ _ _ _) m x9 = elim x9 [ ]
+            go (Rattle.definitions.specs.Reader.choose at _ _ _) m x9 = elim x9 [ ]
+            go (Rattle.definitions.specs.Reader.literal at _) m x8 = elim x8 [ ]
+            go (Rattle.definitions.specs.Reader.pack at _) m x9 = elim x9 [ ]
 
         bound_kept : FormAsked forms shapes pool b row d → Kept b b₁ d
         bound_kept h = let s = list_bound h in (binds s.p s.deep s.shape s.bound).kept
@@ -159,6 +194,13 @@ module _ (forms shapes pool b : List ℕ) (row d : ℕ) (each : get_or forms row
               ∙ ap
               (λ (o : Outcome ℕ Shape). o >>= λ t. wants at list_kinds s.0 (ok (only_list (list_of t))))
               (part_told forms shapes pool part (checked.Refused number place) answer f (body_meets h))
+          body_refuses {number = number} {place = place} f {p = p} {m = m} {deep = deep} {env = env} (Rattle.definitions.specs.Reader.convert at _ _) h x4 = elim x4 [ ]
+          body_refuses {number = number} {place = place} f {p = p} {m = m} {deep = deep} {env = env} (Rattle.definitions.specs.Reader.keep at _) h x4 = elim x4 [ ]
+          body_refuses {number = number} {place = place} f {p = p} {m = m} {deep = deep} {env = env} (Rattle.definitions.specs.Reader.count at _) h x5 = elim x5 [ ]
+          body_refuses {number = number} {place = place} f {p = p} {m = m} {deep = deep} {env = env} (Rattle.definitions.specs.Reader.when at _ _ _ _) h x9 = elim x9 [ ]
+          body_refuses {number = number} {place = place} f {p = p} {m = m} {deep = deep} {env = env} (Rattle.definitions.specs.Reader.choose at _ _ _) h x9 = elim x9 [ ]
+          body_refuses {number = number} {place = place} f {p = p} {m = m} {deep = deep} {env = env} (Rattle.definitions.specs.Reader.literal at _) h x8 = elim x8 [ ]
+          body_refuses {number = number} {place = place} f {p = p} {m = m} {deep = deep} {env = env} (Rattle.definitions.specs.Reader.pack at _) h x9 = elim x9 [ ]
 
           pub body_refused : {number place : ℕ} → part ≡ checked.Refused number place → GivesForm forms shapes pool b b₂ row d part
           body_refused f =
@@ -186,6 +228,13 @@ module _ (forms shapes pool b : List ℕ) (row d : ℕ) (each : get_or forms row
                 (λ (o : Outcome ℕ Shape). Checks o x)
                 same
                 (w list_kinds s.0 (only_list (list_of t.0)) s.2.left list_wanted (list_given t.0))
+            gives_list {p = p} {m = m} {deep = deep} {env = env} (Rattle.definitions.specs.Reader.convert at _ _) h x5 = elim x5 [ ]
+            gives_list {p = p} {m = m} {deep = deep} {env = env} (Rattle.definitions.specs.Reader.keep at _) h x5 = elim x5 [ ]
+            gives_list {p = p} {m = m} {deep = deep} {env = env} (Rattle.definitions.specs.Reader.count at _) h x6 = elim x6 [ ]
+            gives_list {p = p} {m = m} {deep = deep} {env = env} (Rattle.definitions.specs.Reader.when at _ _ _ _) h x10 = elim x10 [ ]
+            gives_list {p = p} {m = m} {deep = deep} {env = env} (Rattle.definitions.specs.Reader.choose at _ _ _) h x10 = elim x10 [ ]
+            gives_list {p = p} {m = m} {deep = deep} {env = env} (Rattle.definitions.specs.Reader.literal at _) h x9 = elim x9 [ ]
+            gives_list {p = p} {m = m} {deep = deep} {env = env} (Rattle.definitions.specs.Reader.pack at _) h x10 = elim x10 [ ]
 
             pub each_told : GivesForm forms shapes pool b b₂ row d x
             each_told = record { told = λ p m deep r env h. gives_list r h (as_each h); kept = kept }

@@ -130,6 +130,13 @@ module _ (forms shapes pool b : List ℕ) (row d : ℕ) (pack : get_or forms row
           let none_left : l.0 ≡ no_pairs = no_pair_left l.1 past in
           let g = l.3.passes no_fields (ap (λ (qs : Pairs). check_pairs qs env) none_left) in
           (only_rec (rec_of g.0), ap (λ (o : Outcome ℕ Fields). o >>= λ fs. ok (only_rec (rec_of fs))) g.1, rec_given g.0)
+      ends past {p = p} {m = m} {deep = deep} {env = env} (Rattle.definitions.specs.Reader.convert at _ _) h x4 = elim x4 [ ]
+      ends past {p = p} {m = m} {deep = deep} {env = env} (Rattle.definitions.specs.Reader.keep at _) h x4 = elim x4 [ ]
+      ends past {p = p} {m = m} {deep = deep} {env = env} (Rattle.definitions.specs.Reader.count at _) h x5 = elim x5 [ ]
+      ends past {p = p} {m = m} {deep = deep} {env = env} (Rattle.definitions.specs.Reader.each at _ _) h x7 = elim x7 [ ]
+      ends past {p = p} {m = m} {deep = deep} {env = env} (Rattle.definitions.specs.Reader.when at _ _ _ _) h x10 = elim x10 [ ]
+      ends past {p = p} {m = m} {deep = deep} {env = env} (Rattle.definitions.specs.Reader.choose at _ _ _) h x10 = elim x10 [ ]
+      ends past {p = p} {m = m} {deep = deep} {env = env} (Rattle.definitions.specs.Reader.literal at _) h x9 = elim x9 [ ]
 
       pub pack_told : (row + size ≤ i) → GivesForm forms shapes pool b b₁ row d (checked.Kinds 64)
       pack_told past = record { told = λ p m deep r env h. ends past r h (as_pack h); kept = inv.kept }
@@ -176,6 +183,13 @@ module _ (forms shapes pool b : List ℕ) (row d : ℕ) (pack : get_or forms row
             go : (r : Result) → Meets asked.p asked.m asked.deep r asked.env → IsPack r → FormAsked forms shapes pool b₁ i d
             go (Result.pack at ps) m is_pack =
                 record { p = asked.p; m = _; deep = asked.deep; form = _; env = asked.env; meets = part_meets m }
+            go (Rattle.definitions.specs.Reader.convert at _ _) m x4 = elim x4 [ ]
+            go (Rattle.definitions.specs.Reader.keep at _) m x4 = elim x4 [ ]
+            go (Rattle.definitions.specs.Reader.count at _) m x5 = elim x5 [ ]
+            go (Rattle.definitions.specs.Reader.each at _ _) m x7 = elim x7 [ ]
+            go (Rattle.definitions.specs.Reader.when at _ _ _ _) m x10 = elim x10 [ ]
+            go (Rattle.definitions.specs.Reader.choose at _ _ _) m x10 = elim x10 [ ]
+            go (Rattle.definitions.specs.Reader.literal at _) m x9 = elim x9 [ ]
 
         pub part_ends : (i < i + size_at forms i) × (i + size_at forms i ≤ row + size)
         part_ends = go asked.form asked.meets (as_pack asked.meets)
@@ -183,6 +197,13 @@ module _ (forms shapes pool b : List ℕ) (row d : ℕ) (pack : get_or forms row
             go : (r : Result) → Meets asked.p asked.m asked.deep r asked.env → IsPack r
                 → (i < i + size_at forms i) × (i + size_at forms i ≤ row + size)
             go (Result.pack at ps) m is_pack = first_size m
+            go (Rattle.definitions.specs.Reader.convert at _ _) m x4 = elim x4 [ ]
+            go (Rattle.definitions.specs.Reader.keep at _) m x4 = elim x4 [ ]
+            go (Rattle.definitions.specs.Reader.count at _) m x5 = elim x5 [ ]
+            go (Rattle.definitions.specs.Reader.each at _ _) m x7 = elim x7 [ ]
+            go (Rattle.definitions.specs.Reader.when at _ _ _ _) m x10 = elim x10 [ ]
+            go (Rattle.definitions.specs.Reader.choose at _ _ _) m x10 = elim x10 [ ]
+            go (Rattle.definitions.specs.Reader.literal at _) m x9 = elim x9 [ ]
 
         module _ (b₂ : List ℕ) (part : Checked) (answer : GivesForm forms shapes pool b₁ b₂ i d part) where
           refused_at
@@ -192,6 +213,13 @@ module _ (forms shapes pool b : List ℕ) (row d : ℕ) (pack : get_or forms row
           refused_at {number} {place} f (Result.pack at ps) h is_pack =
               ap (λ (o : Outcome ℕ Fields). o >>= λ fs. ok (only_rec (rec_of fs)))
               (left_refused (part_told forms shapes pool part (checked.Refused number place) answer f (part_meets h)) (first_left h))
+          refused_at {number = number} {place = place} f {p = p} {m = m} {deep = deep} {env = env} (Rattle.definitions.specs.Reader.convert at _ _) h x4 = elim x4 [ ]
+          refused_at {number = number} {place = place} f {p = p} {m = m} {deep = deep} {env = env} (Rattle.definitions.specs.Reader.keep at _) h x4 = elim x4 [ ]
+          refused_at {number = number} {place = place} f {p = p} {m = m} {deep = deep} {env = env} (Rattle.definitions.specs.Reader.count at _) h x5 = elim x5 [ ]
+          refused_at {number = number} {place = place} f {p = p} {m = m} {deep = deep} {env = env} (Rattle.definitions.specs.Reader.each at _ _) h x7 = elim x7 [ ]
+          refused_at {number = number} {place = place} f {p = p} {m = m} {deep = deep} {env = env} (Rattle.definitions.specs.Reader.when at _ _ _ _) h x10 = elim x10 [ ]
+          refused_at {number = number} {place = place} f {p = p} {m = m} {deep = deep} {env = env} (Rattle.definitions.specs.Reader.choose at _ _ _) h x10 = elim x10 [ ]
+          refused_at {number = number} {place = place} f {p = p} {m = m} {deep = deep} {env = env} (Rattle.definitions.specs.Reader.literal at _) h x9 = elim x9 [ ]
 
           pub pack_refused : {number place : ℕ} → part ≡ checked.Refused number place → GivesForm forms shapes pool b b₂ row d part
           pack_refused f =

@@ -197,6 +197,8 @@ literal_code_ge (Value.bool true) yes_payload = omega arith
 literal_code_ge (Value.bool false) no_payload = omega arith
 literal_code_ge (Value.number x) number_payload = omega arith
 literal_code_ge (Value.text t) (text_payload f) = omega arith
+literal_code_ge {p = p} (Rattle.definitions.specs.Value.list _) {k = k} x'' = elim x'' [ ]
+literal_code_ge {p = p} (Rattle.definitions.specs.Value.rec _) {k = k} x3 = elim x3 [ ]
 
 pub conversion_code_le : (c : Conversion) → conversion_code c ≤ 6
 unfolding conversion_code
@@ -248,6 +250,10 @@ module _ (forms shapes pool bindings : List ℕ) (row : ℕ) {code : ℕ} (coded
         go (Result.keep at q) m simple_keep = meet m (keep_place m.stands)
         go (Result.count at q) m simple_count = meet m (count_place m.stands)
         go (Result.literal at v) m simple_literal = absurd (let z : ⊥ = omega (arith, literal_coded m.stands) in z)
+        go (Rattle.definitions.specs.Reader.each at _ _) m x4 = elim x4 [ ]
+        go (Rattle.definitions.specs.Reader.when at _ _ _ _) m x7 = elim x7 [ ]
+        go (Rattle.definitions.specs.Reader.choose at _ _ _) m x7 = elim x7 [ ]
+        go (Rattle.definitions.specs.Reader.pack at _) m x6 = elim x6 [ ]
 
     module _ (l : Located) (gives : GivesPlace forms shapes pool bindings (row + 3) l) where
       told
@@ -273,6 +279,10 @@ module _ (forms shapes pool bindings : List ℕ) (row : ℕ) {code : ℕ} (coded
             ap (λ (o : Outcome ℕ Shape). o >>= λ s. wants at list_kinds s (ok (only_numeric int_only)))
             (told (located.Refused number place) e h (count_place h.stands))
         refuses e (Result.literal at v) h simple_literal = absurd (let z : ⊥ = omega (arith, literal_coded h.stands) in z)
+        refuses {number = number} {place = place} e (Rattle.definitions.specs.Reader.each at _ _) h x4 = elim x4 [ ]
+        refuses {number = number} {place = place} e (Rattle.definitions.specs.Reader.when at _ _ _ _) h x7 = elim x7 [ ]
+        refuses {number = number} {place = place} e (Rattle.definitions.specs.Reader.choose at _ _ _) h x7 = elim x7 [ ]
+        refuses {number = number} {place = place} e (Rattle.definitions.specs.Reader.pack at _) h x6 = elim x6 [ ]
 
         module _ {at_row kinds : ℕ} (e : l ≡ located.At at_row kinds) where
           keeps
@@ -285,6 +295,10 @@ module _ (forms shapes pool bindings : List ℕ) (row : ℕ) {code : ℕ} (coded
               let t = told (located.At at_row kinds) e h (keep_place h.stands) in (t.0, t.1, t.2.left)
           keeps f (Result.count at q) h simple_count = absurd (let z : ⊥ = omega (arith, count_coded h.stands) in z)
           keeps f (Result.literal at v) h simple_literal = absurd (let z : ⊥ = omega (arith, literal_coded h.stands) in z)
+          keeps f (Rattle.definitions.specs.Reader.each at _ _) h x4 = elim x4 [ ]
+          keeps f (Rattle.definitions.specs.Reader.when at _ _ _ _) h x7 = elim x7 [ ]
+          keeps f (Rattle.definitions.specs.Reader.choose at _ _ _) h x7 = elim x7 [ ]
+          keeps f (Rattle.definitions.specs.Reader.pack at _) h x6 = elim x6 [ ]
 
           module _ {place : ℕ} (near : place ≡ get_or forms row 0 / 2048 % 65536) (x : Checked) where
             counts
@@ -301,6 +315,10 @@ module _ (forms shapes pool bindings : List ℕ) (row : ℕ) {code : ℕ} (coded
                 ∙ sym (ap (λ (o : Outcome ℕ Shape). o >>= λ s. wants at list_kinds s (ok (only_numeric int_only))) t.1) in
                 subst (λ (o : Outcome ℕ Shape). Checks o x) same (w list_kinds t.0 (only_numeric int_only) t.2.left list_wanted int_given)
             counts f w (Result.literal at v) h simple_literal = absurd (let z : ⊥ = omega (arith, literal_coded h.stands) in z)
+            counts f w (Rattle.definitions.specs.Reader.each at _ _) h x5 = elim x5 [ ]
+            counts f w (Rattle.definitions.specs.Reader.when at _ _ _ _) h x8 = elim x8 [ ]
+            counts f w (Rattle.definitions.specs.Reader.choose at _ _ _) h x8 = elim x8 [ ]
+            counts f w (Rattle.definitions.specs.Reader.pack at _) h x7 = elim x7 [ ]
 
             converts_to
                 : (code ≡ 7 → ⊥) → (code ≡ 8 → ⊥) → {given : ℕ} → TellsConversion code given → TellsWant kinds given given place x
@@ -316,6 +334,10 @@ module _ (forms shapes pool bindings : List ℕ) (row : ℕ) {code : ℕ} (coded
             converts_to a b g w (Result.keep at q) h simple_keep = absurd (a (keep_coded h.stands))
             converts_to a b g w (Result.count at q) h simple_count = absurd (b (count_coded h.stands))
             converts_to a b g w (Result.literal at v) h simple_literal = absurd (let z : ⊥ = omega (arith, literal_coded h.stands) in z)
+            converts_to a b {given = given} g w (Rattle.definitions.specs.Reader.each at _ _) h x5 = elim x5 [ ]
+            converts_to a b {given = given} g w (Rattle.definitions.specs.Reader.when at _ _ _ _) h x8 = elim x8 [ ]
+            converts_to a b {given = given} g w (Rattle.definitions.specs.Reader.choose at _ _ _) h x8 = elim x8 [ ]
+            converts_to a b {given = given} g w (Rattle.definitions.specs.Reader.pack at _) h x7 = elim x7 [ ]
 
       pub place_refused
           : {number place : ℕ} (x : Checked) → l ≡ located.Refused number place → PassesUp l x → GivesSimple forms shapes pool bindings row x
@@ -347,6 +369,10 @@ module _ (forms shapes pool bindings : List ℕ) (row : ℕ) {code : ℕ} (coded
   literal_checks l f g t (Result.count at q) h simple_count = absurd (let z : ⊥ = omega (arith, count_coded h.stands) in z)
   literal_checks l f g t {p} (Result.literal at v) h simple_literal =
       (shape_of v, refl, t p v l (coded ∙ stands_code h.stands) (f ∙ stands_operand h.stands) (rw g (literal_stands h.stands)))
+  literal_checks {operand = operand} {payload = payload} {kinds = kinds} l f g t {p = p} {d = d} {m = m} {deep = deep} {env = env} (Rattle.definitions.specs.Reader.each at _ _) h x4 = elim x4 [ ]
+  literal_checks {operand = operand} {payload = payload} {kinds = kinds} l f g t {p = p} {d = d} {m = m} {deep = deep} {env = env} (Rattle.definitions.specs.Reader.when at _ _ _ _) h x7 = elim x7 [ ]
+  literal_checks {operand = operand} {payload = payload} {kinds = kinds} l f g t {p = p} {d = d} {m = m} {deep = deep} {env = env} (Rattle.definitions.specs.Reader.choose at _ _ _) h x7 = elim x7 [ ]
+  literal_checks {operand = operand} {payload = payload} {kinds = kinds} l f g t {p = p} {d = d} {m = m} {deep = deep} {env = env} (Rattle.definitions.specs.Reader.pack at _) h x6 = elim x6 [ ]
 
   pub literal_told
       : {operand payload kinds : ℕ} → 9 ≤ code → operand ≡ get_or forms row 0 / 32 % 64 → payload ≡ get_or forms (row + 1) 0

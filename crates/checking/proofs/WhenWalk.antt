@@ -80,6 +80,13 @@ module _ (forms shapes pool b : List ℕ) (row d : ℕ) (when : get_or forms row
         omega (arith, stands_within (when_second m.stands), forms_some r₂),
         there at (length b) d k q r₁ r₂ m.room,
       )
+      go (Rattle.definitions.specs.Reader.convert at _ _) m x4 = elim x4 [ ]
+      go (Rattle.definitions.specs.Reader.keep at _) m x4 = elim x4 [ ]
+      go (Rattle.definitions.specs.Reader.count at _) m x5 = elim x5 [ ]
+      go (Rattle.definitions.specs.Reader.each at _ _) m x7 = elim x7 [ ]
+      go (Rattle.definitions.specs.Reader.choose at _ _ _) m x9 = elim x9 [ ]
+      go (Rattle.definitions.specs.Reader.literal at _) m x8 = elim x8 [ ]
+      go (Rattle.definitions.specs.Reader.pack at _) m x9 = elim x9 [ ]
 
   pub when_place_asked : FormAsked forms shapes pool b row d → PlaceAsked forms shapes pool b (row + 3)
   when_place_asked h = go h.form h.meets (as_when h.meets)
@@ -94,6 +101,13 @@ module _ (forms shapes pool b : List ℕ) (row d : ℕ) (when : get_or forms row
             env = h.env;
             meets = record { pooled = m.pooled; stands = when_place m.stands; bound = m.bound };
           }
+      go (Rattle.definitions.specs.Reader.convert at _ _) m x4 = elim x4 [ ]
+      go (Rattle.definitions.specs.Reader.keep at _) m x4 = elim x4 [ ]
+      go (Rattle.definitions.specs.Reader.count at _) m x5 = elim x5 [ ]
+      go (Rattle.definitions.specs.Reader.each at _ _) m x7 = elim x7 [ ]
+      go (Rattle.definitions.specs.Reader.choose at _ _ _) m x9 = elim x9 [ ]
+      go (Rattle.definitions.specs.Reader.literal at _) m x8 = elim x8 [ ]
+      go (Rattle.definitions.specs.Reader.pack at _) m x9 = elim x9 [ ]
 
   module _ (l : Located) (gives : GivesPlace forms shapes pool b (row + 3) l) where
     found
@@ -115,6 +129,13 @@ module _ (forms shapes pool b : List ℕ) (row d : ℕ) (when : get_or forms row
     unfolding check ◌>>=◌
     refuses {number} {place} e {env} (Result.when at k q r₁ r₂) h is_when =
         ap (behind_place k r₁ r₂ env) (found h (located.Refused number place) e)
+    refuses {number = number} {place = place} e {p = p} {m = m} {deep = deep} {env = env} (Rattle.definitions.specs.Reader.convert at _ _) h x4 = elim x4 [ ]
+    refuses {number = number} {place = place} e {p = p} {m = m} {deep = deep} {env = env} (Rattle.definitions.specs.Reader.keep at _) h x4 = elim x4 [ ]
+    refuses {number = number} {place = place} e {p = p} {m = m} {deep = deep} {env = env} (Rattle.definitions.specs.Reader.count at _) h x5 = elim x5 [ ]
+    refuses {number = number} {place = place} e {p = p} {m = m} {deep = deep} {env = env} (Rattle.definitions.specs.Reader.each at _ _) h x7 = elim x7 [ ]
+    refuses {number = number} {place = place} e {p = p} {m = m} {deep = deep} {env = env} (Rattle.definitions.specs.Reader.choose at _ _ _) h x9 = elim x9 [ ]
+    refuses {number = number} {place = place} e {p = p} {m = m} {deep = deep} {env = env} (Rattle.definitions.specs.Reader.literal at _) h x8 = elim x8 [ ]
+    refuses {number = number} {place = place} e {p = p} {m = m} {deep = deep} {env = env} (Rattle.definitions.specs.Reader.pack at _) h x9 = elim x9 [ ]
 
     pub when_refused
         : {number place : ℕ} (x : Checked) → l ≡ located.Refused number place → PassesUp l x → GivesForm forms shapes pool b b row d x
@@ -132,6 +153,13 @@ module _ (forms shapes pool b : List ℕ) (row d : ℕ) (when : get_or forms row
         where
           go : (r : Result) → Meets h.p h.m h.deep r h.env → IsWhen r → at_row + 2 ≤ length shapes
           go (Result.when at k q r₁ r₂) m is_when = stands_row (found m (located.At at_row kinds) e).2.stands
+          go (Rattle.definitions.specs.Reader.convert at _ _) m x4 = elim x4 [ ]
+          go (Rattle.definitions.specs.Reader.keep at _) m x4 = elim x4 [ ]
+          go (Rattle.definitions.specs.Reader.count at _) m x5 = elim x5 [ ]
+          go (Rattle.definitions.specs.Reader.each at _ _) m x7 = elim x7 [ ]
+          go (Rattle.definitions.specs.Reader.choose at _ _ _) m x9 = elim x9 [ ]
+          go (Rattle.definitions.specs.Reader.literal at _) m x8 = elim x8 [ ]
+          go (Rattle.definitions.specs.Reader.pack at _) m x9 = elim x9 [ ]
 
       -- the kinds that the test leaves
       module _ {p : List ℕ} {m deep at : ℕ} {k : Test} {q : Place} {r₁ r₂ : Result} {env : List Shape} (h : Meets p m deep (Result.when at k q r₁ r₂) env) where
@@ -167,12 +195,26 @@ module _ (forms shapes pool b : List ℕ) (row d : ℕ) (when : get_or forms row
         where
           go : (r : Result) → Meets h.p h.m h.deep r h.env → IsWhen r → c < 128
           go (Result.when at k q r₁ r₂) m is_when = omega (arith, cut_is m c t, kind_bits_lt (cut_to k (place_shape m)))
+          go (Rattle.definitions.specs.Reader.convert at _ _) m x4 = elim x4 [ ]
+          go (Rattle.definitions.specs.Reader.keep at _) m x4 = elim x4 [ ]
+          go (Rattle.definitions.specs.Reader.count at _) m x5 = elim x5 [ ]
+          go (Rattle.definitions.specs.Reader.each at _ _) m x7 = elim x7 [ ]
+          go (Rattle.definitions.specs.Reader.choose at _ _ _) m x9 = elim x9 [ ]
+          go (Rattle.definitions.specs.Reader.literal at _) m x8 = elim x8 [ ]
+          go (Rattle.definitions.specs.Reader.pack at _) m x9 = elim x9 [ ]
 
       pub few_out : (c : ℕ) → TellsOut kinds test c → FormAsked forms shapes pool b row d → c < 128
       few_out c t h = go h.form h.meets (as_when h.meets)
         where
           go : (r : Result) → Meets h.p h.m h.deep r h.env → IsWhen r → c < 128
           go (Result.when at k q r₁ r₂) m is_when = omega (arith, out_is m c t, kind_bits_lt (taken_out k (place_shape m)))
+          go (Rattle.definitions.specs.Reader.convert at _ _) m x4 = elim x4 [ ]
+          go (Rattle.definitions.specs.Reader.keep at _) m x4 = elim x4 [ ]
+          go (Rattle.definitions.specs.Reader.count at _) m x5 = elim x5 [ ]
+          go (Rattle.definitions.specs.Reader.each at _ _) m x7 = elim x7 [ ]
+          go (Rattle.definitions.specs.Reader.choose at _ _ _) m x9 = elim x9 [ ]
+          go (Rattle.definitions.specs.Reader.literal at _) m x8 = elim x8 [ ]
+          go (Rattle.definitions.specs.Reader.pack at _) m x9 = elim x9 [ ]
 
       module _
           (asked : FormAsked forms shapes pool b row d) (c : ℕ) (cut : TellsCut kinds test c) (b₁ : List ℕ) (put : b₁ ≡ set b d (binding at_row c))
@@ -191,6 +233,13 @@ module _ (forms shapes pool b : List ℕ) (row d : ℕ) (when : get_or forms row
             go : (r : Result) → Meets asked.p asked.m asked.deep r asked.env → IsWhen r → FormAsked forms shapes pool b₁ at_first (d + 1)
             go (Result.when at k q r₁ r₂) m is_when =
                 record { p = asked.p; m = 0; deep = asked.deep; form = r₁; env = _; meets = first_meets m }
+            go (Rattle.definitions.specs.Reader.convert at _ _) m x4 = elim x4 [ ]
+            go (Rattle.definitions.specs.Reader.keep at _) m x4 = elim x4 [ ]
+            go (Rattle.definitions.specs.Reader.count at _) m x5 = elim x5 [ ]
+            go (Rattle.definitions.specs.Reader.each at _ _) m x7 = elim x7 [ ]
+            go (Rattle.definitions.specs.Reader.choose at _ _ _) m x9 = elim x9 [ ]
+            go (Rattle.definitions.specs.Reader.literal at _) m x8 = elim x8 [ ]
+            go (Rattle.definitions.specs.Reader.pack at _) m x9 = elim x9 [ ]
 
         module _ (b₂ : List ℕ) (part : Checked) (answer : GivesForm forms shapes pool b₁ b₂ at_first (d + 1) part) where
           kept_first : Kept b b₂ d
@@ -208,6 +257,13 @@ module _ (forms shapes pool b : List ℕ) (row d : ℕ) (when : get_or forms row
               ap (behind_place k r₁ r₂ env) (found h (located.At at_row kinds) e).1
               ∙ ap (behind_first k r₂ env (place_shape h))
               (part_told forms shapes pool part (checked.Refused number place) answer f (first_meets h))
+          first_refuses {number = number} {place = place} f {p = p} {m = m} {deep = deep} {env = env} (Rattle.definitions.specs.Reader.convert at _ _) h x4 = elim x4 [ ]
+          first_refuses {number = number} {place = place} f {p = p} {m = m} {deep = deep} {env = env} (Rattle.definitions.specs.Reader.keep at _) h x4 = elim x4 [ ]
+          first_refuses {number = number} {place = place} f {p = p} {m = m} {deep = deep} {env = env} (Rattle.definitions.specs.Reader.count at _) h x5 = elim x5 [ ]
+          first_refuses {number = number} {place = place} f {p = p} {m = m} {deep = deep} {env = env} (Rattle.definitions.specs.Reader.each at _ _) h x7 = elim x7 [ ]
+          first_refuses {number = number} {place = place} f {p = p} {m = m} {deep = deep} {env = env} (Rattle.definitions.specs.Reader.choose at _ _ _) h x9 = elim x9 [ ]
+          first_refuses {number = number} {place = place} f {p = p} {m = m} {deep = deep} {env = env} (Rattle.definitions.specs.Reader.literal at _) h x8 = elim x8 [ ]
+          first_refuses {number = number} {place = place} f {p = p} {m = m} {deep = deep} {env = env} (Rattle.definitions.specs.Reader.pack at _) h x9 = elim x9 [ ]
 
           pub first_refused : {number place : ℕ} → part ≡ checked.Refused number place → GivesForm forms shapes pool b b₂ row d part
           first_refused f =
@@ -234,6 +290,13 @@ module _ (forms shapes pool b : List ℕ) (row d : ℕ) (when : get_or forms row
                 go : (r : Result) → Meets asked.p asked.m asked.deep r asked.env → IsWhen r → FormAsked forms shapes pool b₃ at_second (d + 1)
                 go (Result.when at k q r₁ r₂) m is_when =
                     record { p = asked.p; m = 0; deep = asked.deep; form = r₂; env = _; meets = second_Meets m }
+                go (Rattle.definitions.specs.Reader.convert at _ _) m x4 = elim x4 [ ]
+                go (Rattle.definitions.specs.Reader.keep at _) m x4 = elim x4 [ ]
+                go (Rattle.definitions.specs.Reader.count at _) m x5 = elim x5 [ ]
+                go (Rattle.definitions.specs.Reader.each at _ _) m x7 = elim x7 [ ]
+                go (Rattle.definitions.specs.Reader.choose at _ _ _) m x9 = elim x9 [ ]
+                go (Rattle.definitions.specs.Reader.literal at _) m x8 = elim x8 [ ]
+                go (Rattle.definitions.specs.Reader.pack at _) m x9 = elim x9 [ ]
 
             module _ (b₄ : List ℕ) (part₂ : Checked) (answer₂ : GivesForm forms shapes pool b₃ b₄ at_second (d + 1) part₂) where
               kept_second : Kept b b₄ d
@@ -262,6 +325,13 @@ module _ (forms shapes pool b : List ℕ) (row d : ℕ) (when : get_or forms row
                   ∙ ap
                   (λ (o : Outcome ℕ Shape). o >>= λ t₂. ok (join (part_told forms shapes pool part (checked.Kinds given) answer f (first_meets h)).0 t₂))
                   (part_told forms shapes pool part₂ (checked.Refused number place) answer₂ g (second_Meets h))
+              second_refuses {number = number} {place = place} g {p = p} {m = m} {deep = deep} {env = env} (Rattle.definitions.specs.Reader.convert at _ _) h x4 = elim x4 [ ]
+              second_refuses {number = number} {place = place} g {p = p} {m = m} {deep = deep} {env = env} (Rattle.definitions.specs.Reader.keep at _) h x4 = elim x4 [ ]
+              second_refuses {number = number} {place = place} g {p = p} {m = m} {deep = deep} {env = env} (Rattle.definitions.specs.Reader.count at _) h x5 = elim x5 [ ]
+              second_refuses {number = number} {place = place} g {p = p} {m = m} {deep = deep} {env = env} (Rattle.definitions.specs.Reader.each at _ _) h x7 = elim x7 [ ]
+              second_refuses {number = number} {place = place} g {p = p} {m = m} {deep = deep} {env = env} (Rattle.definitions.specs.Reader.choose at _ _ _) h x9 = elim x9 [ ]
+              second_refuses {number = number} {place = place} g {p = p} {m = m} {deep = deep} {env = env} (Rattle.definitions.specs.Reader.literal at _) h x8 = elim x8 [ ]
+              second_refuses {number = number} {place = place} g {p = p} {m = m} {deep = deep} {env = env} (Rattle.definitions.specs.Reader.pack at _) h x9 = elim x9 [ ]
 
               pub second_refused : {number place : ℕ} → part₂ ≡ checked.Refused number place → GivesForm forms shapes pool b b₄ row d part₂
               second_refused g =
@@ -281,6 +351,13 @@ module _ (forms shapes pool b : List ℕ) (row d : ℕ) (when : get_or forms row
                     whole_is h ∙ ap (λ (o : Outcome ℕ Shape). o >>= λ t₂. ok (join t.0 t₂)) u.1,
                     sym (union_bits t.0 u.0) ∙ ap₂ (λ (x y : ℕ). bit_or x y) t.2 u.2,
                   )
+              joins {given₂ = given₂} g {p = p} {m = m} {deep = deep} {env = env} (Rattle.definitions.specs.Reader.convert at _ _) h x4 = elim x4 [ ]
+              joins {given₂ = given₂} g {p = p} {m = m} {deep = deep} {env = env} (Rattle.definitions.specs.Reader.keep at _) h x4 = elim x4 [ ]
+              joins {given₂ = given₂} g {p = p} {m = m} {deep = deep} {env = env} (Rattle.definitions.specs.Reader.count at _) h x5 = elim x5 [ ]
+              joins {given₂ = given₂} g {p = p} {m = m} {deep = deep} {env = env} (Rattle.definitions.specs.Reader.each at _ _) h x7 = elim x7 [ ]
+              joins {given₂ = given₂} g {p = p} {m = m} {deep = deep} {env = env} (Rattle.definitions.specs.Reader.choose at _ _ _) h x9 = elim x9 [ ]
+              joins {given₂ = given₂} g {p = p} {m = m} {deep = deep} {env = env} (Rattle.definitions.specs.Reader.literal at _) h x8 = elim x8 [ ]
+              joins {given₂ = given₂} g {p = p} {m = m} {deep = deep} {env = env} (Rattle.definitions.specs.Reader.pack at _) h x9 = elim x9 [ ]
 
               pub when_told : {given₂ : ℕ} → part₂ ≡ checked.Kinds given₂ → GivesForm forms shapes pool b b₄ row d (checked.Kinds (bit_or given given₂))
               when_told g = record { told = λ p m deep r env h. joins g r h (as_when h); kept = kept_second }
