@@ -162,6 +162,11 @@ module _ (nodes : List ℕ) (at : ℕ) (before : List ℕ) (begun name : ℕ) {k
       go : (p : List ℕ) (v : Value) → IsNull v → Puts p before after name begun v r
       go p Value.null is_null =
           put_alone (subst (λ (x : ℕ). PutRow before after begun x 0 name r) (h ∙ null_head) q) refl null_row
+      go p (Rattle.definitions.specs.Value.bool _) x'' = elim x'' [ ]
+      go p (Rattle.definitions.specs.Value.number _) x3 = elim x3 [ ]
+      go p (Rattle.definitions.specs.Value.text _) x4 = elim x4 [ ]
+      go p (Rattle.definitions.specs.Value.list _) x5 = elim x5 [ ]
+      go p (Rattle.definitions.specs.Value.rec _) x6 = elim x6 [ ]
 
   module _ (some : kind ≡ 0 → ⊥) {n : ℕ} (sized : n ≡ row_size nodes at) where
     stands_at : {p : List ℕ} {v : Value} → Bound nodes p at v → (m : ℕ) × ValueStands nodes p at m v

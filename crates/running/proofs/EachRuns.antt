@@ -116,6 +116,13 @@ module _ {forms nodes pool bindings₀ results₀ : List ℕ} {limit : ℕ} {c :
         omega (arith, bound_within f.bound, f.ready.small.rows),
         omega (arith, f.ready.paid, f.counted, f.left, f.ready.small.steps),
       )
+      go (Rattle.definitions.specs.Reader.convert _ _ _) x4 m = elim x4 [ ]
+      go (Rattle.definitions.specs.Reader.keep _ _) x4 m = elim x4 [ ]
+      go (Rattle.definitions.specs.Reader.count _ _) x5 m = elim x5 [ ]
+      go (Rattle.definitions.specs.Reader.when _ _ _ _ _) x9 m = elim x9 [ ]
+      go (Rattle.definitions.specs.Reader.choose _ _ _ _) x9 m = elim x9 [ ]
+      go (Rattle.definitions.specs.Reader.literal _ _) x8 m = elim x8 [ ]
+      go (Rattle.definitions.specs.Reader.pack _ _) x9 m = elim x9 [ ]
 
   pub each_begins
       : {end : ℕ} → ((p : List ℕ) (v : Value) → Bound nodes p at v → EndsItems nodes p at v end)
@@ -156,6 +163,13 @@ module _ {forms nodes pool bindings₀ results₀ : List ℕ} {limit : ℕ} {c :
               },
             );
           }
+      go l p (Rattle.definitions.specs.Reader.convert _ _ _) env v b x5 e = elim x5 [ ]
+      go l p (Rattle.definitions.specs.Reader.keep _ _) env v b x5 e = elim x5 [ ]
+      go l p (Rattle.definitions.specs.Reader.count _ _) env v b x6 e = elim x6 [ ]
+      go l p (Rattle.definitions.specs.Reader.when _ _ _ _ _) env v b x10 e = elim x10 [ ]
+      go l p (Rattle.definitions.specs.Reader.choose _ _ _ _) env v b x10 e = elim x10 [ ]
+      go l p (Rattle.definitions.specs.Reader.literal _ _) env v b x9 e = elim x9 [ ]
+      go l p (Rattle.definitions.specs.Reader.pack _ _) env v b x10 e = elim x10 [ ]
 
   module _ {end : ℕ} {bindings results : List ℕ} {i begun steps : ℕ}
       (w : EachLoop forms nodes pool bindings₀ results₀ limit c at behind end bindings results i begun steps) where

@@ -71,6 +71,11 @@ ends_list {nodes} {at} {kind} {n} k e r p v b = go v (list_of_kind v (sym (k ∙
           bounded = bd;
           near = omega (arith, r, value_size s, value_within s);
         }
+    go Rattle.definitions.specs.Value.null x'' _ = elim x'' [ ]
+    go (Rattle.definitions.specs.Value.bool _) x4 _ = elim x4 [ ]
+    go (Rattle.definitions.specs.Value.number _) x5 _ = elim x5 [ ]
+    go (Rattle.definitions.specs.Value.text _) x6 _ = elim x6 [ ]
+    go (Rattle.definitions.specs.Value.rec _) x7 _ = elim x7 [ ]
 
 pub list_within
     : {nodes : List ℕ} {at kind begun : ℕ} → SomeBound nodes at begun → kind ≡ get_or nodes at 0 % 8 → kind ≡ 5 → at + row_size nodes at ≤ 65539

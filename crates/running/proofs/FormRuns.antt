@@ -82,6 +82,13 @@ module _ {forms nodes pool bindings : List ℕ} {limit row bound : ℕ} where
     where
       good_of : GoodReader (Result.literal at v) → BoundedNumbers v
       good_of (good_literal g) = good_bounded g
+  literal_here {l = l} {p = p} {env = env} (Rattle.definitions.specs.Reader.convert at _ _) x4 m = elim x4 [ ]
+  literal_here {l = l} {p = p} {env = env} (Rattle.definitions.specs.Reader.keep at _) x4 m = elim x4 [ ]
+  literal_here {l = l} {p = p} {env = env} (Rattle.definitions.specs.Reader.count at _) x5 m = elim x5 [ ]
+  literal_here {l = l} {p = p} {env = env} (Rattle.definitions.specs.Reader.each at _ _) x7 m = elim x7 [ ]
+  literal_here {l = l} {p = p} {env = env} (Rattle.definitions.specs.Reader.when at _ _ _ _) x10 m = elim x10 [ ]
+  literal_here {l = l} {p = p} {env = env} (Rattle.definitions.specs.Reader.choose at _ _ _) x10 m = elim x10 [ ]
+  literal_here {l = l} {p = p} {env = env} (Rattle.definitions.specs.Reader.pack at _) x9 m = elim x9 [ ]
 
   is_one
       : {l : Limits} {p : List ℕ} {env : List Value} {form : Result} {code : ℕ} → code ≡ get_or forms row 0 % 32 → 11 < code → (code ≡ 17 → ⊥)
@@ -246,6 +253,13 @@ module _ {forms nodes pool bindings results : List ℕ} {limit : ℕ} {c : Curso
             → Comes (follow form l env v steps) limit p results results' c r
         go l p (Result.count a q) env v m b is_count =
             g.told p (int_value (count (items_of v))) (record { whole = v; bound = b; same = refl })
+        go l p (Rattle.definitions.specs.Reader.convert _ _ _) env v m b x5 = elim x5 [ ]
+        go l p (Rattle.definitions.specs.Reader.keep _ _) env v m b x5 = elim x5 [ ]
+        go l p (Rattle.definitions.specs.Reader.each _ _ _) env v m b x7 = elim x7 [ ]
+        go l p (Rattle.definitions.specs.Reader.when _ _ _ _ _) env v m b x10 = elim x10 [ ]
+        go l p (Rattle.definitions.specs.Reader.choose _ _ _ _) env v m b x10 = elim x10 [ ]
+        go l p (Rattle.definitions.specs.Reader.literal _ _) env v m b x9 = elim x9 [ ]
+        go l p (Rattle.definitions.specs.Reader.pack _ _) env v m b x10 = elim x10 [ ]
 
     pub value_followed
         : {results' : List ℕ} {r : Part} {code : ℕ} → Following forms nodes pool bindings results limit c at steps 0 10
@@ -269,6 +283,12 @@ module _ {forms nodes pool bindings results : List ℕ} {limit : ℕ} {c : Curso
         go l p (Result.convert a to_bool q) env v m b i is_convert = g.told p v (handed_on b (λ e. omega (arith, e, i)))
         go l p (Result.convert a to_text q) env v m b i is_convert = g.told p v (handed_on b (λ e. omega (arith, e, i)))
         go l p (Result.keep a q) env v m b i is_keep = g.told p v (handed_on b (λ e. omega (arith, e, i)))
+        go l p (Rattle.definitions.specs.Reader.count _ _) env v m b i x5 = elim x5 [ ]
+        go l p (Rattle.definitions.specs.Reader.each _ _ _) env v m b i x7 = elim x7 [ ]
+        go l p (Rattle.definitions.specs.Reader.when _ _ _ _ _) env v m b i x10 = elim x10 [ ]
+        go l p (Rattle.definitions.specs.Reader.choose _ _ _ _) env v m b i x10 = elim x10 [ ]
+        go l p (Rattle.definitions.specs.Reader.literal _ _) env v m b i x9 = elim x9 [ ]
+        go l p (Rattle.definitions.specs.Reader.pack _ _) env v m b i x10 = elim x10 [ ]
 
 -- ---- `when`
 
@@ -280,3 +300,10 @@ module _ {forms nodes pool bindings results : List ℕ} {limit : ℕ} {c : Curso
     where
       go : (r : Result) → IsWhen r → c.bound + result_levels r ≤ length bindings + 1 → c.bound < length bindings
       go (Result.when a k q r₁ r₂) is_when h = omega (arith, h, levels_some r₁)
+      go (Rattle.definitions.specs.Reader.convert _ _ _) x4 h = elim x4 [ ]
+      go (Rattle.definitions.specs.Reader.keep _ _) x4 h = elim x4 [ ]
+      go (Rattle.definitions.specs.Reader.count _ _) x5 h = elim x5 [ ]
+      go (Rattle.definitions.specs.Reader.each _ _ _) x7 h = elim x7 [ ]
+      go (Rattle.definitions.specs.Reader.choose _ _ _ _) x9 h = elim x9 [ ]
+      go (Rattle.definitions.specs.Reader.literal _ _) x8 h = elim x8 [ ]
+      go (Rattle.definitions.specs.Reader.pack _ _) x9 h = elim x9 [ ]

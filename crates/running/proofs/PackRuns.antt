@@ -117,6 +117,13 @@ module _ {forms nodes pool bindings₀ results₀ : List ℕ} {limit : ℕ} {c :
               },
             );
           }
+      go l p (Rattle.definitions.specs.Reader.convert at _ _) env m x4 = elim x4 [ ]
+      go l p (Rattle.definitions.specs.Reader.keep at _) env m x4 = elim x4 [ ]
+      go l p (Rattle.definitions.specs.Reader.count at _) env m x5 = elim x5 [ ]
+      go l p (Rattle.definitions.specs.Reader.each at _ _) env m x7 = elim x7 [ ]
+      go l p (Rattle.definitions.specs.Reader.when at _ _ _ _) env m x10 = elim x10 [ ]
+      go l p (Rattle.definitions.specs.Reader.choose at _ _ _) env m x10 = elim x10 [ ]
+      go l p (Rattle.definitions.specs.Reader.literal at _) env m x9 = elim x9 [ ]
 
   module _ {end : ℕ} {bindings results : List ℕ} {row begun steps : ℕ}
       (w : PackLoop forms nodes pool bindings₀ results₀ limit c end bindings results row begun steps) where

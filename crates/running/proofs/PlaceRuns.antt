@@ -104,6 +104,7 @@ module _ {forms nodes pool bindings : List ℕ} {limit row : ℕ} where
               left = omega arith;
             },
           )
+      go (Rattle.definitions.specs.Reader.field at name _) x3 w = elim x3 [ ]
 
   pub it_within
       : {steps : ℕ} → PlaceReady forms nodes pool bindings limit row steps → get_or forms row 0 % 32 ≡ 1 → steps < limit
@@ -211,6 +212,11 @@ module _ {forms nodes pool bindings : List ℕ} {limit row : ℕ} where
                 held = record { name = m; stands = b; bounded = bd; pooled = w.meets.pooled };
                 small = w.small;
               }
+          go Rattle.definitions.specs.Value.null x'' _ = elim x'' [ ]
+          go (Rattle.definitions.specs.Value.bool _) x4 _ = elim x4 [ ]
+          go (Rattle.definitions.specs.Value.number _) x5 _ = elim x5 [ ]
+          go (Rattle.definitions.specs.Value.text _) x6 _ = elim x6 [ ]
+          go (Rattle.definitions.specs.Value.list _) x7 _ = elim x7 [ ]
 
       pub found
           : {row' payload : ℕ} → kind ≡ 6 → payload ≡ get_or forms (row + 1) 0
@@ -238,3 +244,8 @@ module _ {forms nodes pool bindings : List ℕ} {limit row : ℕ} where
                 counted = omega (arith, more);
                 left = left;
               }
+          go l p q env m k Rattle.definitions.specs.Value.null x5 _ ran more left = elim x5 [ ]
+          go l p q env m k (Rattle.definitions.specs.Value.bool _) x7 _ ran more left = elim x7 [ ]
+          go l p q env m k (Rattle.definitions.specs.Value.number _) x8 _ ran more left = elim x8 [ ]
+          go l p q env m k (Rattle.definitions.specs.Value.text _) x9 _ ran more left = elim x9 [ ]
+          go l p q env m k (Rattle.definitions.specs.Value.list _) x10 _ ran more left = elim x10 [ ]

@@ -225,6 +225,8 @@ module _ {forms pool : List ℕ} {row code : ℕ} (coded : code ≡ get_or forms
       go (Value.bool false) no_payload y k o b = absurd (let z : ⊥ = omega (arith, k, coded, e) in z)
       go (Value.number x) number_payload y k o b = (x, refl, record { signed = f ∙ o; whole = y; bounded = b })
       go (Value.text t) (text_payload q) y k o b = absurd (let z : ⊥ = omega (arith, k, coded, e) in z)
+      go (Rattle.definitions.specs.Value.list _) {j = j} x6 y k o b = elim x6 [ ]
+      go (Rattle.definitions.specs.Value.rec _) {j = j} x7 y k o b = elim x7 [ ]
 
   pub literal_text
       : code ≡ 13 → {payload : ℕ} → payload ≡ get_or forms (row + 1) 0 → (p : List ℕ) (v : Value)
@@ -239,6 +241,8 @@ module _ {forms pool : List ℕ} {row code : ℕ} (coded : code ≡ get_or forms
       go (Value.bool false) no_payload y k = absurd (let z : ⊥ = omega (arith, k, coded, e) in z)
       go (Value.number x) number_payload y k = absurd (let z : ⊥ = omega (arith, k, coded, e) in z)
       go (Value.text t) (text_payload q) y k = (t, refl, subst (Refers p t) (sym y) q)
+      go (Rattle.definitions.specs.Value.list _) {j = j} x4 y k = elim x4 [ ]
+      go (Rattle.definitions.specs.Value.rec _) {j = j} x5 y k = elim x5 [ ]
 
   pub literal_yes
       : code ≡ 14 → {head : ℕ} → head ≡ head_of 2 0 4 → (p : List ℕ) (v : Value) → LiteralAt forms pool row p v → head ≡ head_word v
@@ -251,6 +255,8 @@ module _ {forms pool : List ℕ} {row code : ℕ} (coded : code ≡ get_or forms
       go (Value.bool false) no_payload k = absurd (let z : ⊥ = omega (arith, k, coded, e) in z)
       go (Value.number x) number_payload k = absurd (let z : ⊥ = omega (arith, k, coded, e) in z)
       go (Value.text t) (text_payload q) k = absurd (let z : ⊥ = omega (arith, k, coded, e) in z)
+      go (Rattle.definitions.specs.Value.list _) {j = j} x3 k = elim x3 [ ]
+      go (Rattle.definitions.specs.Value.rec _) {j = j} x4 k = elim x4 [ ]
 
   pub literal_no
       : code ≡ 15 → {head : ℕ} → head ≡ head_of 1 0 5 → (p : List ℕ) (v : Value) → LiteralAt forms pool row p v → head ≡ head_word v
@@ -263,6 +269,8 @@ module _ {forms pool : List ℕ} {row code : ℕ} (coded : code ≡ get_or forms
       go (Value.bool false) no_payload k = f ∙ head_word_is (Value.bool false) refl refl refl
       go (Value.number x) number_payload k = absurd (let z : ⊥ = omega (arith, k, coded, e) in z)
       go (Value.text t) (text_payload q) k = absurd (let z : ⊥ = omega (arith, k, coded, e) in z)
+      go (Rattle.definitions.specs.Value.list _) {j = j} x3 k = elim x3 [ ]
+      go (Rattle.definitions.specs.Value.rec _) {j = j} x4 k = elim x4 [ ]
 
   pub literal_none
       : (code ≡ 12 → ⊥) → (code ≡ 13 → ⊥) → (code ≡ 14 → ⊥) → (code ≡ 15 → ⊥) → {head : ℕ} → head ≡ head_of 0 0 4 → (p : List ℕ) (v : Value)
@@ -276,6 +284,8 @@ module _ {forms pool : List ℕ} {row code : ℕ} (coded : code ≡ get_or forms
       go (Value.bool false) no_payload k = absurd (e (coded ∙ k))
       go (Value.number x) number_payload k = absurd (a (coded ∙ k))
       go (Value.text t) (text_payload q) k = absurd (b (coded ∙ k))
+      go (Rattle.definitions.specs.Value.list _) {j = j} x3 k = elim x3 [ ]
+      go (Rattle.definitions.specs.Value.rec _) {j = j} x4 k = elim x4 [ ]
 
 -- a text of the pool, at a reference
 module _ {pool : List ℕ} {k w n : ℕ} (worded : w ≡ k % 65536) (sized : n ≡ k / 65536) where

@@ -94,6 +94,13 @@ module _ {forms nodes pool bindings : List ℕ} {limit row bound at first second
                 (subst (λ (i : ℕ). FormStands forms p (parts.after forms (parts.after forms (row + 3))) i 0 r₂) bd (parts.when_second m.stands)))
                 g₂ (omega (arith, m.counted)) more (omega (arith, m.room, long));
           }
+  when_meets {l = l} {p = p} {env = env} {v = v} (Rattle.definitions.specs.Reader.convert _ _ _) x5 m b = elim x5 [ ]
+  when_meets {l = l} {p = p} {env = env} {v = v} (Rattle.definitions.specs.Reader.keep _ _) x5 m b = elim x5 [ ]
+  when_meets {l = l} {p = p} {env = env} {v = v} (Rattle.definitions.specs.Reader.count _ _) x6 m b = elim x6 [ ]
+  when_meets {l = l} {p = p} {env = env} {v = v} (Rattle.definitions.specs.Reader.each _ _ _) x8 m b = elim x8 [ ]
+  when_meets {l = l} {p = p} {env = env} {v = v} (Rattle.definitions.specs.Reader.choose _ _ _ _) x10 m b = elim x10 [ ]
+  when_meets {l = l} {p = p} {env = env} {v = v} (Rattle.definitions.specs.Reader.literal _ _) x9 m b = elim x9 [ ]
+  when_meets {l = l} {p = p} {env = env} {v = v} (Rattle.definitions.specs.Reader.pack _ _) x10 m b = elim x10 [ ]
 
 -- what was bound before is kept
 pub kept_before
@@ -220,6 +227,13 @@ choose_meets {forms} {nodes} {pool} {bindings} {limit} {row} {bound} {l} {p} {en
           yes = part_meets m (parts.choose_second m.stands) g₂ m.counted m.binds (omega (arith, m.room));
           no = part_meets m (parts.choose_third m.stands) g₃ m.counted m.binds (omega (arith, m.room));
         }
+choose_meets {forms = forms} {nodes = nodes} {pool = pool} {bindings = bindings} {limit = limit} {row = row} {bound = bound} {l = l} {p = p} {env = env} (Rattle.definitions.specs.Reader.convert at _ _) x4 m = elim x4 [ ]
+choose_meets {forms = forms} {nodes = nodes} {pool = pool} {bindings = bindings} {limit = limit} {row = row} {bound = bound} {l = l} {p = p} {env = env} (Rattle.definitions.specs.Reader.keep at _) x4 m = elim x4 [ ]
+choose_meets {forms = forms} {nodes = nodes} {pool = pool} {bindings = bindings} {limit = limit} {row = row} {bound = bound} {l = l} {p = p} {env = env} (Rattle.definitions.specs.Reader.count at _) x5 m = elim x5 [ ]
+choose_meets {forms = forms} {nodes = nodes} {pool = pool} {bindings = bindings} {limit = limit} {row = row} {bound = bound} {l = l} {p = p} {env = env} (Rattle.definitions.specs.Reader.each at _ _) x7 m = elim x7 [ ]
+choose_meets {forms = forms} {nodes = nodes} {pool = pool} {bindings = bindings} {limit = limit} {row = row} {bound = bound} {l = l} {p = p} {env = env} (Rattle.definitions.specs.Reader.when at _ _ _ _) x10 m = elim x10 [ ]
+choose_meets {forms = forms} {nodes = nodes} {pool = pool} {bindings = bindings} {limit = limit} {row = row} {bound = bound} {l = l} {p = p} {env = env} (Rattle.definitions.specs.Reader.literal at _) x8 m = elim x8 [ ]
+choose_meets {forms = forms} {nodes = nodes} {pool = pool} {bindings = bindings} {limit = limit} {row = row} {bound = bound} {l = l} {p = p} {env = env} (Rattle.definitions.specs.Reader.pack at _) x9 m = elim x9 [ ]
 
 -- the bindings of a part that ran
 meets_kept
