@@ -406,7 +406,7 @@ fn result_into(
 }
 
 // The shape that the reader gives, in a table that holds nothing before; the shape it was checked against stands at the first row.
-pub fn res(
+pub fn result(
     forms: &[u64],
     shapes: &[u64],
     pool: &[u64],
