@@ -1,0 +1,12 @@
+-- `workspace::short_shape_infer` meets its contract. Assumes nothing.
+use Prim.Native.Nat.{ℕ}
+use native.Mathlib.Omega.{arith}
+use lib.ListN.{replicate, length-replicate}
+use Rattle.workspace.proofs.Tiers.{held_grown}
+use Rattle.workspace.proofs.short_shape_infer.Goals as goal
+
+pub infer-requires : goal.infer-requires
+infer-requires c =
+    let a = c.args in record { grown_document_slices = held_grown a.limits c.requires.small a.shape.now a.document.now (replicate 1024 0) (replicate 1536 0)
+          (replicate 2815 0) (length-replicate {A = ℕ} 1024 0) (length-replicate {A = ℕ} 1536 0) (length-replicate {A = ℕ} 2815 0)
+          c.requires.long; table = omega (arith, length-replicate {A = ℕ} 1024 0) }
