@@ -7,10 +7,10 @@ from .library import KIT_CRATES, LIBRARIES
 from .sources import blanked, sources
 
 # The crates whose contracts a user reads, and the crate whose definitions those contracts cite.
-PUBLIC = ("operations", "runvestol")
+PUBLIC = ("operations", "runvestol", "runvestol_c")
 CITED = "definitions"
 
-GHOST = re.compile(r"\bghost\b(?!\s+use\b)")
+GHOST = re.compile(r"\bghost\b(?!\s+(?:pub\s+)?use\b)")
 
 
 def public_sources(root):
@@ -52,7 +52,7 @@ def cited(root):
             other = next((item.path for item in items if not citable(item.path)), None)
             if other:
                 yield source.place(start), f"the `ghost use` of {other} {words}"
-        for m in re.finditer(r"\bRattle·[^\s(){};,]+", text):
+        for m in re.finditer(r"(?<![\w.])Rattle\.[^\s(){};,]+", text):
             if not citable(m[0]):
                 yield source.place(m.start()), f"{m[0]} {words}"
 
@@ -61,4 +61,4 @@ def citable(path):
     head = path.split(".")[0]
     if head in LIBRARIES:
         return True
-    return any(path.startswith((f"Rattle·{name}·specs.", f"Rattle·{name}.specs.")) for name in (CITED, *KIT_CRATES))
+    return any(path.startswith(f"Rattle.{name}.specs.") for name in (CITED, *KIT_CRATES))

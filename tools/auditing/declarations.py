@@ -2,7 +2,7 @@
 import re
 
 ANTT_TOKEN = re.compile(r"«[^»]*»|[(){};,@]|[^\s(){};,@«»]+")
-MARKS = {"unfoldable", "abbrev", "pub", "axiom"}
+MARKS = {"unfoldable", "abbrev", "opaque", "pub", "axiom"}
 KINDS = {"data", "record", "ruleset"}
 NO_NAME = set("( ) } ; , @ = → λ | [ ] ↦ ← use mod let in open module unfolding unfold elim do where".split())
 
@@ -84,7 +84,7 @@ def declared(source):
 
 def signature(source, name):
     """The type that a file gives a name outside of every section, on one line: "" where it gives none."""
-    marked = rf"^(?:(?:unfoldable|abbrev|pub)[ \t]+)*{re.escape(name)}\s*:\s(.*(?:\n[ \t].*)*)"
+    marked = rf"^(?:(?:unfoldable|abbrev|opaque|pub)[ \t]+)*{re.escape(name)}\s*:\s(.*(?:\n[ \t].*)*)"
     found = re.search(marked, source.text, re.M)
     return " ".join(found[1].split()) if found else ""
 

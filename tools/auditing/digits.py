@@ -13,7 +13,7 @@ PATHS = {"crate", "u64", *FILES}
 
 GHOST_USE = re.compile(r"\bghost\s+(?:pub\s+)?use\b[^;]*;")
 DIVIDES = re.compile(r"[/%]=?")
-PATH = re.compile(r"(?<!:)\b(\w+)::(?:(\w+))?")
+PATH = re.compile(r"(?<!:)\b(\w+)::(?:(\w+)|\{([^{}]*)\})?")
 
 
 def undivided(root):
@@ -32,11 +32,16 @@ def undivided(root):
         for m in DIVIDES.finditer(code):
             yield source.place(m.start()), f"`{m[0]}` in the number writer, which divides nothing"
         for m in PATH.finditer(code):
-            first = m[2] if m[1] == "crate" else m[1]
-            if first not in PATHS:
-                yield source.place(m.start()), f"the number writer calls `{first}`, which is not held to have no division"
+            for first in [m[1]] if m[1] != "crate" else heads(m[3]) if m[3] else [m[2]]:
+                if first not in PATHS:
+                    yield source.place(m.start()), f"the number writer calls `{first}`, which is not held to have no division"
     for name in sorted(CALLS - written):
         yield f"{FOLDER}/{FILES[0]}.rt", f"{name} stands in none of the number writer's files"
+
+
+def heads(items):
+    """What each item of `{a, b::c}` begins with."""
+    return [item.split("::")[0].split()[0] for item in items.split(",") if item.strip()]
 
 
 def code_of(source):

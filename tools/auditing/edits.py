@@ -70,7 +70,8 @@ def edits(root):
 
 
 def facts(root):
-    """Each must-fail edit was tried, and was refused because a fact fails and for no other reason."""
+    """Each must-fail edit was tried, and was refused because a fact fails and for no other reason: by the logs that tools/try-edits
+    leaves."""
     for path in sorted(root.glob("crates/*/must-fail/*")):
         if path.suffix != ".edit" or not path.is_file():
             yield path.relative_to(root).as_posix(), "not a file *.edit, so it is never tried"
@@ -86,18 +87,38 @@ def facts(root):
 
 def reasons(edit, log):
     """Why an edit's log does not show what the edit is for. One that changes several public functions shows a fact for each of
-    them, and one that is against a clause shows it where each returns: which clause it is, the log does not tell."""
-    folder, reason = f"/{edit.name}/", other_reason(log, f"/{edit.name}/")
+    them, and one that is against a clause shows it where each returns: at that clause, where the log tells which it is."""
+    reason = other_reason(log)
     changed = [name for name in functions_changed(edit) if name] if edit.crate in PUBLIC else []
     if reason:
         yield reason
         return
     for name in changed:
-        wrong = other_reason(log, folder, name) if len(changed) > 1 else ""
-        if not wrong and edit.against and not returns_refused(log, folder, name):
+        concerns = places_of(edit, name)
+        wrong = other_reason(log, concerns) if len(changed) > 1 else ""
+        if not wrong and edit.against and not returns_refused(log, concerns, edit.against):
             wrong = f"it is against {', '.join(edit.against)}, and no fact fails where the function returns"
         if wrong:
             yield f"of {name}: {wrong}"
+
+
+def places_of(edit, name):
+    """Whether a place of the log is one of a function that the edit changes: in its code, whose lines an edit leaves where they are,
+    or in its proof."""
+    lines = {}
+    for file in {file for file, _, _ in edit.changes}:
+        path = edit.root / "crates" / edit.crate / file
+        if path.suffix == ".rt" and path.is_file():
+            source = Source(edit.root, path)
+            spans = [(function.at, function.body[1]) for function in functions(source) if function.name == name]
+            lines.update({file: tuple(source.text.count("\n", 0, at) + 1 for at in span) for span in spans})
+
+    def concerns(place):
+        file, _, rest = place.partition(":")
+        first, last = lines.get(file, (1, 0))
+        return place.startswith(f"proofs/{name}/") or first <= int(rest.partition(":")[0] or 0) <= last
+
+    return concerns
 
 
 # ---- which there are

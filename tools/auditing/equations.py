@@ -1,9 +1,9 @@
 """The rule on public contracts: each is just the equations with the definition of its name, compared as text.
 
-Of `runvestol_X` the definition is `X-call` of crates/definitions/specs/Calls.antt, of `X` in operations it is `X-operation` of
-Operations.antt there. The definition's signature says what it takes: a source, for which the contract has `read-json`; limits, which
-stand before all other parameters, of a call as the four numbers of a set; then all other parameters of the function, in order and by
-their names."""
+Of `runvestol_X` the definition is `X_call` of crates/definitions/specs/Calls.antt, in `runvestol` and in `runvestol_c`, which hands it
+to C; of `X` in operations it is `X_operation` of Operations.antt there. The definition's signature says what it takes: a source, for
+which the contract has `read_json`; limits, which stand before all other parameters, of a call as the four numbers of a set; then all
+other parameters of the function, in order and by their names."""
 import re
 
 from .contracts import CITED
@@ -13,7 +13,7 @@ from .imports import uses
 from .sources import Source, sources
 
 # What a contract has where a signature asks for a source, what makes limits of four numbers, and the files of what a contract names.
-READS, MAKES = "read-json", "set-of"
+READS, MAKES = "read_json", "set_of"
 HOMES = {READS: "Json", MAKES: "Limits"}
 # The parameters that are the limits: of an operation, and of a call; and what stands for them in its contract.
 LIMITS = [("limits", "Limits")]
@@ -21,8 +21,11 @@ SET = [(name, "u64") for name in ("bytes", "values", "nesting", "steps")]
 HANDED = f"({MAKES} {' '.join(name for name, _ in SET)})"
 # Where the published lengths of work slices are defined; and the sets that they are evaluated at, with the ending of the rows' names.
 SLICES = "WorkSlices"
-SETS = (("standard", ""), ("smallest", "-at-the-smallest"))
-EVALUATED = f"crates/{CITED}/specs/MoreSamples.antt"
+SETS = (("standard", ""), ("smallest", "_at_the_smallest"))
+EVALUATED = f"crates/{CITED}/proofs/MoreSamples.antt"
+# The crate whose functions C reaches, and how each of them is marked.
+FOR_C = "runvestol_c"
+MARK = re.compile(r"#\[unsafe\(no_mangle\)\]\s*$")
 
 BYTES = {"&[u8]", "&mut [u8]"}
 WORK = "&mut [u64]"
@@ -53,7 +56,7 @@ class Definition:
 
 def equations(root):
     """Each public function has just the equations that the audit makes from its name and its definition's signature."""
-    for crate, contract in (("operations", operation), ("runvestol", call)):
+    for crate, contract in (("operations", operation), ("runvestol", call), (FOR_C, call)):
         for source in sources(root, f"crates/{crate}/src/**/*.rt"):
             for function in functions(source):
                 if function.public or function.exported:
@@ -61,28 +64,29 @@ def equations(root):
 
 
 def call(root, source, function):
-    """What is wrong with a function of runvestol."""
+    """What is wrong with a function of runvestol, or of the crate that hands it to C."""
     name = function.name.removeprefix("runvestol_")
-    definition = Definition(root, f"{name}-call", "Calls")
+    definition = Definition(root, f"{name}_call", "Calls")
     if name == function.name or not definition.there:
-        yield function.at, f"the public function {function.name} is no runvestol_X with an X-call in {definition.file}"
+        yield function.at, f"the public function {function.name} is no runvestol_X with an X_call in {definition.file}"
         return
-    if not function.exported or not re.search(r"#\[no_mangle\]\s*$", source.text[: function.at]):
-        yield function.at, f'{function.name} is not marked #[no_mangle] pub extern "C"'
+    for_c = source.name.startswith(f"crates/{FOR_C}/")
+    if for_c and not (function.exported and function.public and MARK.search(source.text[: function.at])):
+        yield function.at, f'{function.name} is not marked #[unsafe(no_mangle)] pub extern "C"'
     others = function.parameters[len(SET) :]
     yield from first(function, SET)
     words = [definition.name, *definition.handed(HANDED), *map(at_entry, others)]
     yield from limited(function, definition, HANDED in words)
     yield from fitting(function, others, definition, "Called")
     yield from imported(source, function, definition, words)
-    yield from stated(function, " ".join(words), {"number": ("r", ".number"), "answered": ("answer", ".answer"), "written": ("output", ".output")})
+    yield from stated(function, " ".join(words), {"number": ("result", "number"), "answered": ("answer.new", "answer"), "written": ("output.new", "output")})
 
 
 def operation(root, source, function):
     """What is wrong with a function of operations."""
-    definition = Definition(root, f"{function.name}-operation", "Operations")
+    definition = Definition(root, f"{function.name}_operation", "Operations")
     if not definition.there:
-        yield function.at, f"the public function {function.name} has no {function.name}-operation in {definition.file}"
+        yield function.at, f"the public function {function.name} has no {function.name}_operation in {definition.file}"
         return
     work = [parameter for parameter in function.parameters if parameter.type == WORK]
     others = [parameter for parameter in function.parameters[len(LIMITS) :] if parameter.type != WORK]
@@ -101,8 +105,8 @@ def operation(root, source, function):
     yield from limited(function, definition, "limits" in words)
     yield from fitting(function, others, definition, "Done" if function.writes() else "Answer")
     yield from imported(source, function, definition, words)
-    ends = {"answered": ("r", ".answer"), "written": ("output", ".output")}
-    yield from stated(function, " ".join(words), ends if function.writes() else {"answered": ("r", "")})
+    ends = {"answered": ("result", "answer"), "written": ("output.new", "output")}
+    yield from stated(function, " ".join(words), ends if function.writes() else {"answered": ("result", "")})
 
 
 def first(function, limits):
@@ -120,7 +124,9 @@ def limited(function, definition, takes):
 
 def at_entry(parameter):
     """A parameter as a contract has it: a number by itself, a slice by what it holds at entry."""
-    return parameter.name if parameter.type in NUMBERS else f"(now ({parameter.name} .entry))"
+    if parameter.type in NUMBERS:
+        return parameter.name
+    return f"{parameter.name}.{'old' if parameter.type.startswith('&mut') else 'now'}"
 
 
 def listed(words):
@@ -135,12 +141,12 @@ def published(root, name, slices):
         told = ", ".join(row[0] for row in rows) or "none"
         raise ValueError(f"the work slices of {name} are {', '.join(slices) or 'none'}, and docs/WORK-SLICES.md prints {told}")
     for at, (limits, ending) in enumerate(SETS, 1):
-        wanted = f"{name}-slices {limits} ≡ {listed(row[at] for row in rows)[1:-1]}"
-        path, row = root / EVALUATED, f"published-for-{name}{ending}"
+        wanted = f"{name}_slices {limits} ≡ {listed(row[at] for row in rows)[1:-1]}"
+        path, row = root / EVALUATED, f"published_for_{name}{ending}"
         kind = signature(Source(root, path), row) if path.is_file() else ""
         if " ".join(kind.split()) != wanted:
             raise ValueError(f"`{row}` of {EVALUATED} does not state {wanted}, as docs/WORK-SLICES.md prints")
-    return f"({name}-slices limits)"
+    return f"({name}_slices limits)"
 
 
 def printed(root):
@@ -170,12 +176,13 @@ def imported(source, function, definition, words):
     """The definition, the source and the limits are those of the crate of definitions, and nothing else of their name."""
     wanted = {definition.name: definition.file.rpartition("/")[2].removesuffix(".antt")}
     wanted.update({word: HOMES[word] for word in re.findall(r"[^\s()]+", " ".join(words)) if word in HOMES})
-    wanted.update({m[1]: SLICES for word in words if (m := re.match(r"\((\S+-slices) ", word))})
+    wanted.update({m[1]: SLICES for word in words if (m := re.match(r"\((\S+_slices) ", word))})
     brought = [(item.name, item.path) for _, _, items in uses(source) for item in items]
     for name, module in wanted.items():
         paths = [path for brought_name, path in brought if brought_name == name]
-        if paths != [f"Rattle·{CITED}.specs.{module}.{name}"]:
-            yield function.at, f"`{name}` of {function.name} is {', '.join(paths) or 'brought in nowhere'}, and not Rattle·{CITED}.specs.{module}.{name}"
+        home = f"Rattle.{CITED}.specs.{module}.{name}"
+        if paths != [home]:
+            yield function.at, f"`{name}` of {function.name} is {', '.join(paths) or 'brought in nowhere'}, and not {home}"
 
 
 def stated(function, value, ends):
@@ -188,7 +195,6 @@ def stated(function, value, ends):
     for clause in function.of("ensures"):
         if clause.label in ends:
             side, part = ends[clause.label]
-            left = ("r", "r") if side == "r" else ("_", f"now ({side} .exit)")
-            wanted = f"λ {left[0]}. ⌜ {left[1]} ≡ {f'{value} {part}'.strip()} ⌝"
-            if " ".join(clause.text.split()) != wanted:
+            wanted = f"{side} ≡ {f'({value}).{part}' if part else value}"
+            if clause.starred or " ".join(clause.text.split()) != wanted:
                 yield clause.at, f"`{clause.label}` of {function.name} is not {wanted}"

@@ -6,8 +6,10 @@ from .sources import QUOTED
 
 # What the prover says when a fact fails. A type mismatch is judged by its two types, further down.
 FACTS = [
-    r"`omega`: .*does not follow from what it read",
-    r"`omega` found no proof, and no values at which the goal fails",
+    r"`omega`: [\s\S]*?does not\s+follow from what it read",
+    r"`omega` found no proof",
+    r"`grind`: the goal does not follow",
+    r"`grind` found no proof",
     r"`search`: no proof of `",
     r"`cc`: the equations do not join `",
     r"`simp` has no last argument, so what it leaves must be a path whose two ends are equal",
@@ -18,12 +20,12 @@ FACTS = [
 ]
 
 # The heads of a type that states a relation, of a contract's clause, and of a test that computes.
-RELATIONS = {"Path", "PathP", "_≡_", "_≢_", "_<_", "_≤_", "_∣_", "Fits", "InArray", "PartFrom", "PartTo"}
+RELATIONS = {"Path", "PathP", "◌≡◌", "◌≢◌", "◌<◌", "◌≤◌", "◌∣◌", "Fits", "InArray", "PartFrom", "PartTo"}
 INFIX = {"≡", "≢", "<", "≤", "∣"}
 CLAUSE = re.compile(r"(?:^|\.)[Rr]eads\.(?:Pre|Post|Asked|Learnt)$")
-TESTS = {"T", "IsLe", "So", "⊥", "Unit"}
+TESTS = {"T", "IsLe", "IsTrue", "IsFalse", "So", "⊥", "⊤", "Unit"}
 # A statement by its name alone: a loop's invariant, or a clause of a function that a proof of several has as one of its claims.
-NAMED = re.compile(r"(?:\S*-)?Inv-\S+ |\(\S+-claims [^()]*\) \.[01] ")
+NAMED = re.compile(r"(?:\S*-)?Inv-\S+ |(?:\S*\.)?the-invariant-\S+ |\(\S+-claims [^()]*\) ?\.[01] ")
 SUCCESSOR = re.compile(r"(?:Prim\.Native\.Nat\.)?suc (?:\((.*)\)|(\S+))")
 # Where antt tells the one place in which two types differ, as they are printed or once they are computed.
 DIFFER = re.compile(

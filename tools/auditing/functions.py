@@ -2,12 +2,12 @@
 import re
 from collections import namedtuple
 
-FN = re.compile(r'\b(pub\s+)?((?:(?:extern|const|"C")\s+)*)fn\s+(\w+)')
+FN = re.compile(r'\b(pub\s+)?((?:(?:extern|const|unsafe|async|"C")\s+)*)fn\s+(\w+)')
 IMPL = re.compile(r"\bimpl(?:\s*<[^>{]*>)?\s+(\w+)[^{;]*\{")
-LABEL = re.compile(r"\b(?:requires|ensures|ghost)\s*(\w*)\s*$")
+LABEL = re.compile(r"\b(?:requires|ensures|ghost)(\*?)\s*(\w*)\s*[:=]?\s*$")
 
-# A clause: its word, its name, its text, and the offset of its brace.
-Clause = namedtuple("Clause", "word label text at")
+# A clause: its word, its name, its text, the offset of its brace, and whether a star stands at its word.
+Clause = namedtuple("Clause", "word label text at starred")
 Parameter = namedtuple("Parameter", "name type")
 
 
@@ -50,7 +50,8 @@ def clauses_from(source, i):
     while i < len(source.text):
         if i in source.clauses:
             word, end = source.clauses[i]
-            found.append(Clause(word, LABEL.search(source.text, 0, i)[1], source.text[i + 1 : end - 1], i))
+            head = LABEL.search(source.text, 0, i)
+            found.append(Clause(word, head[2], source.text[i + 1 : end - 1], i, bool(head[1])))
             i = end
             continue
         depth += {"(": 1, "[": 1, ")": -1, "]": -1}.get(source.text[i], 0)

@@ -15,7 +15,7 @@ ANTT_PASSED = re.compile(r'(?<![^\s(){}.;,@"«»])--[^\n]*|\{-.*?-\}|"(?:\\.|[^"
 # A name ends at a space or at one of these. What stands right behind a dot is a field, or a name of the module in front of it.
 ANTT_NAME = re.compile(r'(?<![^\s(){};,@"«»])[^\s(){}.;,@"«»]+')
 # `use PATH.{NAMES}`, `use PATH as NAME`; what is passed on with `pub` is not asked after.
-USE = re.compile(r"(?m)^[ \t]*(pub )?use (\S+?)(?:\.\{([^}]*)\}| as (\S+))?[ \t]*$")
+USE = re.compile(r"(?m)^[ \t]*(?:unfoldable )?(pub )?use (\S+?)(?:\.\{([^}]*)\}| as (\S+))?[ \t]*$")
 # the same in Rattle, for its clauses; there a comment begins with two slashes
 GHOST_USE = re.compile(r"(?m)^[ \t]*ghost (pub )?use (\S+?)(?:\.\{([^}]*)\}| as (\S+))?;[ \t]*$")
 RATTLE_PASSED = re.compile(r"//[^\n]*")
@@ -70,12 +70,12 @@ def imported(text, use_line):
 def idle(text, use_line=USE, passed=ANTT_PASSED):
     """The imported names that nothing behind the `use` lines names, each with its place.
 
-    An operator is used by all its parts, as `_+_` by `+`, or by its whole name."""
+    An operator is used by all its parts, as `◌+◌` by `+`, or by its whole name."""
     text = passed_over(text, passed)
     said = set(ANTT_NAME.findall(use_line.sub("", text)))
     for name, at in imported(text, use_line):
-        parts = {part for part in name.split("_") if part} or {name}
-        if name not in said and not ("_" in name and parts <= said):
+        parts = {part for part in name.split("◌") if part} or {name}
+        if name not in said and not ("◌" in name and parts <= said):
             yield name, at
 
 

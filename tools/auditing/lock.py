@@ -1,8 +1,8 @@
 """docs/STATEMENTS.lock: a checksum for all that a reader has to believe, so that no change of it goes by without a line in a diff.
 
-A line is a sha256 and what it is of: a file (the definitions; the statements with all that they import in `laws`; what
-`runvestol` states of its calls), or a public function, whose signature and clauses it covers with the `ghost use` lines of its
-file, comments dropped and white space collapsed."""
+A line is a sha256 and what it is of: a file (the definitions and the rows that are proved of them; the statements with all that they
+import in `laws`; what `runvestol` and `runvestol_c` state of their calls), or a public function, whose signature and clauses it covers
+with the `ghost use` lines of its file, comments dropped and white space collapsed."""
 import hashlib
 
 from .contracts import CITED, public_sources
@@ -12,14 +12,18 @@ from .promises import STATEMENTS
 from .sources import Source
 
 LOCK = "docs/STATEMENTS.lock"
+# The crates of the C calls.
+CALLS = ("runvestol", "runvestol_c")
 # How a file of `laws` names another one.
-OWN = "Rattle·laws·specs.specs."
+OWN = "Rattle.laws.specs."
 
 
 def believed(root):
     """The files that a reader has to believe."""
     files = {*root.glob(f"crates/{CITED}/src/lib.rt"), *root.glob(f"crates/{CITED}/specs/**/*.antt")}
-    files.update(root.glob("crates/runvestol/specs/**/*.antt"))
+    files.update(root.glob(f"crates/{CITED}/proofs/**/*.antt"))
+    for crate in CALLS:
+        files.update(root.glob(f"crates/{crate}/specs/**/*.antt"))
     waiting = [root / STATEMENTS]
     while waiting:
         path = waiting.pop()

@@ -1,7 +1,9 @@
 """The rule on docs/PROMISES.md: what it cites is there, and each theorem that it cites is the statement of its name.
 
+The theorem `doubles_by_the_book` has the statement `DoublesByTheBook`.
+
 How it cites: in backquotes, a path under crates/, a space and one name, as in
-  `crates/NAME/specs/File.antt name`           a signature, data type, constructor or record of that file
+  `crates/NAME/specs/File.antt name`           a signature, data type, constructor or record of that file, or of one of proofs/
   `crates/NAME/specs/File.antt Record.field`   a field of a record, never by its own name alone
   `crates/NAME/src/file.rt function`           a function; a method is `Type::name`
 A path under crates/ with no name behind it must be a file. Code fences and <!-- comments --> are passed over."""
@@ -14,7 +16,7 @@ from .sources import Source, blanked
 
 DOCUMENT = "docs/PROMISES.md"
 STATEMENTS = "crates/laws/specs/Statements.antt"
-THEOREMS = "crates/laws/specs/Theorems.antt"
+THEOREMS = "crates/laws/proofs/Theorems.antt"
 
 
 def promises(root):
@@ -71,7 +73,7 @@ def spec_fault(root, source, name):
 
 def theorem_fault(root, source, name):
     """A theorem's type is the statement of its name, which is declared among the statements and nowhere else."""
-    statement, kind = name[:1].upper() + name[1:], signature(source, name)
+    statement, kind = "".join(part[:1].upper() + part[1:] for part in name.split("_")), signature(source, name)
     if kind != statement:
         return f"the type of the theorem {name} is `{kind}`, and not the statement {statement}"
     path = root / STATEMENTS
@@ -79,6 +81,6 @@ def theorem_fault(root, source, name):
         return f"{STATEMENTS} declares no {statement}"
     brought = [item.path for _, _, items in uses(source) for item in items if item.name == statement]
     own = [found for found, _ in declared(source) if found == statement]
-    if own or brought != ["Rattle·laws·specs.specs.Statements." + statement]:
+    if own or brought != ["Rattle.laws.specs.Statements." + statement]:
         return f"{statement} in {THEOREMS} is {', '.join(own + brought) or 'brought in nowhere'}, and not that of {STATEMENTS}"
     return ""

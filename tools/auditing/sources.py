@@ -21,7 +21,9 @@ def block_end(raw, i, opens, closes):
 
 
 QUOTED = re.compile(r'"(?:\\.|[^"\\])*"', re.S)
-BYTE = re.compile(r"b'(?:\\'|\\[^']+|[^\\'])'")
+# a byte or a character; a lifetime has no quote behind it
+BYTE = re.compile(r"b?'(?:\\'|\\[^']+|[^\\'\n])'")
+RAW = re.compile(r'b?r(#*)".*?"\1', re.S)
 ANTT_BREAK = set(' \t\n(){}.;,@"«»')
 
 
@@ -62,11 +64,11 @@ def rattle_skip(raw, i):
         return line_end(raw, i)
     if raw.startswith("/*", i):
         return block_end(raw, i, "/*", "*/")
-    m = BYTE.match(raw, i) or QUOTED.match(raw, i + 1 if raw.startswith('b"', i) else i)
+    m = BYTE.match(raw, i) or RAW.match(raw, i) or QUOTED.match(raw, i + 1 if raw.startswith('b"', i) else i)
     return m.end() if m else i
 
 
-RATTLE_MARK = re.compile(r"""//|/\*|\bb"|\bb'|"|[{;()=]|\b(?:requires|ensures|ghost|use)\b""")
+RATTLE_MARK = re.compile(r"""//|/\*|\bb?r\#*"|\bb"|\bb'|"|'|[{;()=]|\b(?:requires|ensures|ghost|use)\b""")
 
 
 def blank_rattle(raw):
@@ -86,7 +88,8 @@ def blank_rattle(raw):
             part, end = m[0], m.end()
             if part in ("requires", "ensures", "ghost"):
                 word = part
-            elif part != "{":
+            elif part != "{" and (part != "=" or word != "ghost"):
+                # a ghost item of an `impl` has its `=` before its brace
                 word = None
         out += [raw[at:i], part]
         at, m = end, RATTLE_MARK.search(raw, end)

@@ -4,7 +4,9 @@ import re
 from .contracts import CITED
 from .sources import sources
 
-EXPORTS = "crates/runvestol/src/lib.rt"
+EXPORTS = "crates/runvestol_c/src/lib.rt"
+# How crates.txt has a crate that is no library for other crates.
+KINDS = {"staticlib"}
 
 
 def listed(root):
@@ -14,9 +16,12 @@ def listed(root):
         yield "crates.txt", "there is none"
         return
     for number, line in enumerate(listing.read_text(encoding="utf-8", errors="replace").split("\n"), 1):
-        name, colon, needed = (part.strip() for part in line.split("#")[0].partition(":"))
+        head, colon, needed = (part.strip() for part in line.split("#")[0].partition(":"))
         if not colon:
             continue
+        name, *kind = head.split() or [""]
+        if set(kind) - KINDS:
+            yield f"crates.txt:{number}", f"{name} is listed with {' '.join(kind)}, and a crate is a library, a program or a staticlib"
         names.add(name)
         if not (root / "crates" / name).is_dir():
             yield f"crates.txt:{number}", f"{name} is listed, and there is no folder crates/{name}"
@@ -31,5 +36,5 @@ def exported(root):
     """What C can call stands in one file, so that no other crate has a call with a contract of its own."""
     for source in sources(root, "crates/**/*.rt"):
         if source.name != EXPORTS:
-            for m in re.finditer(r'\bno_mangle\b|\bextern\s*"C"(?!\s*\{)', source.text):
+            for m in re.finditer(r'\bno_mangle\b|\bexport_name\b|\bextern\s*"C"(?!\s*\{)', source.text):
                 yield source.place(m.start()), f"`{' '.join(m[0].split())}` outside of {EXPORTS}"
