@@ -25,7 +25,7 @@ INFIX = {"≡", "≢", "<", "≤", "∣"}
 CLAUSE = re.compile(r"(?:^|\.)[Rr]eads\.(?:Pre|Post|Asked|Learnt)$")
 TESTS = {"T", "IsLe", "IsTrue", "IsFalse", "So", "⊥", "⊤", "Unit"}
 # A statement by its name alone: a loop's invariant, or a clause of a function that a proof of several has as one of its claims.
-NAMED = re.compile(r"(?:\S*-)?Inv-\S+ |(?:\S*\.)?the-invariant-\S+ |\(\S+-claims [^()]*\) ?\.[01] ")
+NAMED = re.compile(r"(?:\S*-)?Inv-\S+ |(?:\S*\.)?(?:the-)?invariant-\S+ |\(\S+-claims [^()]*\) ?\.[01] ")
 SUCCESSOR = re.compile(r"(?:Prim\.Native\.Nat\.)?suc (?:\((.*)\)|(\S+))")
 # Where antt tells the one place in which two types differ, as they are printed or once they are computed.
 DIFFER = re.compile(
