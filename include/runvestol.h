@@ -57,7 +57,7 @@
  * Nothing else is asked: every set of numbers, every text, of any bytes and any length, and every length of a buffer has
  * its answer. Where the outcome of one call is a text of another, hand both the same set.
  *
- * Link with librunvestol.a, which `rt staticlib runvestol` writes to target/staticlib/ and `make install` puts where
+ * Link with librunvestol.a, which `make` writes to target/staticlib/ and `make install` puts where
  * `pkg-config --cflags --libs runvestol` finds it. It is x86-64 code for Linux, and needs no library but the C library.
  * examples/host.c is a host over it.
  */

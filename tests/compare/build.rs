@@ -1,4 +1,4 @@
-//! Links the archive that `rt staticlib runvestol` writes, or the one in the
+//! Links the archive that the launcher builds, or the one in the
 //! folder that RUNVESTOL_FOLDER names, and declares the calls that
 //! `include/runvestol.h` has, in `calls.rs`.
 

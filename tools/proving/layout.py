@@ -155,7 +155,7 @@ def line_broken(line, rattle):
     if uses:
         return uses
     tokens = tokens_of(line)
-    if any(token.text.startswith("--") for token in tokens) or rattle and not re.match(r"\s*(ensures|requires)|.*⌝ \}$", line):
+    if any(token.text.startswith("--") for token in tokens) or rattle and not re.match(r"\s*(ensures|requires)", line):
         return [line]
     indent = len(line) - len(line.lstrip(" "))
     lines = [joined(part) for part in broken(tokens, WIDTH - indent, WIDTH - indent - 4, rattle)]
