@@ -26,7 +26,9 @@ CLAUSE = re.compile(r"(?:^|\.)[Rr]eads\.(?:Pre|Post|Asked|Learnt)$")
 TESTS = {"T", "IsLe", "IsTrue", "IsFalse", "So", "⊥", "⊤", "Unit"}
 # A statement by its name alone: a loop's invariant, or a clause of a function that a proof of several has as one of its claims.
 NAMED = re.compile(r"(?:\S*-)?Inv-\S+ |(?:\S*\.)?(?:the-)?invariant-\S+ |\(\S+-claims [^()]*\) ?\.[01] ")
-SUCCESSOR = re.compile(r"(?:Prim\.Native\.Nat\.)?suc (?:\((.*)\)|(\S+))")
+# The same, opened here and by its name there: a predicate of a crate, and no type that its code declares.
+PREDICATE = re.compile(r"Rattle\.\w+\.specs\.(?!declared\.)(?:\w+\.)*[A-Z]\w* ")
+SUCCESSOR = re.compile(r"(?:Prim\.Native\.Nat\.)?suc (?:\((.*)\)|(\S+))|\((?:Prim\.Native\.Nat\.)?◌\+◌ (\S+) 1\)")
 # Where antt tells the one place in which two types differ, as they are printed or once they are computed.
 DIFFER = re.compile(
     r"(as printed|computed as far as they go), the two types (differ only|first differ) where one has `([^`]*)`\s+\(expected\)"
@@ -47,7 +49,7 @@ def is_fact(words):
     computed = re.search(r"the two types are `([^`]*)`\s+\(expected\) and `([^`]*)`\s+\(found\)", words)
     late = re.search(r"`([^`]*)` ≟ `([^`]*)`: does not hold \(this comparison", words)
     sides = re.search(r"the two sides are `([^`]*)`\s+\(left\) and `([^`]*)`\s+\(right\)", words)
-    if stated and (another_instance(stated[1], stated[2], words) or another_value(stated[1], words)):
+    if stated and (another_instance(stated[1], stated[2], words) or another_value(stated[1], stated[2], words)):
         return True
     pairs = [pair for pair in (stated, computed, late, sides) if pair]
     return any(same_kind(pair[1], pair[2]) or is_denied(pair[1], pair[2]) for pair in pairs)
@@ -71,17 +73,18 @@ def another_instance(one, two, words):
     return heads[0].split(".")[0] not in LIBRARIES and all(map(is_value, differing))
 
 
-def another_value(expected, words):
-    """A statement by its name alone that, once computed, differs from what is found in nothing but two unequal values.
+def another_value(expected, found, words):
+    """A statement by its name alone, on one side, that once computed differs from the other in nothing but two unequal values.
 
     Two places of the proof's context, as `c .args .i` and `c .args .j`, do not tell: they also differ where a proof
     cites the wrong one."""
     differing = [values for how, where, *values in DIFFER.findall(words) if (how, where) == ("computed as far as they go", "differ only")]
-    return bool(NAMED.match(expected)) and any(unequal(*values) for values in differing)
+    return bool(NAMED.match(expected) or PREDICATE.match(found)) and any(unequal(*values) for values in differing)
 
 
 def unequal(one, two):
     """Two values that are plainly not equal: literals, or a number and the next one."""
+    one, two = (re.sub(r"^mathlib\.Core\.Bool\.(?=(?:true|false)$)", "", part) for part in (one, two))
     if any(all(re.fullmatch(literal, part) for part in (one, two)) for literal in (r"\d+", "true|false")):
         return one != two
     nexts = [(SUCCESSOR.fullmatch(a), b) for a, b in ((one, two), (two, one))]

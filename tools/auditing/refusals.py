@@ -7,6 +7,7 @@ from .failing import is_fact, says
 FOLLOWS = [
     r"was not admitted \(it has holes or undetermined implicits, or was rejected\), so this cannot be checked",
     r"cannot be unfolded because it was not admitted",
+    r"^\d+ declarations? that depends? on `[^`]*`, which was (?:rejected|not admitted), w(?:as|ere) not checked",
 ]
 # A rewriting step that no longer applies: no fact by itself, and nothing against one either.
 STEPS = [r"`rw`: no occurrence of", r"`simp`: no equation of the list (?:has an instance|can be applied)"]
