@@ -18,7 +18,7 @@ ERROR = re.compile(r"(\S.*?\.(?:rt|antt)(?::\d+:\d+)?): (error(?:\[[^\]]*\])?|no
 HELD = re.compile(r"(\S.*?\.antt:\d+:\d+): (`[^`]*` is not admitted: .*)")
 NEED = re.compile(r"note: (\S.*?\.rt:\d+:\d+): (it is not proved that .*)")
 # A goal of a function's return, as `returns`, `returns-2`, `returns-then-full` or `returns-clause-written`, at which a fact fails.
-RETURNS = re.compile(r"`(returns(?:-[^`]*)?)`(?:: |\)\s*$)")
+RETURNS = re.compile(r"`(returns(?:-[^`]*)?)`(?:: |\))")
 
 
 def refusals(log):
