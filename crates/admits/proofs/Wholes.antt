@@ -6,7 +6,7 @@ use mathlib.Core.List.{List}
 use native.Mathlib.Omega.{arith}
 use lib.ListN.{length, get_or}
 use Rattle.definitions.specs.Number.{Number, is_int}
-use Rattle.definitions.specs.Value.{Value, Items, Members, size}
+use Rattle.definitions.specs.Value.{Value, Items, Members}
 use Rattle.definitions.specs.Shape.{Shape, shape, no_list, list_of, no_rec, rec_of, Fields, has, has_list, has_rec, element_of, record_of}
 use Rattle.definitions.specs.Admits.{kind_of, admits, admitted, admitted_items, admitted_members, missing_have_null}
 use Rattle.laws.specs.Bools.{not_true, clash, not_fails}

@@ -1,5 +1,6 @@
 // Whether a shape of a shape table admits a value of a node table.
 #![tactic(auto)]
+
 ghost use Rattle.std.specs.Prelude.{◌≡◌, true, List, ℕ};
 ghost use Rattle.definitions.specs.Value.{Value};
 ghost use Rattle.definitions.specs.Admits.{kind_of};

@@ -1,5 +1,6 @@
 // Answers: made, with the unused fields 0 or false, and put into a buffer as five little_endian words.
 #![tactic(auto)]
+
 ghost use Rattle.std.specs.Prelude.{◌≡◌, ◌++◌, ◌+◌, ◌≤◌, length, take, drop};
 ghost use Rattle.definitions.specs.Operations.{refusal, said};
 ghost use Rattle.definitions.specs.Calls.{little_endian, answer_words, answered};

@@ -128,12 +128,17 @@ module _ (forms shapes pool b : List ℕ) (row d : ℕ) (choose : get_or forms r
       unfolding check ◌>>=◌
       first_refuses {number} {place} f {env} (Result.choose at r₁ r₂ r₃) h is_choose =
           ap (behind_first at r₂ r₃ env) (part_told forms shapes pool part₁ (checked.Refused number place) answer₁ f (first_meets h))
-      first_refuses {number = number} {place = place} f {p = p} {m = m} {deep = deep} {env = env} (Rattle.definitions.specs.Reader.convert at _ _) h x4 = elim x4 [ ]
+      first_refuses {number = number} {place = place} f {p = p} {m = m} {deep = deep} {env = env} (Rattle.definitions.specs.Reader.convert at _ _) h x4 =
+          elim x4 [ ]
       first_refuses {number = number} {place = place} f {p = p} {m = m} {deep = deep} {env = env} (Rattle.definitions.specs.Reader.keep at _) h x4 = elim x4 [ ]
-      first_refuses {number = number} {place = place} f {p = p} {m = m} {deep = deep} {env = env} (Rattle.definitions.specs.Reader.count at _) h x5 = elim x5 [ ]
-      first_refuses {number = number} {place = place} f {p = p} {m = m} {deep = deep} {env = env} (Rattle.definitions.specs.Reader.each at _ _) h x7 = elim x7 [ ]
-      first_refuses {number = number} {place = place} f {p = p} {m = m} {deep = deep} {env = env} (Rattle.definitions.specs.Reader.when at _ _ _ _) h x10 = elim x10 [ ]
-      first_refuses {number = number} {place = place} f {p = p} {m = m} {deep = deep} {env = env} (Rattle.definitions.specs.Reader.literal at _) h x8 = elim x8 [ ]
+      first_refuses {number = number} {place = place} f {p = p} {m = m} {deep = deep} {env = env} (Rattle.definitions.specs.Reader.count at _) h x5 =
+          elim x5 [ ]
+      first_refuses {number = number} {place = place} f {p = p} {m = m} {deep = deep} {env = env} (Rattle.definitions.specs.Reader.each at _ _) h x7 =
+          elim x7 [ ]
+      first_refuses {number = number} {place = place} f {p = p} {m = m} {deep = deep} {env = env} (Rattle.definitions.specs.Reader.when at _ _ _ _) h x10 =
+          elim x10 [ ]
+      first_refuses {number = number} {place = place} f {p = p} {m = m} {deep = deep} {env = env} (Rattle.definitions.specs.Reader.literal at _) h x8 =
+          elim x8 [ ]
       first_refuses {number = number} {place = place} f {p = p} {m = m} {deep = deep} {env = env} (Rattle.definitions.specs.Reader.pack at _) h x9 = elim x9 [ ]
 
       pub first_refused : {number place : ℕ} → part₁ ≡ checked.Refused number place → GivesForm forms shapes pool b b₁ row d part₁
@@ -187,13 +192,20 @@ module _ (forms shapes pool b : List ℕ) (row d : ℕ) (choose : get_or forms r
               ap (behind_first at r₂ r₃ env) t.1
               ∙ ap (behind_second at r₃ env t.0)
               (part_told forms shapes pool part₂ (checked.Refused number place) answer₂ g (second_Meets h))
-          second_refuses {number = number} {place = place} g {p = p} {m = m} {deep = deep} {env = env} (Rattle.definitions.specs.Reader.convert at _ _) h x4 = elim x4 [ ]
-          second_refuses {number = number} {place = place} g {p = p} {m = m} {deep = deep} {env = env} (Rattle.definitions.specs.Reader.keep at _) h x4 = elim x4 [ ]
-          second_refuses {number = number} {place = place} g {p = p} {m = m} {deep = deep} {env = env} (Rattle.definitions.specs.Reader.count at _) h x5 = elim x5 [ ]
-          second_refuses {number = number} {place = place} g {p = p} {m = m} {deep = deep} {env = env} (Rattle.definitions.specs.Reader.each at _ _) h x7 = elim x7 [ ]
-          second_refuses {number = number} {place = place} g {p = p} {m = m} {deep = deep} {env = env} (Rattle.definitions.specs.Reader.when at _ _ _ _) h x10 = elim x10 [ ]
-          second_refuses {number = number} {place = place} g {p = p} {m = m} {deep = deep} {env = env} (Rattle.definitions.specs.Reader.literal at _) h x8 = elim x8 [ ]
-          second_refuses {number = number} {place = place} g {p = p} {m = m} {deep = deep} {env = env} (Rattle.definitions.specs.Reader.pack at _) h x9 = elim x9 [ ]
+          second_refuses {number = number} {place = place} g {p = p} {m = m} {deep = deep} {env = env} (Rattle.definitions.specs.Reader.convert at _ _) h x4 =
+              elim x4 [ ]
+          second_refuses {number = number} {place = place} g {p = p} {m = m} {deep = deep} {env = env} (Rattle.definitions.specs.Reader.keep at _) h x4 =
+              elim x4 [ ]
+          second_refuses {number = number} {place = place} g {p = p} {m = m} {deep = deep} {env = env} (Rattle.definitions.specs.Reader.count at _) h x5 =
+              elim x5 [ ]
+          second_refuses {number = number} {place = place} g {p = p} {m = m} {deep = deep} {env = env} (Rattle.definitions.specs.Reader.each at _ _) h x7 =
+              elim x7 [ ]
+          second_refuses {number = number} {place = place} g {p = p} {m = m} {deep = deep} {env = env}
+              (Rattle.definitions.specs.Reader.when at _ _ _ _) h x10 = elim x10 [ ]
+          second_refuses {number = number} {place = place} g {p = p} {m = m} {deep = deep} {env = env} (Rattle.definitions.specs.Reader.literal at _) h x8 =
+              elim x8 [ ]
+          second_refuses {number = number} {place = place} g {p = p} {m = m} {deep = deep} {env = env} (Rattle.definitions.specs.Reader.pack at _) h x9 =
+              elim x9 [ ]
 
           pub second_refused : {number place : ℕ} → part₂ ≡ checked.Refused number place → GivesForm forms shapes pool b b₂ row d part₂
           second_refused g =
@@ -253,13 +265,20 @@ module _ (forms shapes pool b : List ℕ) (row d : ℕ) (choose : get_or forms r
                   whole_is h
                   ∙ ap (λ (o : Outcome ℕ Shape). o >>= λ t₃. wants at if_kinds (told_first h).0 (ok (join (told_second h).0 t₃)))
                   (part_told forms shapes pool part₃ (checked.Refused number place) answer₃ k (third_meets h))
-              third_refuses {number = number} {place = place} k {p = p} {m = m} {deep = deep} {env = env} (Rattle.definitions.specs.Reader.convert at _ _) h x4 = elim x4 [ ]
-              third_refuses {number = number} {place = place} k {p = p} {m = m} {deep = deep} {env = env} (Rattle.definitions.specs.Reader.keep at _) h x4 = elim x4 [ ]
-              third_refuses {number = number} {place = place} k {p = p} {m = m} {deep = deep} {env = env} (Rattle.definitions.specs.Reader.count at _) h x5 = elim x5 [ ]
-              third_refuses {number = number} {place = place} k {p = p} {m = m} {deep = deep} {env = env} (Rattle.definitions.specs.Reader.each at _ _) h x7 = elim x7 [ ]
-              third_refuses {number = number} {place = place} k {p = p} {m = m} {deep = deep} {env = env} (Rattle.definitions.specs.Reader.when at _ _ _ _) h x10 = elim x10 [ ]
-              third_refuses {number = number} {place = place} k {p = p} {m = m} {deep = deep} {env = env} (Rattle.definitions.specs.Reader.literal at _) h x8 = elim x8 [ ]
-              third_refuses {number = number} {place = place} k {p = p} {m = m} {deep = deep} {env = env} (Rattle.definitions.specs.Reader.pack at _) h x9 = elim x9 [ ]
+              third_refuses {number = number} {place = place} k {p = p} {m = m} {deep = deep} {env = env}
+                  (Rattle.definitions.specs.Reader.convert at _ _) h x4 = elim x4 [ ]
+              third_refuses {number = number} {place = place} k {p = p} {m = m} {deep = deep} {env = env} (Rattle.definitions.specs.Reader.keep at _) h x4 =
+                  elim x4 [ ]
+              third_refuses {number = number} {place = place} k {p = p} {m = m} {deep = deep} {env = env} (Rattle.definitions.specs.Reader.count at _) h x5 =
+                  elim x5 [ ]
+              third_refuses {number = number} {place = place} k {p = p} {m = m} {deep = deep} {env = env} (Rattle.definitions.specs.Reader.each at _ _) h x7 =
+                  elim x7 [ ]
+              third_refuses {number = number} {place = place} k {p = p} {m = m} {deep = deep} {env = env}
+                  (Rattle.definitions.specs.Reader.when at _ _ _ _) h x10 = elim x10 [ ]
+              third_refuses {number = number} {place = place} k {p = p} {m = m} {deep = deep} {env = env}
+                  (Rattle.definitions.specs.Reader.literal at _) h x8 = elim x8 [ ]
+              third_refuses {number = number} {place = place} k {p = p} {m = m} {deep = deep} {env = env} (Rattle.definitions.specs.Reader.pack at _) h x9 =
+                  elim x9 [ ]
 
               pub third_refused : {number place : ℕ} → part₃ ≡ checked.Refused number place → GivesForm forms shapes pool b b₃ row d part₃
               third_refused k =

@@ -369,10 +369,14 @@ module _ (forms shapes pool bindings : List ℕ) (row : ℕ) {code : ℕ} (coded
   literal_checks l f g t (Result.count at q) h simple_count = absurd (let z : ⊥ = omega (arith, count_coded h.stands) in z)
   literal_checks l f g t {p} (Result.literal at v) h simple_literal =
       (shape_of v, refl, t p v l (coded ∙ stands_code h.stands) (f ∙ stands_operand h.stands) (rw g (literal_stands h.stands)))
-  literal_checks {operand = operand} {payload = payload} {kinds = kinds} l f g t {p = p} {d = d} {m = m} {deep = deep} {env = env} (Rattle.definitions.specs.Reader.each at _ _) h x4 = elim x4 [ ]
-  literal_checks {operand = operand} {payload = payload} {kinds = kinds} l f g t {p = p} {d = d} {m = m} {deep = deep} {env = env} (Rattle.definitions.specs.Reader.when at _ _ _ _) h x7 = elim x7 [ ]
-  literal_checks {operand = operand} {payload = payload} {kinds = kinds} l f g t {p = p} {d = d} {m = m} {deep = deep} {env = env} (Rattle.definitions.specs.Reader.choose at _ _ _) h x7 = elim x7 [ ]
-  literal_checks {operand = operand} {payload = payload} {kinds = kinds} l f g t {p = p} {d = d} {m = m} {deep = deep} {env = env} (Rattle.definitions.specs.Reader.pack at _) h x6 = elim x6 [ ]
+  literal_checks {operand = operand} {payload = payload} {kinds = kinds} l f g t {p = p} {d = d} {m = m} {deep = deep} {env = env}
+      (Rattle.definitions.specs.Reader.each at _ _) h x4 = elim x4 [ ]
+  literal_checks {operand = operand} {payload = payload} {kinds = kinds} l f g t {p = p} {d = d} {m = m} {deep = deep} {env = env}
+      (Rattle.definitions.specs.Reader.when at _ _ _ _) h x7 = elim x7 [ ]
+  literal_checks {operand = operand} {payload = payload} {kinds = kinds} l f g t {p = p} {d = d} {m = m} {deep = deep} {env = env}
+      (Rattle.definitions.specs.Reader.choose at _ _ _) h x7 = elim x7 [ ]
+  literal_checks {operand = operand} {payload = payload} {kinds = kinds} l f g t {p = p} {d = d} {m = m} {deep = deep} {env = env}
+      (Rattle.definitions.specs.Reader.pack at _) h x6 = elim x6 [ ]
 
   pub literal_told
       : {operand payload kinds : ℕ} → 9 ≤ code → operand ≡ get_or forms row 0 / 32 % 64 → payload ≡ get_or forms (row + 1) 0

@@ -257,13 +257,20 @@ module _ (forms shapes pool b : List ℕ) (row d : ℕ) (when : get_or forms row
               ap (behind_place k r₁ r₂ env) (found h (located.At at_row kinds) e).1
               ∙ ap (behind_first k r₂ env (place_shape h))
               (part_told forms shapes pool part (checked.Refused number place) answer f (first_meets h))
-          first_refuses {number = number} {place = place} f {p = p} {m = m} {deep = deep} {env = env} (Rattle.definitions.specs.Reader.convert at _ _) h x4 = elim x4 [ ]
-          first_refuses {number = number} {place = place} f {p = p} {m = m} {deep = deep} {env = env} (Rattle.definitions.specs.Reader.keep at _) h x4 = elim x4 [ ]
-          first_refuses {number = number} {place = place} f {p = p} {m = m} {deep = deep} {env = env} (Rattle.definitions.specs.Reader.count at _) h x5 = elim x5 [ ]
-          first_refuses {number = number} {place = place} f {p = p} {m = m} {deep = deep} {env = env} (Rattle.definitions.specs.Reader.each at _ _) h x7 = elim x7 [ ]
-          first_refuses {number = number} {place = place} f {p = p} {m = m} {deep = deep} {env = env} (Rattle.definitions.specs.Reader.choose at _ _ _) h x9 = elim x9 [ ]
-          first_refuses {number = number} {place = place} f {p = p} {m = m} {deep = deep} {env = env} (Rattle.definitions.specs.Reader.literal at _) h x8 = elim x8 [ ]
-          first_refuses {number = number} {place = place} f {p = p} {m = m} {deep = deep} {env = env} (Rattle.definitions.specs.Reader.pack at _) h x9 = elim x9 [ ]
+          first_refuses {number = number} {place = place} f {p = p} {m = m} {deep = deep} {env = env} (Rattle.definitions.specs.Reader.convert at _ _) h x4 =
+              elim x4 [ ]
+          first_refuses {number = number} {place = place} f {p = p} {m = m} {deep = deep} {env = env} (Rattle.definitions.specs.Reader.keep at _) h x4 =
+              elim x4 [ ]
+          first_refuses {number = number} {place = place} f {p = p} {m = m} {deep = deep} {env = env} (Rattle.definitions.specs.Reader.count at _) h x5 =
+              elim x5 [ ]
+          first_refuses {number = number} {place = place} f {p = p} {m = m} {deep = deep} {env = env} (Rattle.definitions.specs.Reader.each at _ _) h x7 =
+              elim x7 [ ]
+          first_refuses {number = number} {place = place} f {p = p} {m = m} {deep = deep} {env = env} (Rattle.definitions.specs.Reader.choose at _ _ _) h x9 =
+              elim x9 [ ]
+          first_refuses {number = number} {place = place} f {p = p} {m = m} {deep = deep} {env = env} (Rattle.definitions.specs.Reader.literal at _) h x8 =
+              elim x8 [ ]
+          first_refuses {number = number} {place = place} f {p = p} {m = m} {deep = deep} {env = env} (Rattle.definitions.specs.Reader.pack at _) h x9 =
+              elim x9 [ ]
 
           pub first_refused : {number place : ℕ} → part ≡ checked.Refused number place → GivesForm forms shapes pool b b₂ row d part
           first_refused f =
@@ -325,13 +332,20 @@ module _ (forms shapes pool b : List ℕ) (row d : ℕ) (when : get_or forms row
                   ∙ ap
                   (λ (o : Outcome ℕ Shape). o >>= λ t₂. ok (join (part_told forms shapes pool part (checked.Kinds given) answer f (first_meets h)).0 t₂))
                   (part_told forms shapes pool part₂ (checked.Refused number place) answer₂ g (second_Meets h))
-              second_refuses {number = number} {place = place} g {p = p} {m = m} {deep = deep} {env = env} (Rattle.definitions.specs.Reader.convert at _ _) h x4 = elim x4 [ ]
-              second_refuses {number = number} {place = place} g {p = p} {m = m} {deep = deep} {env = env} (Rattle.definitions.specs.Reader.keep at _) h x4 = elim x4 [ ]
-              second_refuses {number = number} {place = place} g {p = p} {m = m} {deep = deep} {env = env} (Rattle.definitions.specs.Reader.count at _) h x5 = elim x5 [ ]
-              second_refuses {number = number} {place = place} g {p = p} {m = m} {deep = deep} {env = env} (Rattle.definitions.specs.Reader.each at _ _) h x7 = elim x7 [ ]
-              second_refuses {number = number} {place = place} g {p = p} {m = m} {deep = deep} {env = env} (Rattle.definitions.specs.Reader.choose at _ _ _) h x9 = elim x9 [ ]
-              second_refuses {number = number} {place = place} g {p = p} {m = m} {deep = deep} {env = env} (Rattle.definitions.specs.Reader.literal at _) h x8 = elim x8 [ ]
-              second_refuses {number = number} {place = place} g {p = p} {m = m} {deep = deep} {env = env} (Rattle.definitions.specs.Reader.pack at _) h x9 = elim x9 [ ]
+              second_refuses {number = number} {place = place} g {p = p} {m = m} {deep = deep} {env = env}
+                  (Rattle.definitions.specs.Reader.convert at _ _) h x4 = elim x4 [ ]
+              second_refuses {number = number} {place = place} g {p = p} {m = m} {deep = deep} {env = env} (Rattle.definitions.specs.Reader.keep at _) h x4 =
+                  elim x4 [ ]
+              second_refuses {number = number} {place = place} g {p = p} {m = m} {deep = deep} {env = env} (Rattle.definitions.specs.Reader.count at _) h x5 =
+                  elim x5 [ ]
+              second_refuses {number = number} {place = place} g {p = p} {m = m} {deep = deep} {env = env}
+                  (Rattle.definitions.specs.Reader.each at _ _) h x7 = elim x7 [ ]
+              second_refuses {number = number} {place = place} g {p = p} {m = m} {deep = deep} {env = env}
+                  (Rattle.definitions.specs.Reader.choose at _ _ _) h x9 = elim x9 [ ]
+              second_refuses {number = number} {place = place} g {p = p} {m = m} {deep = deep} {env = env}
+                  (Rattle.definitions.specs.Reader.literal at _) h x8 = elim x8 [ ]
+              second_refuses {number = number} {place = place} g {p = p} {m = m} {deep = deep} {env = env} (Rattle.definitions.specs.Reader.pack at _) h x9 =
+                  elim x9 [ ]
 
               pub second_refused : {number place : ℕ} → part₂ ≡ checked.Refused number place → GivesForm forms shapes pool b b₄ row d part₂
               second_refused g =

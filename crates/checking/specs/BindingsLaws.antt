@@ -3,7 +3,7 @@ use Rattle.std.specs.Prelude.{ℕ, zero, suc, ◌+◌, ◌/◌, ◌%◌, ◌≤�
 use Rattle.std.proofs.Common.{sym, ap, ◌∙◌, le_refl, arith, length-set, get_or-take, get_or-set_same}
 use Rattle.std.proofs.Math.Option.{some}
 use Rattle.std.proofs.lemmas.List.{take-set-le}
-use Rattle.definitions.specs.Bytes.{Bytes, same}
+use Rattle.definitions.specs.Bytes.{Bytes}
 use Rattle.definitions.specs.Shape.{Kind, Shape, shape, no_list, list_of, Record, no_rec, rec_of, Fields, no_fields, field, nothing, find}
 use Rattle.definitions.specs.Shape.{element_of, record_of, ascending, ascending_element, ascending_fields, levels, levels_fields, has_list, has_rec}
 use Rattle.definitions.specs.Reader.{Test}

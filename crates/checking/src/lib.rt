@@ -1,5 +1,6 @@
 // Checking a reader against a shape: which form is refused with 9 or 10, or which kinds its result has.
 #![tactic(auto)]
+
 ghost use Rattle.std.specs.Prelude.{◌%◌, ◌^◌, ◌<◌, ◌≡◌, length, get_or};
 ghost use Rattle.checking.specs.CheckContracts.{FormAsked, GivesForm, ReaderAsked, ChecksReader};
 

@@ -1,6 +1,7 @@
 // A document of some format, judged and read into a node table behind the texts that the pool already has. A further format
 // is one arm more here, and nothing above this crate knows of it.
 #![tactic(auto)]
+
 ghost use Rattle.std.specs.Prelude.{◌≤◌, length};
 ghost use Rattle.definitions.specs.Json.{read_json};
 ghost use Rattle.definitions.specs.Operations.{source};

@@ -9,7 +9,7 @@ use lib.Seq.{length-take-le}
 use Rattle.definitions.specs.Bytes.{Bytes}
 use Rattle.definitions.specs.Tokens.{go, where_some, look_word, want_named}
 use Rattle.definitions.specs.Reader.{Place, Around, in_result, PlaceUse, place_open, result_open, result_word, want, put_place, depth, place_depth}
-use Rattle.definitions.specs.Reader.{bindings, place_bindings, result_words, want_step}
+use Rattle.definitions.specs.Reader.{place_bindings, result_words, want_step}
 use Rattle.forms.specs.Forms.{PlaceRows}
 use Rattle.tokens.specs.TokenRead.{word_in}
 use Rattle.tokens.specs.Expecting.{Kept}

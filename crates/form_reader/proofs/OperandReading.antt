@@ -15,7 +15,7 @@ use Rattle.definitions.specs.Reader.{Place, Result, Around, PlaceAround, Test, P
 use Rattle.definitions.specs.Reader.{place_open, it_index, when_test, num_number, str_text, State, want, place_bindings, word_number, index_fits}
 use Rattle.definitions.specs.Reader.{test_words, index_step, literal_step, want_step}
 use Rattle.pool.specs.Pool.{text_in}
-use Rattle.nodes.specs.Nodes.{sign_bit, number_bits, reference, Refers, refers}
+use Rattle.nodes.specs.Nodes.{sign_bit, number_bits, reference, Refers}
 use Rattle.nodes.specs.StandingLaws.{text_refers}
 use Rattle.number.specs.NumberWrite.{as_number}
 use Rattle.number.specs.NumberWord.{WordMeans, WordAnswer}

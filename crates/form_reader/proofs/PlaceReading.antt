@@ -6,7 +6,7 @@ use mathlib.Core.Option.{none, some}
 use native.Mathlib.Omega.{arith}
 use lib.ListN.{length, take}
 use Rattle.definitions.specs.Bytes.{Bytes}
-use Rattle.definitions.specs.Tokens.{go, where_some, look_word, want_named, word}
+use Rattle.definitions.specs.Tokens.{go, where_some, look_word, want_named}
 use Rattle.definitions.specs.Reader.{Place, PlaceAround, in_field, Want, place_open, place_word, it_index, field_name, want, put_place, place_depth}
 use Rattle.definitions.specs.Reader.{place_bindings, place_words, want_step}
 use Rattle.laws.specs.FormGrammar.{place_forms}

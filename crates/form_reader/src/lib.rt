@@ -1,5 +1,6 @@
 // Reader texts, read into a forms table: one row a form, in preorder, its names and texts in a pool.
 #![tactic(auto)]
+
 ghost use Rattle.std.specs.Prelude.{◌<◌};
 ghost use Rattle.form_reader.specs.FormReads.{Tables, HasToken, ReadsReader, ReadsLonePlace};
 

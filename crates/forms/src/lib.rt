@@ -1,6 +1,7 @@
 // The table of a reader: three words a form, in preorder. The functions that read it are total: past its end stands 0, which is
 // the code of no form.
 #![tactic(auto)]
+
 ghost use Rattle.std.specs.Prelude.{◌≡◌, List, ◌++◌, ◌∷◌, ℕ, ◌+◌, ◌*◌, ◌/◌, ◌%◌, ◌^◌, ◌≤◌, ◌<◌, length, get_or, take, drop};
 ghost use Rattle.definitions.specs.Reader.{Pairs, among_pairs};
 ghost use Rattle.pool.specs.Pool.{text_in};

@@ -1,6 +1,7 @@
 -- Words of a table replaced one after the other, and a row opened. Assumes nothing.
 use Rattle.std.specs.Prelude.{ℕ, ◌+◌, ◌-◌, ◌*◌, ◌≤◌, ◌≡◌, refl, List, [], ◌∷◌, ◌++◌, length, take, drop}
-use Rattle.std.proofs.Common.{add-zero, arith, sym, ap, ◌∙◌, append_assoc, append-nil, length-append, length-drop, take-append-drop, length-take-le, take-take, take_all, take_at, drop_at, drop-drop, take-add}
+use Rattle.std.proofs.Common.{add-zero, arith, sym, ap, ◌∙◌, append_assoc, append-nil, length-append, length-drop, take-append-drop, length-take-le}
+use Rattle.std.proofs.Common.{take-take, take_all, take_at, drop_at, drop-drop, take-add}
 use Rattle.std.proofs.Math.Seq.{drop-length}
 use Rattle.definitions.specs.Shape.{Fields, forms_fields}
 use Rattle.shapes.specs.Shapes.{FieldsStand}

@@ -1,6 +1,7 @@
 // Joining the shape of a document's value into a shape, in place: each part of the value is joined into the part of the
 // shape where it belongs, and what is new takes its place.
 #![tactic(auto)]
+
 ghost use Rattle.std.specs.Prelude.{◌%◌, ◌<◌, ◌≡◌, get_or};
 ghost use Rattle.growing.specs.Rows.{Room};
 ghost use Rattle.infer.specs.Inferring.{Inferable, Infers, Joins, ItemsInferable, InfersItems};

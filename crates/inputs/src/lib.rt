@@ -1,5 +1,6 @@
 // The texts of an operation, judged in order and read: all of the first one's causes go before any of the second's.
 #![tactic(auto)]
+
 ghost use Rattle.definitions.specs.ShapeText.{read_shape};
 ghost use Rattle.definitions.specs.Reader.{read_reader};
 ghost use Rattle.definitions.specs.Operations.{source};

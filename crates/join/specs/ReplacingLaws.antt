@@ -1,6 +1,7 @@
 -- Laws of words replaced in place. Assumes nothing.
 use Rattle.std.specs.Prelude.{ℕ, suc, ◌+◌, ◌*◌, ◌≤◌, ◌≡◌, refl, List, [], ◌∷◌, ◌++◌, length, get_or, take, drop}
-use Rattle.std.proofs.Common.{arith, sym, ap, subst, ◌∙◌, append_assoc, length-append, length-drop, take-append-drop, length-take-le, take-take, take-add, take_at, drop_at, drop-drop}
+use Rattle.std.proofs.Common.{arith, sym, ap, subst, ◌∙◌, append_assoc, length-append, length-drop, take-append-drop, length-take-le, take-take, take-add}
+use Rattle.std.proofs.Common.{take_at, drop_at, drop-drop}
 use Rattle.std.proofs.lemmas.List.{get_or_at}
 use Rattle.definitions.specs.Shape.{Shape, Fields, forms, forms_fields}
 use Rattle.shapes.specs.Shapes.{ShapeRows, FieldRows, Stands, FieldsStand}

@@ -1,5 +1,6 @@
 // Joining a shape into another in place: what is new takes its place in byte order, and what stands behind it moves up.
 #![tactic(auto)]
+
 ghost use Rattle.std.specs.Prelude.{◌≡◌, ◌++◌, ◌∷◌, ◌+◌, ◌*◌, ◌%◌, ◌^◌, ◌≤◌, ◌<◌, true, false, length, get_or, take, drop};
 ghost use Rattle.definitions.specs.Join.{join};
 ghost use Rattle.shapes.specs.Shapes.{has_bit};

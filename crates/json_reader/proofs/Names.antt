@@ -9,7 +9,7 @@ use lib.Seq.{drop-drop, drop_at, drop-append-le, length-take-le}
 use Rattle.definitions.specs.Bytes.{Bytes, same}
 use Rattle.definitions.specs.Value.{Value, Members, no_members, member, has_name}
 use Rattle.pool.specs.Pool.{text_in}
-use Rattle.nodes.specs.Nodes.{Refers, refers, row_size, MemberRows, no_member_rows, member_rows}
+use Rattle.nodes.specs.Nodes.{Refers, row_size, MemberRows, no_member_rows, member_rows}
 use Rattle.nodes.specs.NodesLaws.{length_rows, row_size_is, row_name_is}
 use Rattle.nodes.specs.StandingLaws.{text_referred_front, referred_whole_front, size_some}
 use Rattle.json_reader.specs.JsonParts.{NamedRows, Walkable}

@@ -16,7 +16,7 @@ use Rattle.definitions.specs.Bytes.{Bytes, look, is, white}
 use Rattle.definitions.specs.Outcome.{refused}
 use Rattle.definitions.specs.Number.{Phase, begin, next, no_digits, extend}
 use Rattle.definitions.specs.Value.{Value, no_items}
-use Rattle.definitions.specs.Json.{Open, in_list, Gap, State, gap, in_number, spell, put, broken, go, value_rows}
+use Rattle.definitions.specs.Json.{Open, in_list, Gap, State, gap, in_number, spell, put, broken, value_rows}
 use Rattle.definitions.specs.Json.{value_move, token_move, gap_move, gap_end, move, end_move, depth, full, judge, scan}
 use Rattle.json_reader.specs.JsonParts.{OpenLimited}
 

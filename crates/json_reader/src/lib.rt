@@ -1,5 +1,6 @@
 // JSON documents (RFC 8259), read into a node table: one row a value, in preorder, its texts in a pool.
 #![tactic(auto)]
+
 ghost use Rattle.json_reader.specs.JsonRead.{Tables, ReadsDocument};
 
 mod name; // names of members

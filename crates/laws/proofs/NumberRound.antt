@@ -1,6 +1,7 @@
 -- Numbers written as plain JSON (definitions' Plain) are RFC 8259's numbers and mean what was written, and none is longer
 -- than the number that it was read from. Assumes nothing.
-use Rattle.std.specs.Prelude.{ℕ, zero, suc, ◌+◌, ◌-◌, ◌*◌, ◌/◌, ◌%◌, ◌^◌, ◌≤◌, ◌<◌, ◌≡◌, refl, Bool, true, false, not, ◌&&◌, ◌||◌, [], ◌∷◌, ◌++◌, ltb, eqb, length}
+use Rattle.std.specs.Prelude.{ℕ, zero, suc, ◌+◌, ◌-◌, ◌*◌, ◌/◌, ◌%◌, ◌^◌, ◌≤◌, ◌<◌, ◌≡◌, refl, Bool, true, false, not, ◌&&◌, ◌||◌, [], ◌∷◌, ◌++◌, ltb, eqb}
+use Rattle.std.specs.Prelude.{length}
 use Rattle.std.proofs.Common.{sym, ◌∙◌, ap, subst, subst₂, append_assoc, length-append, arith, div-one, add-zero, mul-le-mul_right}
 use Rattle.std.proofs.Math.Nat.{div-div-eq-div-mul, pow-succ', mul-add-div_right, div-eq_of_lt, one-le-pow}
 use Rattle.definitions.specs.Bytes.{Bytes, bytes}

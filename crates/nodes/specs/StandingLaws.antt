@@ -1,6 +1,7 @@
 -- Laws of where values, elements and members stand, in the order of their definitions. Assumes nothing.
 use Rattle.std.specs.Prelude.{ℕ, ◌+◌, ◌*◌, ◌/◌, ◌%◌, ◌≤◌, ◌<◌, ◌≡◌, refl, Bool, List, ◌∷◌, ◌++◌, length, take, drop, get_or}
-use Rattle.std.proofs.Common.{sym, ap, ap₂, ◌∙◌, subst, append_assoc, add-zero, arith, length-append, length-drop, drop-drop, drop_at, get_or-drop, length-take-le, take-take}
+use Rattle.std.proofs.Common.{sym, ap, ap₂, ◌∙◌, subst, append_assoc, add-zero, arith, length-append, length-drop, drop-drop, drop_at, get_or-drop}
+use Rattle.std.proofs.Common.{length-take-le, take-take}
 use Rattle.std.proofs.Math.Seq.{take-length}
 use Rattle.definitions.specs.Bytes.{Bytes, same}
 use Rattle.definitions.specs.Number.{Number}

@@ -1,6 +1,7 @@
 // The table of a document's values: three words a value, in preorder. The functions that read it are total: past its end
 // stands 0.
 #![tactic(auto)]
+
 ghost use Rattle.std.specs.Prelude.{◌≡◌, List, ◌++◌, ◌∷◌, ℕ, ◌+◌, ◌*◌, ◌/◌, ◌%◌, ◌^◌, ◌≤◌, ◌<◌, eqb, length, get_or, take, drop};
 ghost use Rattle.definitions.specs.Number.{Number, is_int};
 ghost use Rattle.definitions.specs.Value.{Value, Members, has_name};

@@ -6,7 +6,7 @@ use mathlib.Core.Option.{Option, none, some}
 use native.Mathlib.Omega.{arith}
 use lib.ListN.{length, drop, length-drop}
 use Rattle.definitions.specs.Bytes.{Bytes}
-use Rattle.definitions.specs.Number.{Numeral, no_digits, beyond, begin, complete, spelled}
+use Rattle.definitions.specs.Number.{Numeral, no_digits, beyond, begin, complete}
 use Rattle.definitions.specs.Reader.{word_number}
 use Rattle.number.specs.NumberRun.{Run, longest}
 use Rattle.number.specs.NumberRead.{ReadsNumber, number_in}

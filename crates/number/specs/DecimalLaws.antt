@@ -1,7 +1,8 @@
 -- Laws of decimal digits: `decimal` by its last digit, as last digits, and its length; and how long a number is as plain
 -- JSON. Assumes nothing.
 use Rattle.std.specs.Prelude.{ℕ, zero, suc, ◌+◌, ◌-◌, ◌*◌, ◌/◌, ◌%◌, ◌^◌, ◌≤◌, ◌<◌, max, ◌≡◌, refl, Bool, true, false, [], ◌∷◌, ◌++◌, ltb, length}
-use Rattle.std.proofs.Common.{not-suc-le-zero, le_refl, mod-eq_of_lt, div-one, pow-suc, arith, sym, ap, ◌∙◌, append_assoc, ltb-true, ltb-false, lt-ltb, le-ltb, length-append}
+use Rattle.std.proofs.Common.{not-suc-le-zero, le_refl, mod-eq_of_lt, div-one, pow-suc, arith, sym, ap, ◌∙◌, append_assoc, ltb-true, ltb-false, lt-ltb}
+use Rattle.std.proofs.Common.{le-ltb, length-append}
 use Rattle.std.proofs.Math.Nat.{pow-succ', one-le-pow, div-div-eq-div-mul}
 use Rattle.definitions.specs.Bytes.{Bytes, bytes}
 use Rattle.definitions.specs.Number.{Number, most_coefficient, most_scale}

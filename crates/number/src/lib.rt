@@ -1,5 +1,6 @@
 // Numbers: read from a document as RFC 8259 has them, here, and written as plain JSON (`write`).
 #![tactic(auto)]
+
 ghost use Rattle.std.specs.Prelude.{◌≡◌, false, ℕ, ◌+◌, ◌/◌, ◌^◌, ◌≤◌, ◌<◌, min, length, get_or};
 ghost use Rattle.definitions.specs.Number.{Numeral, most_scale};
 ghost use Rattle.number.specs.NumberRead.{ReadsNumber, ReadsOn, numeral};

@@ -1,6 +1,7 @@
 // The operations of the scope document on lent slices, at limits that are handed over: nothing is asked of what is lent or handed
 // over, every answer is one of the definitions, and so is the output afterwards.
 #![tactic(auto)]
+
 ghost use Rattle.std.specs.Prelude.{◌≡◌, [], ◌∷◌, length};
 ghost use Rattle.definitions.specs.Json.{read_json};
 ghost use Rattle.definitions.specs.Operations.{plain_operation, infer_operation, join_operation, below_operation, admits_operation};

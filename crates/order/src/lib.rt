@@ -1,5 +1,6 @@
 // Whether a shape lies below another: the order goes down both together.
 #![tactic(auto)]
+
 ghost use Rattle.shapes.specs.Members.{SomeListed};
 ghost use Rattle.order.specs.Comparing.{ShapesAsked, ShapesTold, PartsAsked, ElementTold, RecordTold};
 ghost use Rattle.order.specs.Comparing.{FieldsAsked, FieldsTold, NullsTold, ListedAsked, Lacks};

@@ -2,6 +2,7 @@
 // came of it. Asked of the caller: work slices that are long enough for these texts, limits no larger than the paper's and, where
 // a table grows, one that is not too long to be measured.
 #![tactic(auto)]
+
 ghost use Rattle.std.specs.Prelude.{◌≡◌, ◌≤◌, length};
 ghost use Rattle.definitions.specs.Shape.{Shape};
 ghost use Rattle.definitions.specs.Operations.{source, shape_out, finish, say, plain_judged, infer_judged, join_judged, below_judged, admits_judged};

@@ -1,5 +1,6 @@
 // A value of a node table and a pool as plain JSON: how long it is, and writing it.
 #![tactic(auto)]
+
 ghost use Rattle.std.specs.Prelude.{◌≡◌, List, ℕ, ◌+◌, ◌%◌, ◌≤◌, ◌<◌, length, get_or};
 ghost use Rattle.definitions.specs.Value.{Value};
 ghost use Rattle.definitions.specs.Plain.{plain};

@@ -2,7 +2,9 @@
 -- first byte that a test refuses, by counting zeros. Assumes nothing.
 use Prim.Native.Nat.{ℕ, zero, suc, ◌+◌, ◌-◌, ◌*◌, ◌/◌, ◌%◌, ◌^◌, ◌≤◌, ◌<◌}
 use Rattle.std.specs.Prelude.{◌≡◌, refl, Bool, true, false, ◌&&◌, ◌∷◌, ◌++◌, T, eqb, length, get_or, take, drop, replicate}
-use Rattle.std.proofs.Common.{sym, ap₂, ◌∙◌, div-one, mod-lt, mod-eq_of_lt, lt_of_lt_of_le, le-div_iff_mul-le, zero-lt-suc, add_comm, add-mul, mul_assoc, mul_comm, one-mul, arith, eqb→eq, length-append, length-drop, pow-add, pow_mono, pow_pos, shr-shr, drop-cons, ext_get_or, get_or-take, get_or-drop, get_or-append-add, length-take-le}
+use Rattle.std.proofs.Common.{sym, ap₂, ◌∙◌, div-one, mod-lt, mod-eq_of_lt, lt_of_lt_of_le, le-div_iff_mul-le, zero-lt-suc, add_comm, add-mul, mul_assoc}
+use Rattle.std.proofs.Common.{mul_comm, one-mul, arith, eqb→eq, length-append, length-drop, pow-add, pow_mono, pow_pos, shr-shr, drop-cons, ext_get_or}
+use Rattle.std.proofs.Common.{get_or-take, get_or-drop, get_or-append-add, length-take-le}
 use Rattle.std.proofs.Math.Path.{ap, subst}
 use Rattle.std.proofs.lemmas.Bool.{false≢true}
 use Rattle.std.proofs.Math.Nat.{zero-div, zero-mod, div-eq_of_lt, le_trans, mul-mod_left}

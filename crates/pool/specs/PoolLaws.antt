@@ -1,6 +1,7 @@
 -- Laws of the pool's definitions, in their order. "Lies in the pool" is w + words n ≤ length p. Assumes nothing.
 use Rattle.std.specs.Prelude.{ℕ, zero, suc, ◌+◌, ◌-◌, ◌*◌, ◌/◌, ◌%◌, ◌^◌, ◌≤◌, ◌<◌, min, ◌≡◌, refl, List, [], ◌∷◌, ◌++◌, length, get_or, take, drop, replicate}
-use Rattle.std.proofs.Common.{sym, ap, ap₂, ◌∙◌, append_assoc, div-one, zero-add, suc-add, arith, length-append, length-take, length-drop, take_all, get_or-append-add, get_or-take, get_or-drop, take-add, take_at, drop_at, length-take-le, take-take, drop-drop}
+use Rattle.std.proofs.Common.{sym, ap, ap₂, ◌∙◌, append_assoc, div-one, zero-add, suc-add, arith, length-append, length-take, length-drop, take_all}
+use Rattle.std.proofs.Common.{get_or-append-add, get_or-take, get_or-drop, take-add, take_at, drop_at, length-take-le, take-take, drop-drop}
 use Rattle.std.proofs.Math.Nat.{zero-div, zero-mod}
 use Rattle.std.proofs.lemmas.List.{length-replicate, take-append-le}
 use Rattle.std.proofs.Math.ListN.{get_or-append}

@@ -1,5 +1,6 @@
 // Texts in a lent slice of 64-bit words: eight bytes to a word, the first in the highest place, so that words compare as their bytes do.
 #![tactic(auto)]
+
 ghost use Rattle.std.specs.Prelude.{◌≡◌, [], ◌∷◌, ◌++◌, ◌+◌, ◌-◌, ◌*◌, ◌/◌, ◌%◌, ◌^◌, ◌≤◌, ◌<◌, min, length, take, drop, replicate};
 ghost use Rattle.definitions.specs.Bytes.{order, same};
 ghost use Rattle.pool.specs.Pool.{Put, unpacked, text_in, ordering_of};

@@ -1,6 +1,7 @@
 // The shape that a checked reader gives: each form joins what it gives into a row of the result's table, in place. Both branches of
 // `when` and `if` are joined into one row, and a condition makes no rows. Where it walks `env` has the bindings, and `into` the result.
 #![tactic(auto)]
+
 ghost use Rattle.std.specs.Prelude.{◌%◌, ◌≤◌, ◌≡◌, length, get_or};
 ghost use Rattle.checking.specs.Bindings.{Kept};
 ghost use Rattle.result_shape.specs.Giving.{Tables, ResultAsked, GivesResult, PairAsked, GivesPair, PackAsked, GivesPack};

@@ -227,13 +227,20 @@ choose_meets {forms} {nodes} {pool} {bindings} {limit} {row} {bound} {l} {p} {en
           yes = part_meets m (parts.choose_second m.stands) g₂ m.counted m.binds (omega (arith, m.room));
           no = part_meets m (parts.choose_third m.stands) g₃ m.counted m.binds (omega (arith, m.room));
         }
-choose_meets {forms = forms} {nodes = nodes} {pool = pool} {bindings = bindings} {limit = limit} {row = row} {bound = bound} {l = l} {p = p} {env = env} (Rattle.definitions.specs.Reader.convert at _ _) x4 m = elim x4 [ ]
-choose_meets {forms = forms} {nodes = nodes} {pool = pool} {bindings = bindings} {limit = limit} {row = row} {bound = bound} {l = l} {p = p} {env = env} (Rattle.definitions.specs.Reader.keep at _) x4 m = elim x4 [ ]
-choose_meets {forms = forms} {nodes = nodes} {pool = pool} {bindings = bindings} {limit = limit} {row = row} {bound = bound} {l = l} {p = p} {env = env} (Rattle.definitions.specs.Reader.count at _) x5 m = elim x5 [ ]
-choose_meets {forms = forms} {nodes = nodes} {pool = pool} {bindings = bindings} {limit = limit} {row = row} {bound = bound} {l = l} {p = p} {env = env} (Rattle.definitions.specs.Reader.each at _ _) x7 m = elim x7 [ ]
-choose_meets {forms = forms} {nodes = nodes} {pool = pool} {bindings = bindings} {limit = limit} {row = row} {bound = bound} {l = l} {p = p} {env = env} (Rattle.definitions.specs.Reader.when at _ _ _ _) x10 m = elim x10 [ ]
-choose_meets {forms = forms} {nodes = nodes} {pool = pool} {bindings = bindings} {limit = limit} {row = row} {bound = bound} {l = l} {p = p} {env = env} (Rattle.definitions.specs.Reader.literal at _) x8 m = elim x8 [ ]
-choose_meets {forms = forms} {nodes = nodes} {pool = pool} {bindings = bindings} {limit = limit} {row = row} {bound = bound} {l = l} {p = p} {env = env} (Rattle.definitions.specs.Reader.pack at _) x9 m = elim x9 [ ]
+choose_meets {forms = forms} {nodes = nodes} {pool = pool} {bindings = bindings} {limit = limit} {row = row} {bound = bound} {l = l} {p = p} {env = env}
+    (Rattle.definitions.specs.Reader.convert at _ _) x4 m = elim x4 [ ]
+choose_meets {forms = forms} {nodes = nodes} {pool = pool} {bindings = bindings} {limit = limit} {row = row} {bound = bound} {l = l} {p = p} {env = env}
+    (Rattle.definitions.specs.Reader.keep at _) x4 m = elim x4 [ ]
+choose_meets {forms = forms} {nodes = nodes} {pool = pool} {bindings = bindings} {limit = limit} {row = row} {bound = bound} {l = l} {p = p} {env = env}
+    (Rattle.definitions.specs.Reader.count at _) x5 m = elim x5 [ ]
+choose_meets {forms = forms} {nodes = nodes} {pool = pool} {bindings = bindings} {limit = limit} {row = row} {bound = bound} {l = l} {p = p} {env = env}
+    (Rattle.definitions.specs.Reader.each at _ _) x7 m = elim x7 [ ]
+choose_meets {forms = forms} {nodes = nodes} {pool = pool} {bindings = bindings} {limit = limit} {row = row} {bound = bound} {l = l} {p = p} {env = env}
+    (Rattle.definitions.specs.Reader.when at _ _ _ _) x10 m = elim x10 [ ]
+choose_meets {forms = forms} {nodes = nodes} {pool = pool} {bindings = bindings} {limit = limit} {row = row} {bound = bound} {l = l} {p = p} {env = env}
+    (Rattle.definitions.specs.Reader.literal at _) x8 m = elim x8 [ ]
+choose_meets {forms = forms} {nodes = nodes} {pool = pool} {bindings = bindings} {limit = limit} {row = row} {bound = bound} {l = l} {p = p} {env = env}
+    (Rattle.definitions.specs.Reader.pack at _) x9 m = elim x9 [ ]
 
 -- the bindings of a part that ran
 meets_kept

@@ -1,5 +1,6 @@
 // Running a reader on a document: a walk over its forms, an environment of the document's rows, and a table of results.
 #![tactic(auto)]
+
 ghost use Rattle.running.specs.Run.{Runnable, RunsReader};
 
 mod depth; // how deep a result is nested

@@ -6,7 +6,7 @@ use mathlib.Core.List.{List, [], ◌++◌, append_assoc, append-nil}
 use native.Mathlib.Omega.{arith}
 use lib.ListN.{take, drop}
 use Rattle.definitions.specs.Bytes.{Bytes}
-use Rattle.definitions.specs.Shape.{Fields, no_fields, field, has_rec}
+use Rattle.definitions.specs.Shape.{Fields, no_fields, field}
 use Rattle.definitions.specs.ShapeText.{as_member, shape_open, member_open, member_close, want, put, with_member, fields_onto, build}
 use Rattle.laws.specs.Bools.{clash}
 use Rattle.nodes.specs.Nodes.{Refers}

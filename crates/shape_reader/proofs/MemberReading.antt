@@ -13,7 +13,7 @@ use Rattle.definitions.specs.ShapeText.{Parts, Around, member_open, member_word,
 use Rattle.laws.specs.Bools.{clash}
 use Rattle.pool.specs.Pool.{text_in, ordering_of}
 use Rattle.pool.specs.declared.Comparison.{Comparison}
-use Rattle.nodes.specs.Nodes.{reference, refers}
+use Rattle.nodes.specs.Nodes.{reference}
 use Rattle.nodes.specs.StandingLaws.{text_refers, text_referred_front}
 use Rattle.shapes.specs.Shapes.{has_bit}
 use Rattle.tokens.specs.declared.expect.Bracket.{Bracket}

@@ -1,5 +1,6 @@
 // Shape texts, read into a shape table: one row a form, in preorder, the names of its members in a pool.
 #![tactic(auto)]
+
 ghost use Rattle.shape_reader.specs.ShapeReads.{Tables, ReadsShape};
 
 mod forms; // shapes, their elements and their members

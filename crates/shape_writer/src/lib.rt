@@ -1,6 +1,7 @@
 // A shape of a shape table and a pool as a shape text: how long it is, writing it, and the end of an operation that writes
 // a shape.
 #![tactic(auto)]
+
 ghost use Rattle.std.specs.Prelude.{◌≡◌, false, ◌+◌, ◌^◌, length};
 ghost use Rattle.shape_writer.specs.Writing.{Printable, WritesForm, LengthOfForm, PrintableFields, WritesFields, LengthOfFields};
 ghost use Rattle.shape_writer.specs.Writing.{Standing, TellsDeeper, Deliverable, Measures, DeliversAnswer, DeliversOutput};

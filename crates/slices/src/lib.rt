@@ -1,5 +1,6 @@
 // What goes before the texts of an operation: whether its limits are in range, and its work slices as long as published at them.
 #![tactic(auto)]
+
 ghost use Rattle.std.specs.Prelude.{◌≡◌, [], ◌∷◌, min, max};
 ghost use Rattle.definitions.specs.Limits.{set_of, within, in_range};
 ghost use Rattle.definitions.specs.Operations.{slices_short};

@@ -1,6 +1,7 @@
 -- Laws of bytes written into a slice one behind the other. Assumes nothing.
 use Rattle.std.specs.Prelude.{ℕ, ◌+◌, ◌≤◌, ◌<◌, ◌≡◌, refl, [], ◌∷◌, ◌++◌, length, take, drop, set}
-use Rattle.std.proofs.Common.{add-zero, add-one, arith, sym, ap, ap₂, ◌∙◌, subst, subst₂, append_assoc, append-nil, length-append, length-drop, take-append-drop, length-take-le, take_at, drop_at, take-take, drop-drop}
+use Rattle.std.proofs.Common.{add-zero, add-one, arith, sym, ap, ap₂, ◌∙◌, subst, subst₂, append_assoc, append-nil, length-append, length-drop}
+use Rattle.std.proofs.Common.{take-append-drop, length-take-le, take_at, drop_at, take-take, drop-drop}
 use Rattle.std.proofs.lemmas.List.{take-append-le, set_split}
 use Rattle.std.proofs.Math.Seq.{append_snoc}
 use Rattle.definitions.specs.Bytes.{Bytes}

@@ -1,5 +1,6 @@
 // JSON texts (RFC 8259 section 7): read from a document, decoded into the pool, and written from the pool as plain JSON.
 #![tactic(auto)]
+
 ghost use Rattle.std.specs.Prelude.{◌≡◌, ◌+◌, ◌-◌, ◌^◌, ◌≤◌, ◌<◌, length};
 ghost use Rattle.definitions.specs.Plain.{plain_text};
 ghost use Rattle.pool.specs.Pool.{words, text_in};

@@ -1,5 +1,6 @@
 // Tokens of shape texts and readers: brackets, JSON texts, and words or numbers, with JSON white space between them.
 #![tactic(auto)]
+
 ghost use Rattle.std.specs.Prelude.{◌≡◌, ◌≤◌, length, get_or};
 ghost use Rattle.tokens.specs.TokenRead.{SpaceAnswer, BorderAnswer, Skips, Runs, word_in};
 ghost use Rattle.tokens.specs.WordValues.{WordTold};

@@ -2,6 +2,7 @@
 // since clearing long ones would show in the time of a call. The shortest of this file is enough for every text at the smallest set
 // of limits; short texts are tried before in slices for few values, and what is accepted so is accepted at the set too.
 #![tactic(auto)]
+
 ghost use Rattle.std.specs.Prelude.{◌≡◌, false, [], ◌∷◌, length};
 ghost use Rattle.definitions.specs.Operations.{slices_short, source, finish, say, plain_judged, infer_judged, join_judged, below_judged};
 ghost use Rattle.definitions.specs.Operations.{admits_judged, check_judged, run_judged};

@@ -3,10 +3,6 @@ use Prim.Native.Nat.{◌+◌, ◌-◌}
 use lib.ListN.{length}
 use Rattle.admits.proofs.Elements as elements
 use Rattle.admits.proofs.Named as named
-use Rattle.admits.proofs.admits as admits
-use Rattle.admits.proofs.admits_items as admits-items
-use Rattle.admits.proofs.admits_listed as admits-listed
-use Rattle.admits.proofs.admits_members as admits-members
 use Rattle.admits.proofs.+admits_admits_items_admits_listed_admits_members.Given as goal
 
 abbrev pub decreases-admits : goal.decreases-admits

@@ -13,7 +13,11 @@ member_count-requires-2 c =
     record { used = a.holds.used; members = a.members; stand = a.holds.stand }
 
 pub returns-then-member_count : goal.returns-then-member_count
-returns-then-member_count c = record { told = none_lacked c.requires.members_asked c.requires.listed c.member_count.ensures.counted c.member_count-2.ensures.counted c.if-member_count.true }
+returns-then-member_count c =
+    record {
+      told =
+          none_lacked c.requires.members_asked c.requires.listed c.member_count.ensures.counted c.member_count-2.ensures.counted c.if-member_count.true;
+    }
 
 pub missing_have_null-requires : goal.missing_have_null-requires
 missing_have_null-requires c =

@@ -7,5 +7,7 @@ returns-then-has c = record { told = null_told c.args.shapes.now c.args.row c.ki
 
 pub returns : goal.returns
 returns c =
-    record { told = member_told c.args.shapes.now c.args.row c.kinds.ensures.read c.has.ensures.told
-    c.if-has.false c.name.ensures.read c.has_member.ensures.found }
+    record {
+      told = member_told c.args.shapes.now c.args.row c.kinds.ensures.read c.has.ensures.told
+          c.if-has.false c.name.ensures.read c.has_member.ensures.found;
+    }

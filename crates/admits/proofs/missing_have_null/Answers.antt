@@ -1,5 +1,4 @@
 -- `admits::missing_have_null` meets its contract: what is left of the members tells what all tell. Assumes nothing.
-use Prim.Native.Nat.{◌-◌}
 use native.Mathlib.Omega.{arith}
 use Rattle.admits.proofs.Lacking.{members_held, walk_begins, walk_step, walk_fails, walk_on, walk_ends}
 use Rattle.std.proofs.Common.{ap, not}
@@ -16,9 +15,11 @@ may_lack-requires c =
 
 pub returns-then-not-may_lack : goal.returns-then-not-may_lack
 returns-then-not-may_lack c =
-    record { told = walk_fails c.args.shapes.now c.args.from c.args.to c.args.nodes.now c.args.at c.args.end
-    c.args.pool.now
-    c.loop-i.invariant c.may_lack.ensures.told c.loop-i-test.true (ap not c.if-not-may_lack.true) }
+    record {
+      told = walk_fails c.args.shapes.now c.args.from c.args.to c.args.nodes.now c.args.at c.args.end
+          c.args.pool.now
+          c.loop-i.invariant c.may_lack.ensures.told c.loop-i-test.true (ap not c.if-not-may_lack.true);
+    }
 
 pub overflow_add-i : goal.overflow_add-i
 overflow_add-i c =
@@ -43,6 +44,8 @@ loop-i-preserved c =
 
 pub returns : goal.returns
 returns c =
-    record { told = walk_ends c.args.shapes.now c.args.from c.args.to c.args.nodes.now c.args.at c.args.end
-    c.args.pool.now
-    c.loop-i.invariant c.loop-i-test.false }
+    record {
+      told = walk_ends c.args.shapes.now c.args.from c.args.to c.args.nodes.now c.args.at c.args.end
+          c.args.pool.now
+          c.loop-i.invariant c.loop-i-test.false;
+    }

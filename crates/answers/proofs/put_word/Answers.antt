@@ -1,6 +1,5 @@
 -- `answers::put_word` meets its contract. Assumes nothing.
 use native.Mathlib.Omega.{arith}
-use Prim.Native.Nat.{◌-◌}
 use Rattle.answers.proofs.Words.{putting, putting_on, putting_length, put}
 use Rattle.answers.proofs.put_word.Goals as goal
 

@@ -1,6 +1,6 @@
 -- `checking::+check_each_check_form_check_if_check_pack_check_when` meets its contract. Assumes nothing.
 use native.Mathlib.Omega.{arith}
-use Prim.Native.Nat.{◌+◌, ◌-◌}
+use Prim.Native.Nat.{◌+◌}
 use mathlib.Core.Path.{sym, ap, ◌∙◌}
 use Rattle.checking.proofs.FormWalk.{form_within}
 use Rattle.checking.proofs.EachWalk as each
@@ -24,17 +24,23 @@ check_each-locate-found-requires t c =
 
 pub check_each-returns-in_default : goal.check_each-returns-in_default
 check_each-returns-in_default t c =
-    record { checked = each.each_refused c.args.forms.now c.args.shapes.now c.args.pool.now c.args.bindings.now
-    c.args.row c.args.bound c.requires.each c.locate-found.result c.locate-found.ensures.found
-    c.refusal.result c.in_default.is c.refusal.ensures.passed }
+    record {
+      checked = each.each_refused c.args.forms.now c.args.shapes.now c.args.pool.now c.args.bindings.now
+          c.args.row c.args.bound c.requires.each c.locate-found.result c.locate-found.ensures.found
+          c.refusal.result c.in_default.is c.refusal.ensures.passed;
+    }
 
 pub check_each-bind_element-requires : goal.check_each-bind_element-requires
 check_each-bind_element-requires t c =
-    record { slot_in_bounds = (each.each_ends c.args.forms.now c.args.shapes.now c.args.pool.now
+    record {
+      slot_in_bounds = (each.each_ends c.args.forms.now c.args.shapes.now c.args.pool.now
           c.args.bindings.now c.args.row
-          c.args.bound c.requires.each c.requires.form_asked).2; there = each.list_bound c.args.forms.now c.args.shapes.now c.args.pool.now c.args.bindings.now
-            c.args.row c.args.bound c.requires.each c.locate-found.result c.locate-found.ensures.found
-            c.in-At.is c.requires.form_asked; small = c.requires.small }
+          c.args.bound c.requires.each c.requires.form_asked).2;
+      there = each.list_bound c.args.forms.now c.args.shapes.now c.args.pool.now c.args.bindings.now
+          c.args.row c.args.bound c.requires.each c.locate-found.result c.locate-found.ensures.found
+          c.in-At.is c.requires.form_asked;
+      small = c.requires.small;
+    }
 
 pub check_each-overflow_add-body : goal.check_each-overflow_add-body
 check_each-overflow_add-body t c =
@@ -73,21 +79,25 @@ check_each-check_form-part-requires t c =
 
 pub check_each-returns-in_default-part : goal.check_each-returns-in_default-part
 check_each-returns-in_default-part t c =
-    record { checked = each.body_refused c.args.forms.now c.args.shapes.now c.args.pool.now c.args.bindings.now
-    c.args.row c.args.bound c.requires.each c.locate-found.result c.locate-found.ensures.found
-    c.in-At.is c.bind_element.new.bindings c.bind_element.ensures.element
-    (ap (λ (x : ℕ). c.args.row + 3 + x) c.size.ensures.read) c.requires.form_asked
-    c.check_form-part.new.bindings c.check_form-part.result c.check_form-part.ensures.checked
-    c.in_default-part.is }
+    record {
+      checked = each.body_refused c.args.forms.now c.args.shapes.now c.args.pool.now c.args.bindings.now
+          c.args.row c.args.bound c.requires.each c.locate-found.result c.locate-found.ensures.found
+          c.in-At.is c.bind_element.new.bindings c.bind_element.ensures.element
+          (ap (λ (x : ℕ). c.args.row + 3 + x) c.size.ensures.read) c.requires.form_asked
+          c.check_form-part.new.bindings c.check_form-part.result c.check_form-part.ensures.checked
+          c.in_default-part.is;
+    }
 
 pub check_each-returns : goal.check_each-returns
 check_each-returns t c =
-    record { checked = each.each_told c.args.forms.now c.args.shapes.now c.args.pool.now c.args.bindings.now c.args.row
-    c.args.bound c.requires.each c.locate-found.result c.locate-found.ensures.found
-    c.in-At.is c.bind_element.new.bindings c.bind_element.ensures.element
-    (ap (λ (x : ℕ). c.args.row + 3 + x) c.size.ensures.read) c.requires.form_asked
-    c.check_form-part.new.bindings c.check_form-part.result c.check_form-part.ensures.checked
-    c.in-Kinds.is c.place-place.ensures.read c.want.result c.want.ensures.told }
+    record {
+      checked = each.each_told c.args.forms.now c.args.shapes.now c.args.pool.now c.args.bindings.now c.args.row
+          c.args.bound c.requires.each c.locate-found.result c.locate-found.ensures.found
+          c.in-At.is c.bind_element.new.bindings c.bind_element.ensures.element
+          (ap (λ (x : ℕ). c.args.row + 3 + x) c.size.ensures.read) c.requires.form_asked
+          c.check_form-part.new.bindings c.check_form-part.result c.check_form-part.ensures.checked
+          c.in-Kinds.is c.place-place.ensures.read c.want.result c.want.ensures.told;
+    }
 
 pub check_form-check_each-requires : goal.check_form-check_each-requires
 check_form-check_each-requires t c =
@@ -113,30 +123,33 @@ check_form-check_simple-requires t c =
 
 pub check_form-returns : goal.check_form-returns
 check_form-returns t c =
-    record { checked = simple_told c.args.forms.now c.args.shapes.now c.args.pool.now c.args.bindings.now c.args.row
-    c.args.bound c.code-code.ensures.read c.if-code-eq-EACH.false c.if-code-eq-WHEN.false c.if-code-eq-IF.false
-    c.if-code-eq-PACK.false c.check_simple.result c.check_simple.ensures.checked }
+    record {
+      checked = simple_told c.args.forms.now c.args.shapes.now c.args.pool.now c.args.bindings.now c.args.row
+          c.args.bound c.code-code.ensures.read c.if-code-eq-EACH.false c.if-code-eq-WHEN.false c.if-code-eq-IF.false
+          c.if-code-eq-PACK.false c.check_simple.result c.check_simple.ensures.checked;
+    }
 
 pub check_if-overflow_add-row : goal.check_if-overflow_add-row
 check_if-overflow_add-row t c =
     omega (arith, form_within c.requires.form_asked, c.well_formed)
 
 pub check_if-check_form-part-requires : goal.check_if-check_form-part-requires
-check_if-check_form-part-requires t c =
-    (
-      omega (arith, form_within c.requires.form_asked, c.decreases),
-      (
-        choose.first_asked c.args.forms.now c.args.shapes.now c.args.pool.now c.args.bindings.now
-            c.args.row c.args.bound c.requires.choose c.requires.form_asked,
-        c.requires.small,
-      ),
-    )
+check_if-check_form-part-requires t c = (
+  omega (arith, form_within c.requires.form_asked, c.decreases),
+  (
+    choose.first_asked c.args.forms.now c.args.shapes.now c.args.pool.now c.args.bindings.now
+        c.args.row c.args.bound c.requires.choose c.requires.form_asked,
+    c.requires.small,
+  ),
+)
 
 pub check_if-returns-in_default : goal.check_if-returns-in_default
 check_if-returns-in_default t c =
-    record { checked = choose.first_refused c.args.forms.now c.args.shapes.now c.args.pool.now c.args.bindings.now
-    c.args.row c.args.bound c.requires.choose c.requires.form_asked c.check_form-part.new.bindings
-    c.check_form-part.result c.check_form-part.ensures.checked c.in_default.is }
+    record {
+      checked = choose.first_refused c.args.forms.now c.args.shapes.now c.args.pool.now c.args.bindings.now
+          c.args.row c.args.bound c.requires.choose c.requires.form_asked c.check_form-part.new.bindings
+          c.check_form-part.result c.check_form-part.ensures.checked c.in_default.is;
+    }
 
 pub check_if-overflow_add-second : goal.check_if-overflow_add-second
 check_if-overflow_add-second t c =
@@ -168,11 +181,13 @@ check_if-check_form-part-requires-2 t c =
 
 pub check_if-returns-in_default-part : goal.check_if-returns-in_default-part
 check_if-returns-in_default-part t c =
-    record { checked = choose.second_refused c.args.forms.now c.args.shapes.now c.args.pool.now c.args.bindings.now
-    c.args.row c.args.bound c.requires.choose c.requires.form_asked c.check_form-part.new.bindings
-    c.check_form-part.result c.check_form-part.ensures.checked c.in-Kinds.is
-    (ap (λ (x : ℕ). c.args.row + 3 + x) c.size.ensures.read) c.check_form-part-2.new.bindings
-    c.check_form-part-2.result c.check_form-part-2.ensures.checked c.in_default-part.is }
+    record {
+      checked = choose.second_refused c.args.forms.now c.args.shapes.now c.args.pool.now c.args.bindings.now
+          c.args.row c.args.bound c.requires.choose c.requires.form_asked c.check_form-part.new.bindings
+          c.check_form-part.result c.check_form-part.ensures.checked c.in-Kinds.is
+          (ap (λ (x : ℕ). c.args.row + 3 + x) c.size.ensures.read) c.check_form-part-2.new.bindings
+          c.check_form-part-2.result c.check_form-part-2.ensures.checked c.in_default-part.is;
+    }
 
 pub check_if-overflow_add-third : goal.check_if-overflow_add-third
 check_if-overflow_add-third t c =
@@ -203,27 +218,31 @@ check_if-check_form-part-requires-3 t c =
 
 pub check_if-returns-in_default-part-2 : goal.check_if-returns-in_default-part-2
 check_if-returns-in_default-part-2 t c =
-    record { checked = choose.third_refused c.args.forms.now c.args.shapes.now c.args.pool.now c.args.bindings.now
-    c.args.row c.args.bound c.requires.choose c.requires.form_asked c.check_form-part.new.bindings
-    c.check_form-part.result c.check_form-part.ensures.checked c.in-Kinds.is
-    (ap (λ (x : ℕ). c.args.row + 3 + x) c.size.ensures.read) c.check_form-part-2.new.bindings
-    c.check_form-part-2.result c.check_form-part-2.ensures.checked c.in-Kinds-part.is
-    (ap (λ (x : ℕ). c.args.row + 3 + c.size.result + x) c.size-2.ensures.read
-    ∙ ap (λ (x : ℕ). x + size_at c.args.forms.now x) (ap (λ (x : ℕ). c.args.row + 3 + x) c.size.ensures.read))
-    c.check_form-part-3.new.bindings c.check_form-part-3.result c.check_form-part-3.ensures.checked
-    c.in_default-part-2.is }
+    record {
+      checked = choose.third_refused c.args.forms.now c.args.shapes.now c.args.pool.now c.args.bindings.now
+          c.args.row c.args.bound c.requires.choose c.requires.form_asked c.check_form-part.new.bindings
+          c.check_form-part.result c.check_form-part.ensures.checked c.in-Kinds.is
+          (ap (λ (x : ℕ). c.args.row + 3 + x) c.size.ensures.read) c.check_form-part-2.new.bindings
+          c.check_form-part-2.result c.check_form-part-2.ensures.checked c.in-Kinds-part.is
+          (ap (λ (x : ℕ). c.args.row + 3 + c.size.result + x) c.size-2.ensures.read
+          ∙ ap (λ (x : ℕ). x + size_at c.args.forms.now x) (ap (λ (x : ℕ). c.args.row + 3 + x) c.size.ensures.read))
+          c.check_form-part-3.new.bindings c.check_form-part-3.result c.check_form-part-3.ensures.checked
+          c.in_default-part-2.is;
+    }
 
 pub check_if-returns : goal.check_if-returns
 check_if-returns t c =
-    record { checked = choose.choose_told c.args.forms.now c.args.shapes.now c.args.pool.now c.args.bindings.now
-    c.args.row c.args.bound c.requires.choose c.requires.form_asked c.check_form-part.new.bindings
-    c.check_form-part.result c.check_form-part.ensures.checked c.in-Kinds.is
-    (ap (λ (x : ℕ). c.args.row + 3 + x) c.size.ensures.read) c.check_form-part-2.new.bindings
-    c.check_form-part-2.result c.check_form-part-2.ensures.checked c.in-Kinds-part.is
-    (ap (λ (x : ℕ). c.args.row + 3 + c.size.result + x) c.size-2.ensures.read
-    ∙ ap (λ (x : ℕ). x + size_at c.args.forms.now x) (ap (λ (x : ℕ). c.args.row + 3 + x) c.size.ensures.read))
-    c.check_form-part-3.new.bindings c.check_form-part-3.result c.check_form-part-3.ensures.checked
-    c.in-Kinds-part-2.is c.place.ensures.read c.want.result c.want.ensures.told }
+    record {
+      checked = choose.choose_told c.args.forms.now c.args.shapes.now c.args.pool.now c.args.bindings.now
+          c.args.row c.args.bound c.requires.choose c.requires.form_asked c.check_form-part.new.bindings
+          c.check_form-part.result c.check_form-part.ensures.checked c.in-Kinds.is
+          (ap (λ (x : ℕ). c.args.row + 3 + x) c.size.ensures.read) c.check_form-part-2.new.bindings
+          c.check_form-part-2.result c.check_form-part-2.ensures.checked c.in-Kinds-part.is
+          (ap (λ (x : ℕ). c.args.row + 3 + c.size.result + x) c.size-2.ensures.read
+          ∙ ap (λ (x : ℕ). x + size_at c.args.forms.now x) (ap (λ (x : ℕ). c.args.row + 3 + x) c.size.ensures.read))
+          c.check_form-part-3.new.bindings c.check_form-part-3.result c.check_form-part-3.ensures.checked
+          c.in-Kinds-part-2.is c.place.ensures.read c.want.result c.want.ensures.told;
+    }
 
 pub check_pack-overflow_add-end : goal.check_pack-overflow_add-end
 check_pack-overflow_add-end t c =
@@ -241,24 +260,25 @@ check_pack-loop-i-init t c =
     c.args.row c.args.bound c.requires.pack c.size.ensures.read c.requires.form_asked
 
 pub check_pack-check_form-part-requires : goal.check_pack-check_form-part-requires
-check_pack-check_form-part-requires t c =
-    (
-      omega (arith, c.loop-i.invariant.behind, c.decreases, c.loop-i-test.true, form_within c.requires.form_asked),
-      (
-        pack.part_asked c.args.forms.now c.args.shapes.now c.args.pool.now c.args.bindings.now
-            c.args.row c.args.bound c.requires.pack c.size.ensures.read c.requires.form_asked
-            c.loop-i.bindings
-            c.loop-i.i c.loop-i.invariant c.loop-i-test.true,
-        c.requires.small,
-      ),
-    )
+check_pack-check_form-part-requires t c = (
+  omega (arith, c.loop-i.invariant.behind, c.decreases, c.loop-i-test.true, form_within c.requires.form_asked),
+  (
+    pack.part_asked c.args.forms.now c.args.shapes.now c.args.pool.now c.args.bindings.now
+        c.args.row c.args.bound c.requires.pack c.size.ensures.read c.requires.form_asked
+        c.loop-i.bindings
+        c.loop-i.i c.loop-i.invariant c.loop-i-test.true,
+    c.requires.small,
+  ),
+)
 
 pub check_pack-returns-in_default : goal.check_pack-returns-in_default
 check_pack-returns-in_default t c =
-    record { checked = pack.pack_refused c.args.forms.now c.args.shapes.now c.args.pool.now c.args.bindings.now
-    c.args.row c.args.bound c.requires.pack c.size.ensures.read c.requires.form_asked c.loop-i.bindings
-    c.loop-i.i c.loop-i.invariant c.loop-i-test.true c.check_form-part.new.bindings
-    c.check_form-part.result c.check_form-part.ensures.checked c.in_default.is }
+    record {
+      checked = pack.pack_refused c.args.forms.now c.args.shapes.now c.args.pool.now c.args.bindings.now
+          c.args.row c.args.bound c.requires.pack c.size.ensures.read c.requires.form_asked c.loop-i.bindings
+          c.loop-i.i c.loop-i.invariant c.loop-i-test.true c.check_form-part.new.bindings
+          c.check_form-part.result c.check_form-part.ensures.checked c.in_default.is;
+    }
 
 pub check_pack-overflow_add-i-in-loop-i : goal.check_pack-overflow_add-i-in-loop-i
 check_pack-overflow_add-i-in-loop-i t c =
@@ -285,9 +305,11 @@ check_pack-loop-i-preserved t c =
 
 pub check_pack-returns : goal.check_pack-returns
 check_pack-returns t c =
-    record { checked = pack.pack_told c.args.forms.now c.args.shapes.now c.args.pool.now c.args.bindings.now c.args.row
-    c.args.bound c.requires.pack c.size.ensures.read c.requires.form_asked c.loop-i.bindings
-    c.loop-i.i c.loop-i.invariant c.loop-i-test.false }
+    record {
+      checked = pack.pack_told c.args.forms.now c.args.shapes.now c.args.pool.now c.args.bindings.now c.args.row
+          c.args.bound c.requires.pack c.size.ensures.read c.requires.form_asked c.loop-i.bindings
+          c.loop-i.i c.loop-i.invariant c.loop-i-test.false;
+    }
 
 pub check_when-overflow_add-row : goal.check_when-overflow_add-row
 check_when-overflow_add-row t c =
@@ -300,9 +322,11 @@ check_when-locate-found-requires t c =
 
 pub check_when-returns-in_default : goal.check_when-returns-in_default
 check_when-returns-in_default t c =
-    record { checked = when.when_refused c.args.forms.now c.args.shapes.now c.args.pool.now c.args.bindings.now
-    c.args.row c.args.bound c.requires.when c.locate-found.result c.locate-found.ensures.found
-    c.refusal.result c.in_default.is c.refusal.ensures.passed }
+    record {
+      checked = when.when_refused c.args.forms.now c.args.shapes.now c.args.pool.now c.args.bindings.now
+          c.args.row c.args.bound c.requires.when c.locate-found.result c.locate-found.ensures.found
+          c.refusal.result c.in_default.is c.refusal.ensures.passed;
+    }
 
 pub check_when-overflow_add-first : goal.check_when-overflow_add-first
 check_when-overflow_add-first t c =
@@ -353,12 +377,14 @@ check_when-check_form-part-requires t c =
 
 pub check_when-returns-in_default-part : goal.check_when-returns-in_default-part
 check_when-returns-in_default-part t c =
-    record { checked = when.first_refused c.args.forms.now c.args.shapes.now c.args.pool.now c.args.bindings.now
-    c.args.row c.args.bound c.requires.when c.locate-found.result c.locate-found.ensures.found
-    c.in-At.is c.operand-test.ensures.read c.requires.form_asked c.cut.result
-    c.cut.ensures.told c.bind.new.bindings c.bind.ensures.put
-    (ap (λ (x : ℕ). c.args.row + 3 + x) c.size.ensures.read) c.check_form-part.new.bindings
-    c.check_form-part.result c.check_form-part.ensures.checked c.in_default-part.is }
+    record {
+      checked = when.first_refused c.args.forms.now c.args.shapes.now c.args.pool.now c.args.bindings.now
+          c.args.row c.args.bound c.requires.when c.locate-found.result c.locate-found.ensures.found
+          c.in-At.is c.operand-test.ensures.read c.requires.form_asked c.cut.result
+          c.cut.ensures.told c.bind.new.bindings c.bind.ensures.put
+          (ap (λ (x : ℕ). c.args.row + 3 + x) c.size.ensures.read) c.check_form-part.new.bindings
+          c.check_form-part.result c.check_form-part.ensures.checked c.in_default-part.is;
+    }
 
 pub check_when-overflow_add-second : goal.check_when-overflow_add-second
 check_when-overflow_add-second t c =
@@ -380,12 +406,15 @@ check_when-bind-requires-2 t c =
     c.in-At.is c.operand-test.ensures.read c.requires.form_asked in
     let few = when.few_out c.args.forms.now c.args.shapes.now c.args.pool.now c.args.bindings.now
     c.args.row c.args.bound c.requires.when c.locate-found.result c.locate-found.ensures.found
-    c.in-At.is c.operand-test.ensures.read c.taken_out.result c.taken_out.ensures.told c.requires.form_asked in record { slot_in_bounds = when.still_there c.args.forms.now c.args.shapes.now c.args.pool.now c.args.bindings.now
+    c.in-At.is c.operand-test.ensures.read c.taken_out.result c.taken_out.ensures.told c.requires.form_asked in record {
+      slot_in_bounds = when.still_there c.args.forms.now c.args.shapes.now c.args.pool.now c.args.bindings.now
           c.args.row c.args.bound c.requires.when c.locate-found.result c.locate-found.ensures.found
           c.in-At.is c.operand-test.ensures.read c.requires.form_asked c.cut.result
           c.cut.ensures.told c.bind.new.bindings c.bind.ensures.put
           (ap (λ (x : ℕ). c.args.row + 3 + x) c.size.ensures.read) c.check_form-part.new.bindings
-          c.check_form-part.result c.check_form-part.ensures.checked; fits = omega (arith, there, few, c.requires.small) }
+          c.check_form-part.result c.check_form-part.ensures.checked;
+      fits = omega (arith, there, few, c.requires.small);
+    }
 
 pub check_when-overflow_add-bound-2 : goal.check_when-overflow_add-bound-2
 check_when-overflow_add-bound-2 t c =
@@ -416,28 +445,32 @@ check_when-check_form-part-requires-2 t c =
 
 pub check_when-returns-in_default-part-2 : goal.check_when-returns-in_default-part-2
 check_when-returns-in_default-part-2 t c =
-    record { checked = when.second_refused c.args.forms.now c.args.shapes.now c.args.pool.now c.args.bindings.now
-    c.args.row c.args.bound c.requires.when c.locate-found.result c.locate-found.ensures.found
-    c.in-At.is c.operand-test.ensures.read c.requires.form_asked c.cut.result
-    c.cut.ensures.told c.bind.new.bindings c.bind.ensures.put
-    (ap (λ (x : ℕ). c.args.row + 3 + x) c.size.ensures.read) c.check_form-part.new.bindings
-    c.check_form-part.result c.check_form-part.ensures.checked c.in-Kinds.is c.taken_out.result
-    c.taken_out.ensures.told c.bind-2.new.bindings c.bind-2.ensures.put
-    (ap (λ (x : ℕ). c.args.row + 3 + c.size.result + x) c.size-2.ensures.read
-    ∙ ap (λ (x : ℕ). x + size_at c.args.forms.now x) (ap (λ (x : ℕ). c.args.row + 3 + x) c.size.ensures.read))
-    c.check_form-part-2.new.bindings c.check_form-part-2.result c.check_form-part-2.ensures.checked
-    c.in_default-part-2.is }
+    record {
+      checked = when.second_refused c.args.forms.now c.args.shapes.now c.args.pool.now c.args.bindings.now
+          c.args.row c.args.bound c.requires.when c.locate-found.result c.locate-found.ensures.found
+          c.in-At.is c.operand-test.ensures.read c.requires.form_asked c.cut.result
+          c.cut.ensures.told c.bind.new.bindings c.bind.ensures.put
+          (ap (λ (x : ℕ). c.args.row + 3 + x) c.size.ensures.read) c.check_form-part.new.bindings
+          c.check_form-part.result c.check_form-part.ensures.checked c.in-Kinds.is c.taken_out.result
+          c.taken_out.ensures.told c.bind-2.new.bindings c.bind-2.ensures.put
+          (ap (λ (x : ℕ). c.args.row + 3 + c.size.result + x) c.size-2.ensures.read
+          ∙ ap (λ (x : ℕ). x + size_at c.args.forms.now x) (ap (λ (x : ℕ). c.args.row + 3 + x) c.size.ensures.read))
+          c.check_form-part-2.new.bindings c.check_form-part-2.result c.check_form-part-2.ensures.checked
+          c.in_default-part-2.is;
+    }
 
 pub check_when-returns : goal.check_when-returns
 check_when-returns t c =
-    record { checked = when.when_told c.args.forms.now c.args.shapes.now c.args.pool.now c.args.bindings.now c.args.row
-    c.args.bound c.requires.when c.locate-found.result c.locate-found.ensures.found
-    c.in-At.is c.operand-test.ensures.read c.requires.form_asked c.cut.result
-    c.cut.ensures.told c.bind.new.bindings c.bind.ensures.put
-    (ap (λ (x : ℕ). c.args.row + 3 + x) c.size.ensures.read) c.check_form-part.new.bindings
-    c.check_form-part.result c.check_form-part.ensures.checked c.in-Kinds.is c.taken_out.result
-    c.taken_out.ensures.told c.bind-2.new.bindings c.bind-2.ensures.put
-    (ap (λ (x : ℕ). c.args.row + 3 + c.size.result + x) c.size-2.ensures.read
-    ∙ ap (λ (x : ℕ). x + size_at c.args.forms.now x) (ap (λ (x : ℕ). c.args.row + 3 + x) c.size.ensures.read))
-    c.check_form-part-2.new.bindings c.check_form-part-2.result c.check_form-part-2.ensures.checked
-    c.in-Kinds-part.is }
+    record {
+      checked = when.when_told c.args.forms.now c.args.shapes.now c.args.pool.now c.args.bindings.now c.args.row
+          c.args.bound c.requires.when c.locate-found.result c.locate-found.ensures.found
+          c.in-At.is c.operand-test.ensures.read c.requires.form_asked c.cut.result
+          c.cut.ensures.told c.bind.new.bindings c.bind.ensures.put
+          (ap (λ (x : ℕ). c.args.row + 3 + x) c.size.ensures.read) c.check_form-part.new.bindings
+          c.check_form-part.result c.check_form-part.ensures.checked c.in-Kinds.is c.taken_out.result
+          c.taken_out.ensures.told c.bind-2.new.bindings c.bind-2.ensures.put
+          (ap (λ (x : ℕ). c.args.row + 3 + c.size.result + x) c.size-2.ensures.read
+          ∙ ap (λ (x : ℕ). x + size_at c.args.forms.now x) (ap (λ (x : ℕ). c.args.row + 3 + x) c.size.ensures.read))
+          c.check_form-part-2.new.bindings c.check_form-part-2.result c.check_form-part-2.ensures.checked
+          c.in-Kinds-part.is;
+    }

@@ -1,10 +1,6 @@
 -- The measures and invariants of the cycle of calls. Assumes nothing.
 use lib.ListN.{length}
 use Prim.Native.Nat.{◌+◌, ◌-◌, ◌*◌}
-use Rattle.checking.proofs.EachWalk as each
-use Rattle.checking.proofs.WhenWalk as when
-use Rattle.checking.proofs.ChooseWalk as choose
-use Rattle.checking.proofs.PackWalk as pack
 use Rattle.checking.proofs.PackWalk.{LeftAt}
 use Rattle.checking.proofs.+check_each_check_form_check_if_check_pack_check_when.Given as goal
 

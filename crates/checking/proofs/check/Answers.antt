@@ -5,12 +5,18 @@ use Rattle.checking.proofs.check.Goals as goal
 
 pub bind-requires : goal.bind-requires
 bind-requires c =
-      record { slot_in_bounds = some_bindings c.args.forms.now c.args.shapes.now c.args.pool.now c.args.bindings.now c.requires.reader_asked; fits = omega (arith, c.kinds-whole.ensures.read) }
+    record {
+      slot_in_bounds = some_bindings c.args.forms.now c.args.shapes.now c.args.pool.now c.args.bindings.now c.requires.reader_asked;
+      fits = omega (arith, c.kinds-whole.ensures.read);
+    }
 
 pub check_form-requires : goal.check_form-requires
 check_form-requires c =
-      record { form_asked = reader_asked c.args.forms.now c.args.shapes.now c.args.pool.now c.args.bindings.now
-          c.kinds-whole.ensures.read c.bind.new.bindings c.bind.ensures.put c.requires.reader_asked; small = c.requires.small }
+    record {
+      form_asked = reader_asked c.args.forms.now c.args.shapes.now c.args.pool.now c.args.bindings.now
+          c.kinds-whole.ensures.read c.bind.new.bindings c.bind.ensures.put c.requires.reader_asked;
+      small = c.requires.small;
+    }
 
 pub returns : goal.returns
 returns c =

@@ -9,6 +9,8 @@ read_document-requires c =
 
 pub returns : goal.returns
 returns c =
-    record { read = let a = c.args in
-    read_as a.limits c.fewer-few.result a.document.now a.pool.now _ _ a.top _ c.read_document.result
-    c.fewer-few.ensures.made (search rules) c.read_document.ensures.read.answer }
+    record {
+      read = let a = c.args in
+          read_as a.limits c.fewer-few.result a.document.now a.pool.now _ _ a.top _ c.read_document.result
+          c.fewer-few.ensures.made (search rules) c.read_document.ensures.read.answer;
+    }

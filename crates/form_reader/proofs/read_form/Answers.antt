@@ -21,13 +21,17 @@ overflow_mul-result c =
 
 pub returns-in-Whole : goal.returns-in-Whole
 returns-in-Whole c =
-    record { read = reader_whole c.args.limits c.requires.tables c.requires.begun c.read_result.ensures.read c.in-Done.is
-    c.next_end.ensures.read c.in-Whole.is }
+    record {
+      read = reader_whole c.args.limits c.requires.tables c.requires.begun c.read_result.ensures.read c.in-Done.is
+          c.next_end.ensures.read c.in-Whole.is;
+    }
 
 pub returns-in-More : goal.returns-in-More
 returns-in-More c =
-    record { read = reader_more c.args.limits c.requires.tables c.requires.begun c.read_result.ensures.read c.in-Done.is
-    c.next_end.ensures.read c.in-More.is }
+    record {
+      read = reader_more c.args.limits c.requires.tables c.requires.begun c.read_result.ensures.read c.in-Done.is
+          c.next_end.ensures.read c.in-More.is;
+    }
 
 pub returns-in-Refused : goal.returns-in-Refused
 returns-in-Refused c = record { read = reader_refused c.args.limits c.requires.tables c.requires.begun c.read_result.ensures.read c.in-Refused.is }

@@ -1,5 +1,4 @@
 -- `forms::has_name` meets its contract: what is left of the pairs has the name where all have it. Assumes nothing.
-use Prim.Native.Nat.{◌-◌}
 use native.Mathlib.Omega.{arith}
 use Rattle.forms.proofs.Names.{walk_begins, walk_step, walk_found, walk_on, walk_ends}
 use Rattle.forms.proofs.has_name.Goals as goal
@@ -10,9 +9,11 @@ loop-row-init c =
 
 pub returns-then-same_text : goal.returns-then-same_text
 returns-then-same_text c =
-    record { found = walk_found c.args.forms.now c.args.pool.now c.args.from c.args.end c.args.w
-    c.args.n c.loop-row.invariant c.name-k.ensures.read c.text_word.ensures.split
-    c.text_bytes.ensures.split c.same_text.ensures.compared c.loop-row-test.true c.if-same_text.true }
+    record {
+      found = walk_found c.args.forms.now c.args.pool.now c.args.from c.args.end c.args.w
+          c.args.n c.loop-row.invariant c.name-k.ensures.read c.text_word.ensures.split
+          c.text_bytes.ensures.split c.same_text.ensures.compared c.loop-row-test.true c.if-same_text.true;
+    }
 
 pub overflow_add-row : goal.overflow_add-row
 overflow_add-row c =
@@ -33,5 +34,7 @@ loop-row-preserved c =
 
 pub returns : goal.returns
 returns c =
-    record { found = walk_ends c.args.forms.now c.args.pool.now c.args.from c.args.end c.args.w
-    c.args.n c.loop-row.invariant c.loop-row-test.false }
+    record {
+      found = walk_ends c.args.forms.now c.args.pool.now c.args.from c.args.end c.args.w
+          c.args.n c.loop-row.invariant c.loop-row-test.false;
+    }

@@ -4,5 +4,7 @@ use Rattle.growing.proofs.compare_names.Goals as goal
 
 pub returns : goal.returns
 returns c =
-    record { compared = compared_as _ _ _ c.text_word.ensures.split c.text_bytes.ensures.split c.text_word-2.ensures.split
-    c.text_bytes-2.ensures.split c.compare.ensures.compared }
+    record {
+      compared = compared_as _ _ _ c.text_word.ensures.split c.text_bytes.ensures.split c.text_word-2.ensures.split
+          c.text_bytes-2.ensures.split c.compare.ensures.compared;
+    }

@@ -1,5 +1,4 @@
 -- `growing::find_place` meets its contract. The loop's invariant is `Walking`. Assumes nothing.
-use Prim.Native.Nat.{◌-◌}
 use native.Mathlib.Omega.{arith}
 use Rattle.growing.proofs.Places.{walk_begins, left_within, past_last, answer_less, answer_equal, walk_on}
 use Rattle.growing.proofs.find_place.Goals as goal
@@ -9,13 +8,17 @@ loop-row-init c = walk_begins _ _ _ _ _ _
 
 pub returns-in-Less : goal.returns-in-Less
 returns-in-Less c =
-    record { found = answer_less c.name.result _ c.loop-row.invariant c.loop-row-test.true c.name.ensures.read
-    c.compare_names.ensures.compared c.in-Less.is }
+    record {
+      found = answer_less c.name.result _ c.loop-row.invariant c.loop-row-test.true c.name.ensures.read
+          c.compare_names.ensures.compared c.in-Less.is;
+    }
 
 pub returns-in-Equal : goal.returns-in-Equal
 returns-in-Equal c =
-    record { found = answer_equal c.name.result _ c.loop-row.invariant c.loop-row-test.true c.name.ensures.read
-    c.compare_names.ensures.compared c.in-Equal.is }
+    record {
+      found = answer_equal c.name.result _ c.loop-row.invariant c.loop-row-test.true c.name.ensures.read
+          c.compare_names.ensures.compared c.in-Equal.is;
+    }
 
 pub overflow_add-row : goal.overflow_add-row
 overflow_add-row c =

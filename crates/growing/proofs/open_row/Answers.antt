@@ -10,20 +10,22 @@ shape_of-shapes c = search rules
 
 pub returns : goal.returns
 returns c =
-    record { opened = record {
-      rows = _;
-      encoded = refl;
-      replaced = gap_filled
-          c.args.shapes.now
-          c.open_gap.new.part
-          c.put_row.new.shapes
-          c.args.used
-          c.args.row
-          _
-          c.args.name
-          c.requires.inside
-          (omega (arith, c.if-shapes-used-lt2.false, c.requires.room.enough))
-          c.open_gap.ensures.opened
-          c.put_row.ensures.put
-          (shape_of-shapes c);
-    } }
+    record {
+      opened = record {
+        rows = _;
+        encoded = refl;
+        replaced = gap_filled
+            c.args.shapes.now
+            c.open_gap.new.part
+            c.put_row.new.shapes
+            c.args.used
+            c.args.row
+            _
+            c.args.name
+            c.requires.inside
+            (omega (arith, c.if-shapes-used-lt2.false, c.requires.room.enough))
+            c.open_gap.ensures.opened
+            c.put_row.ensures.put
+            (shape_of-shapes c);
+      };
+    }

@@ -9,17 +9,21 @@ use Rattle.growing.proofs.ready_element.Goals as goal
 
 pub returns-then-has : goal.returns-then-has
 returns-then-has c =
-    record { ready = λ p m s h i. ready_listed c.args.used s h i c.requires.room.enough
-    (ap (λ (x : ℕ). has_bit x 32) (sym c.kinds.ensures.read) ∙ sym c.has.ensures.told ∙ c.if-has.true) }
+    record {
+      ready = λ p m s h i. ready_listed c.args.used s h i c.requires.room.enough
+          (ap (λ (x : ℕ). has_bit x 32) (sym c.kinds.ensures.read) ∙ sym c.has.ensures.told ∙ c.if-has.true);
+    }
 
 pub open_row-requires : goal.open_row-requires
 open_row-requires c =
-      record { room = c.requires.room; inside = omega (arith, c.requires.shape_held.within, forms_some c.requires.shape_held.old); small = omega arith }
+    record { room = c.requires.room; inside = omega (arith, c.requires.shape_held.within, forms_some c.requires.shape_held.old); small = omega arith }
 
 pub returns : goal.returns
 returns c =
-    record { ready = λ p m s h i. ready_opened c.args.used c.open_row.new.shapes s h
-    (ap (λ (x : ℕ). has_bit x 32) (sym c.kinds.ensures.read) ∙ sym c.has.ensures.told
-    ∙ c.if-has.false)
-    c.open_row.result
-    c.open_row.ensures.opened }
+    record {
+      ready = λ p m s h i. ready_opened c.args.used c.open_row.new.shapes s h
+          (ap (λ (x : ℕ). has_bit x 32) (sym c.kinds.ensures.read) ∙ sym c.has.ensures.told
+          ∙ c.if-has.false)
+          c.open_row.result
+          c.open_row.ensures.opened;
+    }

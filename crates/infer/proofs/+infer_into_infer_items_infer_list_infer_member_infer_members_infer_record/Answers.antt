@@ -1,7 +1,7 @@
 -- The proof of the cycle of calls that joins a value into a shape. Each call goes on at a later row of the node table or,
 -- from parts to their first value, at the same one: the measures are thrice what is left of that table, and less than three
 -- more. The loops' invariants are `ItemsLoop` and `MembersLoop`. Assumes nothing.
-use Prim.Native.Nat.{ℕ, ◌+◌, ◌-◌}
+use Prim.Native.Nat.{ℕ, ◌+◌}
 use native.Mathlib.Omega.{arith}
 use mathlib.Core.Path.{refl, sym, ap, ◌∙◌}
 use Rattle.nodes.specs.StandingLaws.{size_some, value_size, value_within}
@@ -93,8 +93,10 @@ infer_items-shape_of-shapes-in-Full t c =
 
 pub infer_items-returns-in-Full : goal.infer_items-returns-in-Full
 infer_items-returns-in-Full t c =
-    record { inferred = items_full c.requires.room c.loop-i.invariant c.loop-i-test.true
-    c.infer_into.new.shapes c.infer_into.result c.infer_into.ensures.inferred c.in-Full.is }
+    record {
+      inferred = items_full c.requires.room c.loop-i.invariant c.loop-i-test.true
+          c.infer_into.new.shapes c.infer_into.result c.infer_into.ensures.inferred c.in-Full.is;
+    }
 
 pub infer_items-overflow_add-grown : goal.infer_items-overflow_add-grown
 infer_items-overflow_add-grown t c =
@@ -214,8 +216,10 @@ infer_list-shape_of-shapes-in-Full t c =
 
 pub infer_list-returns-in-Full : goal.infer_list-returns-in-Full
 infer_list-returns-in-Full t c =
-    record { inferred = list_full_first c.requires.room c.requires.list c.ready_element.new.shapes c.ready_element.result
-    c.ready_element.ensures.ready c.in-Full.is }
+    record {
+      inferred = list_full_first c.requires.room c.requires.list c.ready_element.new.shapes c.ready_element.result
+          c.ready_element.ensures.ready c.in-Full.is;
+    }
 
 pub infer_list-shape_of-shapes-in-Full-infer_items : goal.infer_list-shape_of-shapes-in-Full-infer_items
 infer_list-shape_of-shapes-in-Full-infer_items t c =
@@ -223,10 +227,12 @@ infer_list-shape_of-shapes-in-Full-infer_items t c =
 
 pub infer_list-returns-in-Full-infer_items : goal.infer_list-returns-in-Full-infer_items
 infer_list-returns-in-Full-infer_items t c =
-    record { inferred = list_full_then c.requires.room c.requires.list c.ready_element.new.shapes c.ready_element.result
-    c.ready_element.ensures.ready c.in-Grown.is
-    (ap (λ (x : ℕ). c.args.at + x) c.row_size.ensures.sized) c.infer_items.new.shapes
-    c.infer_items.result c.infer_items.ensures.inferred c.in-Full-infer_items.is }
+    record {
+      inferred = list_full_then c.requires.room c.requires.list c.ready_element.new.shapes c.ready_element.result
+          c.ready_element.ensures.ready c.in-Grown.is
+          (ap (λ (x : ℕ). c.args.at + x) c.row_size.ensures.sized) c.infer_items.new.shapes
+          c.infer_items.result c.infer_items.ensures.inferred c.in-Full-infer_items.is;
+    }
 
 pub infer_list-shape_of-shapes-in-Grown-infer_items : goal.infer_list-shape_of-shapes-in-Grown-infer_items
 infer_list-shape_of-shapes-in-Grown-infer_items t c =
@@ -234,11 +240,13 @@ infer_list-shape_of-shapes-in-Grown-infer_items t c =
 
 pub infer_list-returns-in-Grown-infer_items : goal.infer_list-returns-in-Grown-infer_items
 infer_list-returns-in-Grown-infer_items t c =
-    record { inferred = list_answer c.requires.room c.requires.list c.ready_element.new.shapes c.ready_element.result
-    c.ready_element.ensures.ready c.in-Grown.is
-    (ap (λ (x : ℕ). c.args.at + x) c.row_size.ensures.sized) c.infer_items.new.shapes
-    c.infer_items.result c.infer_items.ensures.inferred c.in-Grown-infer_items.is
-    c.raise.ensures.raised c.raise.auto.shapes }
+    record {
+      inferred = list_answer c.requires.room c.requires.list c.ready_element.new.shapes c.ready_element.result
+          c.ready_element.ensures.ready c.in-Grown.is
+          (ap (λ (x : ℕ). c.args.at + x) c.row_size.ensures.sized) c.infer_items.new.shapes
+          c.infer_items.result c.infer_items.ensures.inferred c.in-Grown-infer_items.is
+          c.raise.ensures.raised c.raise.auto.shapes;
+    }
 
 pub infer_member-overflow_add-name : goal.infer_member-overflow_add-name
 infer_member-overflow_add-name t c =
@@ -262,8 +270,12 @@ infer_member-find_listed-requires t c =
 
 pub infer_member-infer_leaf-requires : goal.infer_member-infer_leaf-requires
 infer_member-infer_leaf-requires t c =
-    record { inferable = listed_inferable c.args.had c.requires.room c.find_listed.result c.find_listed.ensures.found
-          c.in-Found.is c.requires.member_inferable; room = c.requires.room; leaf = omega (arith, c.row_kind.ensures.read, c.if-row_kind-lt-LIST.true) }
+    record {
+      inferable = listed_inferable c.args.had c.requires.room c.find_listed.result c.find_listed.ensures.found
+          c.in-Found.is c.requires.member_inferable;
+      room = c.requires.room;
+      leaf = omega (arith, c.row_kind.ensures.read, c.if-row_kind-lt-LIST.true);
+    }
 
 pub infer_member-shape_of-shapes-then-row_kind-lt-LIST : goal.infer_member-shape_of-shapes-then-row_kind-lt-LIST
 infer_member-shape_of-shapes-then-row_kind-lt-LIST t c =
@@ -271,19 +283,20 @@ infer_member-shape_of-shapes-then-row_kind-lt-LIST t c =
 
 pub infer_member-returns-then-row_kind-lt-LIST : goal.infer_member-returns-then-row_kind-lt-LIST
 infer_member-returns-then-row_kind-lt-LIST t c =
-    record { inferred = listed_answer c.args.had c.requires.room c.find_listed.result c.find_listed.ensures.found
-    c.in-Found.is c.infer_leaf.new.shapes c.infer_leaf.result c.infer_leaf.ensures.inferred }
+    record {
+      inferred = listed_answer c.args.had c.requires.room c.find_listed.result c.find_listed.ensures.found
+          c.in-Found.is c.infer_leaf.new.shapes c.infer_leaf.result c.infer_leaf.ensures.inferred;
+    }
 
 pub infer_member-infer_into-requires : goal.infer_member-infer_into-requires
-infer_member-infer_into-requires t c =
-    (
-      omega (arith, c.decreases),
-      (
-        listed_inferable c.args.had c.requires.room c.find_listed.result c.find_listed.ensures.found
-            c.in-Found.is c.requires.member_inferable,
-        c.requires.room,
-      ),
-    )
+infer_member-infer_into-requires t c = (
+  omega (arith, c.decreases),
+  (
+    listed_inferable c.args.had c.requires.room c.find_listed.result c.find_listed.ensures.found
+        c.in-Found.is c.requires.member_inferable,
+    c.requires.room,
+  ),
+)
 
 pub infer_member-shape_of-shapes-in-Found : goal.infer_member-shape_of-shapes-in-Found
 infer_member-shape_of-shapes-in-Found t c =
@@ -291,8 +304,10 @@ infer_member-shape_of-shapes-in-Found t c =
 
 pub infer_member-returns-in-Found : goal.infer_member-returns-in-Found
 infer_member-returns-in-Found t c =
-    record { inferred = listed_answer c.args.had c.requires.room c.find_listed.result c.find_listed.ensures.found
-    c.in-Found.is c.infer_into.new.shapes c.infer_into.result c.infer_into.ensures.inferred }
+    record {
+      inferred = listed_answer c.args.had c.requires.room c.find_listed.result c.find_listed.ensures.found
+          c.in-Found.is c.infer_into.new.shapes c.infer_into.result c.infer_into.ensures.inferred;
+    }
 
 pub infer_member-find_place-place-requires : goal.infer_member-find_place-place-requires
 infer_member-find_place-place-requires t c =
@@ -301,8 +316,12 @@ infer_member-find_place-place-requires t c =
 
 pub infer_member-open_row-requires : goal.infer_member-open_row-requires
 infer_member-open_row-requires t c =
-    record { room = c.requires.room; inside = new_inside c.args.had c.requires.room c.find_listed.result c.find_listed.ensures.found
-            c.in_default.is c.find_place-place.ensures.found c.requires.member_inferable; small = omega (arith, c.start_kinds.ensures.told, kind_bits_lt (member_start c.args.had)) }
+    record {
+      room = c.requires.room;
+      inside = new_inside c.args.had c.requires.room c.find_listed.result c.find_listed.ensures.found
+          c.in_default.is c.find_place-place.ensures.found c.requires.member_inferable;
+      small = omega (arith, c.start_kinds.ensures.told, kind_bits_lt (member_start c.args.had));
+    }
 
 pub infer_member-overflow_add-used : goal.infer_member-overflow_add-used
 infer_member-overflow_add-used t c =
@@ -313,20 +332,19 @@ infer_member-overflow_add-used t c =
     omega (arith, r.enough, r.small)
 
 pub infer_member-infer_into-requires-in-Grown : goal.infer_member-infer_into-requires-in-Grown
-infer_member-infer_into-requires-in-Grown t c =
-    (
-      omega (arith, c.decreases),
-      (
-        new_inferable c.args.had c.requires.room c.find_listed.result c.find_listed.ensures.found
-            c.in_default.is c.find_place-place.ensures.found c.open_row.new.shapes
-            c.open_row.result
-            c.start_kinds.ensures.told c.open_row.ensures.opened c.in-Grown.is c.requires.member_inferable,
-        new_room_then c.args.had c.requires.room c.find_listed.result c.find_listed.ensures.found
-            c.in_default.is c.find_place-place.ensures.found c.open_row.new.shapes
-            c.open_row.result
-            c.start_kinds.ensures.told c.open_row.ensures.opened c.in-Grown.is c.requires.member_inferable,
-      ),
-    )
+infer_member-infer_into-requires-in-Grown t c = (
+  omega (arith, c.decreases),
+  (
+    new_inferable c.args.had c.requires.room c.find_listed.result c.find_listed.ensures.found
+        c.in_default.is c.find_place-place.ensures.found c.open_row.new.shapes
+        c.open_row.result
+        c.start_kinds.ensures.told c.open_row.ensures.opened c.in-Grown.is c.requires.member_inferable,
+    new_room_then c.args.had c.requires.room c.find_listed.result c.find_listed.ensures.found
+        c.in_default.is c.find_place-place.ensures.found c.open_row.new.shapes
+        c.open_row.result
+        c.start_kinds.ensures.told c.open_row.ensures.opened c.in-Grown.is c.requires.member_inferable,
+  ),
+)
 
 pub infer_member-overflow_add-result : goal.infer_member-overflow_add-result
 infer_member-overflow_add-result t c =
@@ -343,9 +361,11 @@ infer_member-shape_of-shapes-in-Full t c =
 
 pub infer_member-returns-in-Full : goal.infer_member-returns-in-Full
 infer_member-returns-in-Full t c =
-    record { inferred = new_full_first c.args.had c.requires.room c.find_listed.result c.find_listed.ensures.found
-    c.in_default.is c.find_place-place.ensures.found c.open_row.new.shapes
-    c.open_row.result c.start_kinds.ensures.told c.open_row.ensures.opened c.in-Full.is }
+    record {
+      inferred = new_full_first c.args.had c.requires.room c.find_listed.result c.find_listed.ensures.found
+          c.in_default.is c.find_place-place.ensures.found c.open_row.new.shapes
+          c.open_row.result c.start_kinds.ensures.told c.open_row.ensures.opened c.in-Full.is;
+    }
 
 pub infer_member-shape_of-shapes-in-Full-infer_into : goal.infer_member-shape_of-shapes-in-Full-infer_into
 infer_member-shape_of-shapes-in-Full-infer_into t c =
@@ -353,11 +373,13 @@ infer_member-shape_of-shapes-in-Full-infer_into t c =
 
 pub infer_member-returns-in-Full-infer_into : goal.infer_member-returns-in-Full-infer_into
 infer_member-returns-in-Full-infer_into t c =
-    record { inferred = new_full_then c.args.had c.requires.room c.find_listed.result c.find_listed.ensures.found
-    c.in_default.is c.find_place-place.ensures.found c.open_row.new.shapes
-    c.open_row.result c.start_kinds.ensures.told c.open_row.ensures.opened
-    c.in-Grown.is c.infer_into-in-Grown.new.shapes c.infer_into-in-Grown.result
-    c.infer_into-in-Grown.ensures.inferred c.in-Full-infer_into.is }
+    record {
+      inferred = new_full_then c.args.had c.requires.room c.find_listed.result c.find_listed.ensures.found
+          c.in_default.is c.find_place-place.ensures.found c.open_row.new.shapes
+          c.open_row.result c.start_kinds.ensures.told c.open_row.ensures.opened
+          c.in-Grown.is c.infer_into-in-Grown.new.shapes c.infer_into-in-Grown.result
+          c.infer_into-in-Grown.ensures.inferred c.in-Full-infer_into.is;
+    }
 
 pub infer_member-shape_of-shapes-in-Grown-infer_into : goal.infer_member-shape_of-shapes-in-Grown-infer_into
 infer_member-shape_of-shapes-in-Grown-infer_into t c =
@@ -365,11 +387,13 @@ infer_member-shape_of-shapes-in-Grown-infer_into t c =
 
 pub infer_member-returns-in-Grown-infer_into : goal.infer_member-returns-in-Grown-infer_into
 infer_member-returns-in-Grown-infer_into t c =
-    record { inferred = new_answer c.args.had c.requires.room c.find_listed.result c.find_listed.ensures.found
-    c.in_default.is c.find_place-place.ensures.found c.open_row.new.shapes
-    c.open_row.result c.start_kinds.ensures.told c.open_row.ensures.opened
-    c.in-Grown.is c.infer_into-in-Grown.new.shapes c.infer_into-in-Grown.result
-    c.infer_into-in-Grown.ensures.inferred c.in-Grown-infer_into.is }
+    record {
+      inferred = new_answer c.args.had c.requires.room c.find_listed.result c.find_listed.ensures.found
+          c.in_default.is c.find_place-place.ensures.found c.open_row.new.shapes
+          c.open_row.result c.start_kinds.ensures.told c.open_row.ensures.opened
+          c.in-Grown.is c.infer_into-in-Grown.new.shapes c.infer_into-in-Grown.result
+          c.infer_into-in-Grown.ensures.inferred c.in-Grown-infer_into.is;
+    }
 
 pub infer_members-loop-i-init : goal.infer_members-loop-i-init
 infer_members-loop-i-init t c =
@@ -414,9 +438,11 @@ infer_members-shape_of-shapes-in-Full t c =
 
 pub infer_members-returns-in-Full : goal.infer_members-returns-in-Full
 infer_members-returns-in-Full t c =
-    record { inferred = members_full c.requires.room c.loop-i.invariant c.loop-i-test.true
-    c.infer_member.new.shapes c.infer_member.result c.infer_member.ensures.inferred
-    c.in-Full.is }
+    record {
+      inferred = members_full c.requires.room c.loop-i.invariant c.loop-i-test.true
+          c.infer_member.new.shapes c.infer_member.result c.infer_member.ensures.inferred
+          c.in-Full.is;
+    }
 
 pub infer_members-overflow_add-grown : goal.infer_members-overflow_add-grown
 infer_members-overflow_add-grown t c =
@@ -513,13 +539,16 @@ infer_record-overflow_add-at-in-Grown t c =
 
 pub infer_record-null_others-requires : goal.infer_record-null_others-requires
 infer_record-null_others-requires t c =
-    record { nullable = record_nulls c.requires.room c.requires.record c.kinds.ensures.read c.has-had.ensures.told
+    record {
+      nullable = record_nulls c.requires.room c.requires.record c.kinds.ensures.read c.has-had.ensures.told
           c.members-first.ensures.found (ap (λ (x : ℕ). c.args.row + x) c.size.ensures.read)
           (ap (λ (x : ℕ). c.args.at + x) c.row_size.ensures.sized) c.infer_members.new.shapes
-          c.infer_members.result c.infer_members.ensures.inferred c.in-Grown.is c.requires.inferable; room = record_room c.requires.room c.requires.record c.kinds.ensures.read c.has-had.ensures.told
+          c.infer_members.result c.infer_members.ensures.inferred c.in-Grown.is c.requires.inferable;
+      room = record_room c.requires.room c.requires.record c.kinds.ensures.read c.has-had.ensures.told
           c.members-first.ensures.found (ap (λ (x : ℕ). c.args.row + x) c.size.ensures.read)
           (ap (λ (x : ℕ). c.args.at + x) c.row_size.ensures.sized) c.infer_members.new.shapes
-          c.infer_members.result c.infer_members.ensures.inferred c.in-Grown.is c.requires.inferable }
+          c.infer_members.result c.infer_members.ensures.inferred c.in-Grown.is c.requires.inferable;
+    }
 
 pub infer_record-raise-requires : goal.infer_record-raise-requires
 infer_record-raise-requires t c =
@@ -536,11 +565,13 @@ infer_record-shape_of-shapes-in-Full t c =
 
 pub infer_record-returns-in-Full : goal.infer_record-returns-in-Full
 infer_record-returns-in-Full t c =
-    record { inferred = record_full c.requires.room c.requires.record c.kinds.ensures.read
-    c.has-had.ensures.told c.members-first.ensures.found
-    (ap (λ (x : ℕ). c.args.row + x) c.size.ensures.read)
-    (ap (λ (x : ℕ). c.args.at + x) c.row_size.ensures.sized) c.infer_members.new.shapes
-    c.infer_members.result c.infer_members.ensures.inferred c.in-Full.is }
+    record {
+      inferred = record_full c.requires.room c.requires.record c.kinds.ensures.read
+          c.has-had.ensures.told c.members-first.ensures.found
+          (ap (λ (x : ℕ). c.args.row + x) c.size.ensures.read)
+          (ap (λ (x : ℕ). c.args.at + x) c.row_size.ensures.sized) c.infer_members.new.shapes
+          c.infer_members.result c.infer_members.ensures.inferred c.in-Full.is;
+    }
 
 pub infer_record-shape_of-shapes-in-Grown : goal.infer_record-shape_of-shapes-in-Grown
 infer_record-shape_of-shapes-in-Grown t c =
@@ -548,9 +579,11 @@ infer_record-shape_of-shapes-in-Grown t c =
 
 pub infer_record-returns-in-Grown : goal.infer_record-returns-in-Grown
 infer_record-returns-in-Grown t c =
-    record { inferred = record_answer c.requires.room c.requires.record c.kinds.ensures.read
-    c.has-had.ensures.told c.members-first.ensures.found
-    (ap (λ (x : ℕ). c.args.row + x) c.size.ensures.read)
-    (ap (λ (x : ℕ). c.args.at + x) c.row_size.ensures.sized) c.infer_members.new.shapes
-    c.infer_members.result c.infer_members.ensures.inferred c.in-Grown.is
-    c.null_others.new.shapes c.null_others.ensures.nulled c.raise.ensures.raised c.raise.auto.shapes }
+    record {
+      inferred = record_answer c.requires.room c.requires.record c.kinds.ensures.read
+          c.has-had.ensures.told c.members-first.ensures.found
+          (ap (λ (x : ℕ). c.args.row + x) c.size.ensures.read)
+          (ap (λ (x : ℕ). c.args.at + x) c.row_size.ensures.sized) c.infer_members.new.shapes
+          c.infer_members.result c.infer_members.ensures.inferred c.in-Grown.is
+          c.null_others.new.shapes c.null_others.ensures.nulled c.raise.ensures.raised c.raise.auto.shapes;
+    }

@@ -21,8 +21,10 @@ read_shape-requires c =
 
 pub returns : goal.returns
 returns c =
-    record { judged = let a = c.args in
-    let n = c.name_words-names.result in
-    let h : n ≤ length a.pool.now = omega (arith, c.name_words-names.ensures.counted, c.requires.names) in
-    first_judged a.limits a.text.now a.shapes.now a.pool.now n c.name_words-names.ensures.counted _ _ c.read_shape.result
-    h c.read_shape.ensures.judged }
+    record {
+      judged = let a = c.args in
+          let n = c.name_words-names.result in
+          let h : n ≤ length a.pool.now = omega (arith, c.name_words-names.ensures.counted, c.requires.names) in
+          first_judged a.limits a.text.now a.shapes.now a.pool.now n c.name_words-names.ensures.counted _ _ c.read_shape.result
+          h c.read_shape.ensures.judged;
+    }

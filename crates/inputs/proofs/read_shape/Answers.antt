@@ -4,8 +4,10 @@ use Rattle.inputs.proofs.read_shape.Goals as goal
 
 pub returns-then-limits-text : goal.returns-then-limits-text
 returns-then-limits-text c =
-    record { judged = let a = c.args in
-    judges_long a.limits a.text.now a.pool.now a.shapes.now a.top c.if-limits-text.true }
+    record {
+      judged = let a = c.args in
+          judges_long a.limits a.text.now a.pool.now a.shapes.now a.top c.if-limits-text.true;
+    }
 
 pub read_shape-requires : goal.read_shape-requires
 read_shape-requires c =

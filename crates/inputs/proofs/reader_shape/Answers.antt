@@ -14,17 +14,23 @@ read_shape-requires c =
 
 pub returns-in-Refused : goal.returns-in-Refused
 returns-in-Refused c =
-    record { judged = let a = c.args in
-    record { answer = reader_stops c.first_reader.ensures.judged read_shape a.shape.now c.in-Refused.is } }
+    record {
+      judged = let a = c.args in
+          record { answer = reader_stops c.first_reader.ensures.judged read_shape a.shape.now c.in-Refused.is };
+    }
 
 pub returns-in-Refused-read_shape : goal.returns-in-Refused-read_shape
 returns-in-Refused-read_shape c =
-    record { judged = let a = c.args in
-    let f = reader_passes c.first_reader.ensures.judged c.in-Read.is in
-    record { answer = its_shape_refused f a.shape.now c.read_shape.ensures.judged c.in-Refused-read_shape.is } }
+    record {
+      judged = let a = c.args in
+          let f = reader_passes c.first_reader.ensures.judged c.in-Read.is in
+          record { answer = its_shape_refused f a.shape.now c.read_shape.ensures.judged c.in-Refused-read_shape.is };
+    }
 
 pub returns-in-Read-read_shape : goal.returns-in-Read-read_shape
 returns-in-Read-read_shape c =
-    record { judged = let a = c.args in
-    let f = reader_passes c.first_reader.ensures.judged c.in-Read.is in
-    record { answer = its_shape_passes f a.shape.now c.read_shape.ensures.judged c.in-Read-read_shape.is } }
+    record {
+      judged = let a = c.args in
+          let f = reader_passes c.first_reader.ensures.judged c.in-Read.is in
+          record { answer = its_shape_passes f a.shape.now c.read_shape.ensures.judged c.in-Read-read_shape.is };
+    }

@@ -14,17 +14,23 @@ read-requires c =
 
 pub returns-in-Refused : goal.returns-in-Refused
 returns-in-Refused c =
-    record { judged = let a = c.args in
-    record { answer = first_refused c.first_shape.ensures.judged (source a.format) a.document.now c.in-Refused.is } }
+    record {
+      judged = let a = c.args in
+          record { answer = first_refused c.first_shape.ensures.judged (source a.format) a.document.now c.in-Refused.is };
+    }
 
 pub returns-in-Refused-read : goal.returns-in-Refused-read
 returns-in-Refused-read c =
-    record { judged = let a = c.args in
-    let f = first_passes c.first_shape.ensures.judged c.in-Read.is in
-    record { answer = document_refused f (source a.format) a.document.now c.read.ensures.judged c.in-Refused-read.is } }
+    record {
+      judged = let a = c.args in
+          let f = first_passes c.first_shape.ensures.judged c.in-Read.is in
+          record { answer = document_refused f (source a.format) a.document.now c.read.ensures.judged c.in-Refused-read.is };
+    }
 
 pub returns-in-Read-read : goal.returns-in-Read-read
 returns-in-Read-read c =
-    record { judged = let a = c.args in
-    let f = first_passes c.first_shape.ensures.judged c.in-Read.is in
-    record { answer = document_passes f (source a.format) a.document.now c.read.ensures.judged c.in-Read-read.is } }
+    record {
+      judged = let a = c.args in
+          let f = first_passes c.first_shape.ensures.judged c.in-Read.is in
+          record { answer = document_passes f (source a.format) a.document.now c.read.ensures.judged c.in-Read-read.is };
+    }

@@ -14,17 +14,23 @@ read_shape-requires c =
 
 pub returns-in-Refused : goal.returns-in-Refused
 returns-in-Refused c =
-    record { judged = let a = c.args in
-    record { answer = first_refused c.first_shape.ensures.judged read_shape a.second.now c.in-Refused.is } }
+    record {
+      judged = let a = c.args in
+          record { answer = first_refused c.first_shape.ensures.judged read_shape a.second.now c.in-Refused.is };
+    }
 
 pub returns-in-Refused-read_shape : goal.returns-in-Refused-read_shape
 returns-in-Refused-read_shape c =
-    record { judged = let a = c.args in
-    let f = first_passes c.first_shape.ensures.judged c.in-Read.is in
-    record { answer = second_refused f a.second.now c.read_shape.ensures.judged c.in-Refused-read_shape.is } }
+    record {
+      judged = let a = c.args in
+          let f = first_passes c.first_shape.ensures.judged c.in-Read.is in
+          record { answer = second_refused f a.second.now c.read_shape.ensures.judged c.in-Refused-read_shape.is };
+    }
 
 pub returns-in-Read-read_shape : goal.returns-in-Read-read_shape
 returns-in-Read-read_shape c =
-    record { judged = let a = c.args in
-    let f = first_passes c.first_shape.ensures.judged c.in-Read.is in
-    record { answer = second_passes f a.second.now c.read_shape.ensures.judged c.in-Read-read_shape.is } }
+    record {
+      judged = let a = c.args in
+          let f = first_passes c.first_shape.ensures.judged c.in-Read.is in
+          record { answer = second_passes f a.second.now c.read_shape.ensures.judged c.in-Read-read_shape.is };
+    }

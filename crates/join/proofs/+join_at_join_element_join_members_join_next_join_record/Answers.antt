@@ -1,6 +1,5 @@
 -- The proof of the cycle of calls {join_at, join_element, join_members, join_next, join_record}. The nesting left falls from
 -- a shape to its members and its element; the loop's invariant is that `Merging` holds of every members that stand there. Assumes nothing.
-use Prim.Native.Nat.{◌-◌}
 use native.Mathlib.Omega.{arith}
 use mathlib.Core.Path.{refl, sym, ◌∙◌}
 use Rattle.shapes.specs.ShapesLaws.{stands_size, stands_within, stands_row, fields_end}
@@ -28,8 +27,10 @@ join_at-shape_of-shapes-in_default t c =
 
 pub join_at-returns-in_default : goal.join_at-returns-in_default
 join_at-returns-in_default t c =
-    record { joined = λ p m k a b j. members_full j
-    (joined_full join_records c.join_record-r.new.shapes c.in_default.is c.join_record-r.ensures.joined j) }
+    record {
+      joined = λ p m k a b j. members_full j
+          (joined_full join_records c.join_record-r.new.shapes c.in_default.is c.join_record-r.ensures.joined j);
+    }
 
 pub join_at-overflow_add-used : goal.join_at-overflow_add-used
 join_at-overflow_add-used t c =
@@ -61,11 +62,13 @@ join_at-shape_of-shapes-in_default-r t c =
 
 pub join_at-returns-in_default-r : goal.join_at-returns-in_default-r
 join_at-returns-in_default-r t c =
-    record { joined = λ p m k a b j. let q = joined_grown join_records c.join_record-r.new.shapes c.in-Grown.is
-    c.join_record-r.ensures.joined j in
-    elements_full j q
-    (joined_full join_elements c.join_element-r.new.shapes c.in_default-r.is
-    c.join_element-r.ensures.joined (members_joins j q)) }
+    record {
+      joined = λ p m k a b j. let q = joined_grown join_records c.join_record-r.new.shapes c.in-Grown.is
+          c.join_record-r.ensures.joined j in
+          elements_full j q
+          (joined_full join_elements c.join_element-r.new.shapes c.in_default-r.is
+          c.join_element-r.ensures.joined (members_joins j q));
+    }
 
 pub join_at-put_head-requires : goal.join_at-put_head-requires
 join_at-put_head-requires t c =
@@ -92,13 +95,15 @@ join_at-shape_of-shapes t c =
 
 pub join_at-returns : goal.join_at-returns
 join_at-returns t c =
-    record { joined = λ p m k a b j. let q = joined_grown join_records c.join_record-r.new.shapes c.in-Grown.is
-    c.join_record-r.ensures.joined j in
-    let v = joined_grown join_elements c.join_element-r.new.shapes c.in-Grown-r.is
-    c.join_element-r.ensures.joined (members_joins j q) in
-    whole_grown j q v c.kinds.ensures.read c.kinds-2.ensures.read c.union-kinds.ensures.made
-    c.size-size.ensures.read
-    c.put_head.ensures.put c.put_head.auto.shapes }
+    record {
+      joined = λ p m k a b j. let q = joined_grown join_records c.join_record-r.new.shapes c.in-Grown.is
+          c.join_record-r.ensures.joined j in
+          let v = joined_grown join_elements c.join_element-r.new.shapes c.in-Grown-r.is
+          c.join_element-r.ensures.joined (members_joins j q) in
+          whole_grown j q v c.kinds.ensures.read c.kinds-2.ensures.read c.union-kinds.ensures.made
+          c.size-size.ensures.read
+          c.put_head.ensures.put c.put_head.auto.shapes;
+    }
 
 pub join_element-returns-then-not-has : goal.join_element-returns-then-not-has
 join_element-returns-then-not-has t c =
@@ -106,7 +111,20 @@ join_element-returns-then-not-has t c =
 
 pub join_element-put_element-requires : goal.join_element-put_element-requires
 join_element-put_element-requires t c =
-    let w = c.requires in record { beside = record { p = w.p; name = w.name; other_name = w.other_name; ours = w.ours; theirs = w.theirs; both = w.joins.both; small = w.small }; lacks = denied 32 c.kinds-2.ensures.read (sym c.has-2.ensures.told) (ap not c.if-not-has-2.true); there = granted 32 c.kinds.ensures.read (sym c.has.ensures.told) (ap not c.if-not-has.false) }
+    let w = c.requires in
+    record {
+      beside = record {
+        p = w.p;
+        name = w.name;
+        other_name = w.other_name;
+        ours = w.ours;
+        theirs = w.theirs;
+        both = w.joins.both;
+        small = w.small;
+      };
+      lacks = denied 32 c.kinds-2.ensures.read (sym c.has-2.ensures.told) (ap not c.if-not-has-2.true);
+      there = granted 32 c.kinds.ensures.read (sym c.has.ensures.told) (ap not c.if-not-has.false);
+    }
 
 pub join_element-shape_of-shapes-then-not-has-2 : goal.join_element-shape_of-shapes-then-not-has-2
 join_element-shape_of-shapes-then-not-has-2 t c =
@@ -148,10 +166,12 @@ join_element-shape_of-shapes-in_default t c =
 
 pub join_element-returns-in_default : goal.join_element-returns-in_default
 join_element-returns-in_default t c =
-    record { joined = λ p m k u v j. element_full
-    (granted 32 c.kinds-2.ensures.read (sym c.has-2.ensures.told) (ap not c.if-not-has-2.false))
-    (granted 32 c.kinds.ensures.read (sym c.has.ensures.told) (ap not c.if-not-has.false))
-    c.join_at-r.new.shapes c.join_at-r.result c.join_at-r.ensures.joined c.in_default.is u v j }
+    record {
+      joined = λ p m k u v j. element_full
+          (granted 32 c.kinds-2.ensures.read (sym c.has-2.ensures.told) (ap not c.if-not-has-2.false))
+          (granted 32 c.kinds.ensures.read (sym c.has.ensures.told) (ap not c.if-not-has.false))
+          c.join_at-r.new.shapes c.join_at-r.result c.join_at-r.ensures.joined c.in_default.is u v j;
+    }
 
 pub join_element-grow_head-requires : goal.join_element-grow_head-requires
 join_element-grow_head-requires t c =
@@ -162,7 +182,8 @@ join_element-grow_head-requires t c =
     (granted 32 c.kinds.ensures.read (sym c.has.ensures.told) (ap not c.if-not-has.false))
     c.join_at-r.new.shapes c.join_at-r.result c.join_at-r.ensures.joined c.in-Grown.is w.ours
     w.theirs w.joins in
-    let facts = head_room s.row 0 i.2.replaced w.joins.both.ours (omega arith) i.3 w.joins.both.used_within w.small (omega arith) in record { row_in_bounds = facts.0; fits = facts.1 }
+    let facts = head_room s.row 0 i.2.replaced w.joins.both.ours (omega arith) i.3 w.joins.both.used_within w.small (omega arith) in
+    record { row_in_bounds = facts.0; fits = facts.1 }
 
 pub join_element-shape_of-shapes : goal.join_element-shape_of-shapes
 join_element-shape_of-shapes t c =
@@ -170,11 +191,13 @@ join_element-shape_of-shapes t c =
 
 pub join_element-returns : goal.join_element-returns
 join_element-returns t c =
-    record { joined = λ p m k u v j. element_grown
-    (granted 32 c.kinds-2.ensures.read (sym c.has-2.ensures.told) (ap not c.if-not-has-2.false))
-    (granted 32 c.kinds.ensures.read (sym c.has.ensures.told) (ap not c.if-not-has.false))
-    c.join_at-r.new.shapes c.join_at-r.result c.join_at-r.ensures.joined
-    c.in-Grown.is c.grow_head.ensures.told c.grow_head.auto.shapes u v j }
+    record {
+      joined = λ p m k u v j. element_grown
+          (granted 32 c.kinds-2.ensures.read (sym c.has-2.ensures.told) (ap not c.if-not-has-2.false))
+          (granted 32 c.kinds.ensures.read (sym c.has.ensures.told) (ap not c.if-not-has.false))
+          c.join_at-r.new.shapes c.join_at-r.result c.join_at-r.ensures.joined
+          c.in-Grown.is c.grow_head.ensures.told c.grow_head.auto.shapes u v j;
+    }
 
 pub join_members-loop-i-init : goal.join_members-loop-i-init
 join_members-loop-i-init t c p fs gs w =
@@ -206,11 +229,10 @@ join_members-overflow_add-used t c =
     omega (arith, c.well_formed.1.1.1.1.0.0)
 
 pub join_members-join_next-r-requires : goal.join_members-join_next-r-requires
-join_members-join_next-r-requires t c =
-    (
-      omega (arith, c.decreases),
-      loop_turns c.loop-i.invariant c.next_member-order.ensures.told c.loop-i-test.true c.requires,
-    )
+join_members-join_next-r-requires t c = (
+  omega (arith, c.decreases),
+  loop_turns c.loop-i.invariant c.next_member-order.ensures.told c.loop-i-test.true c.requires,
+)
 
 pub join_members-shape_of-shapes-in_default : goal.join_members-shape_of-shapes-in_default
 join_members-shape_of-shapes-in_default t c =
@@ -218,8 +240,10 @@ join_members-shape_of-shapes-in_default t c =
 
 pub join_members-returns-in_default : goal.join_members-returns-in_default
 join_members-returns-in_default t c =
-    record { merged = loop_full c.loop-i.invariant c.next_member-order.ensures.told c.loop-i-test.true
-    c.join_next-r.new.shapes c.join_next-r.ensures.turned c.in_default.is }
+    record {
+      merged = loop_full c.loop-i.invariant c.next_member-order.ensures.told c.loop-i-test.true
+          c.join_next-r.new.shapes c.join_next-r.ensures.turned c.in_default.is;
+    }
 
 pub join_members-overflow_add-i-in-loop-i : goal.join_members-overflow_add-i-in-loop-i
 join_members-overflow_add-i-in-loop-i t c =
@@ -269,8 +293,10 @@ join_next-shape_of-shapes-then-adds_nothing t c =
 
 pub join_next-returns-then-adds_nothing : goal.join_next-returns-then-adds_nothing
 join_next-returns-then-adds_nothing t c =
-    record { turned = λ p end to fs gs n u old fs' gs' w v. equal_turned c.args.shapes.now (Grown 0) c.in-Equal.is
-    (idle (c.adds_nothing.ensures.told c.if-adds_nothing.true)) w v }
+    record {
+      turned = λ p end to fs gs n u old fs' gs' w v. equal_turned c.args.shapes.now (Grown 0) c.in-Equal.is
+          (idle (c.adds_nothing.ensures.told c.if-adds_nothing.true)) w v;
+    }
 
 pub join_next-join_at-requires : goal.join_next-join_at-requires
 join_next-join_at-requires t c =
@@ -296,9 +322,11 @@ join_next-shape_of-shapes-else-adds_nothing t c =
 
 pub join_next-returns-else-adds_nothing : goal.join_next-returns-else-adds_nothing
 join_next-returns-else-adds_nothing t c =
-    record { turned = λ p end to fs gs n u old fs' gs' w v. equal_turned c.join_at.new.shapes c.join_at.result
-    c.in-Equal.is
-    c.join_at.ensures.joined w v }
+    record {
+      turned = λ p end to fs gs n u old fs' gs' w v. equal_turned c.join_at.new.shapes c.join_at.result
+          c.in-Equal.is
+          c.join_at.ensures.joined w v;
+    }
 
 pub join_next-shape_of-shapes-in-Greater : goal.join_next-shape_of-shapes-in-Greater
 join_next-shape_of-shapes-in-Greater t c =
@@ -306,8 +334,10 @@ join_next-shape_of-shapes-in-Greater t c =
 
 pub join_next-returns-in-Greater : goal.join_next-returns-in-Greater
 join_next-returns-in-Greater t c =
-    record { turned = λ p end to fs gs n u old fs' gs' w v. greater_turned c.put_member.new.shapes c.put_member.result c.in-Greater.is
-    c.put_member.ensures.put w v }
+    record {
+      turned = λ p end to fs gs n u old fs' gs' w v. greater_turned c.put_member.new.shapes c.put_member.result c.in-Greater.is
+          c.put_member.ensures.put w v;
+    }
 
 pub join_record-returns-then-not-has : goal.join_record-returns-then-not-has
 join_record-returns-then-not-has t c =
@@ -315,7 +345,20 @@ join_record-returns-then-not-has t c =
 
 pub join_record-put_members-requires : goal.join_record-put_members-requires
 join_record-put_members-requires t c =
-    let w = c.requires in record { beside = record { p = w.p; name = w.name; other_name = w.other_name; ours = w.ours; theirs = w.theirs; both = w.joins.both; small = w.small }; lacks = denied 64 c.kinds-2.ensures.read (sym c.has-2.ensures.told) (ap not c.if-not-has-2.true); there = granted 64 c.kinds.ensures.read (sym c.has.ensures.told) (ap not c.if-not-has.false) }
+    let w = c.requires in
+    record {
+      beside = record {
+        p = w.p;
+        name = w.name;
+        other_name = w.other_name;
+        ours = w.ours;
+        theirs = w.theirs;
+        both = w.joins.both;
+        small = w.small;
+      };
+      lacks = denied 64 c.kinds-2.ensures.read (sym c.has-2.ensures.told) (ap not c.if-not-has-2.true);
+      there = granted 64 c.kinds.ensures.read (sym c.has.ensures.told) (ap not c.if-not-has.false);
+    }
 
 pub join_record-shape_of-shapes-then-not-has-2 : goal.join_record-shape_of-shapes-then-not-has-2
 join_record-shape_of-shapes-then-not-has-2 t c =
@@ -368,13 +411,15 @@ join_record-shape_of-shapes-in_default t c =
 
 pub join_record-returns-in_default : goal.join_record-returns-in_default
 join_record-returns-in_default t c =
-    record { joined = λ p m k u v j. let s = c.args in
-    let z = spans s.shapes.now s.second.now s.row s.other c.members-at.ensures.found c.size.ensures.read
-    c.members-from.ensures.found c.size-2.ensures.read in
-    let b = granted 64 c.kinds-2.ensures.read (sym c.has-2.ensures.told) (ap not c.if-not-has-2.false) in
-    let d = granted 64 c.kinds.ensures.read (sym c.has.ensures.told) (ap not c.if-not-has.false) in
-    record_full z b d c.join_members-r.new.shapes c.join_members-r.result c.join_members-r.ensures.merged
-    c.in_default.is u v j }
+    record {
+      joined = λ p m k u v j. let s = c.args in
+          let z = spans s.shapes.now s.second.now s.row s.other c.members-at.ensures.found c.size.ensures.read
+          c.members-from.ensures.found c.size-2.ensures.read in
+          let b = granted 64 c.kinds-2.ensures.read (sym c.has-2.ensures.told) (ap not c.if-not-has-2.false) in
+          let d = granted 64 c.kinds.ensures.read (sym c.has.ensures.told) (ap not c.if-not-has.false) in
+          record_full z b d c.join_members-r.new.shapes c.join_members-r.result c.join_members-r.ensures.merged
+          c.in_default.is u v j;
+    }
 
 pub join_record-grow_head-requires : goal.join_record-grow_head-requires
 join_record-grow_head-requires t c =
@@ -386,7 +431,8 @@ join_record-grow_head-requires t c =
     let d = granted 64 c.kinds.ensures.read (sym c.has.ensures.told) (ap not c.if-not-has.false) in
     let i = record_inner z b d c.join_members-r.new.shapes c.join_members-r.result
     c.join_members-r.ensures.merged c.in-Grown.is w.ours w.theirs w.joins in
-    let facts = head_room s.row 0 i.2.replaced w.joins.both.ours i.3 i.4 w.joins.both.used_within w.small (omega arith) in record { row_in_bounds = facts.0; fits = facts.1 }
+    let facts = head_room s.row 0 i.2.replaced w.joins.both.ours i.3 i.4 w.joins.both.used_within w.small (omega arith) in
+    record { row_in_bounds = facts.0; fits = facts.1 }
 
 pub join_record-shape_of-shapes : goal.join_record-shape_of-shapes
 join_record-shape_of-shapes t c =
@@ -394,10 +440,12 @@ join_record-shape_of-shapes t c =
 
 pub join_record-returns : goal.join_record-returns
 join_record-returns t c =
-    record { joined = λ p m k u v j. let s = c.args in
-    let z = spans s.shapes.now s.second.now s.row s.other c.members-at.ensures.found c.size.ensures.read
-    c.members-from.ensures.found c.size-2.ensures.read in
-    let b = granted 64 c.kinds-2.ensures.read (sym c.has-2.ensures.told) (ap not c.if-not-has-2.false) in
-    let d = granted 64 c.kinds.ensures.read (sym c.has.ensures.told) (ap not c.if-not-has.false) in
-    record_grown z b d c.join_members-r.new.shapes c.join_members-r.result c.join_members-r.ensures.merged
-    c.in-Grown.is c.grow_head.ensures.told c.grow_head.auto.shapes u v j }
+    record {
+      joined = λ p m k u v j. let s = c.args in
+          let z = spans s.shapes.now s.second.now s.row s.other c.members-at.ensures.found c.size.ensures.read
+          c.members-from.ensures.found c.size-2.ensures.read in
+          let b = granted 64 c.kinds-2.ensures.read (sym c.has-2.ensures.told) (ap not c.if-not-has-2.false) in
+          let d = granted 64 c.kinds.ensures.read (sym c.has.ensures.told) (ap not c.if-not-has.false) in
+          record_grown z b d c.join_members-r.new.shapes c.join_members-r.result c.join_members-r.ensures.merged
+          c.in-Grown.is c.grow_head.ensures.told c.grow_head.auto.shapes u v j;
+    }

@@ -11,5 +11,7 @@ returns-then-has-2 c = record { told = λ e. absurd (false≢true e) }
 
 pub returns : goal.returns
 returns c =
-    record { told = λ e. told_idle c.kinds-kinds.ensures.read c.kinds.ensures.read c.has.ensures.told c.if-has.false
-    c.has-2.ensures.told c.if-has-2.false c.is_within.ensures.told e }
+    record {
+      told = λ e. told_idle c.kinds-kinds.ensures.read c.kinds.ensures.read c.has.ensures.told c.if-has.false
+          c.has-2.ensures.told c.if-has-2.false c.is_within.ensures.told e;
+    }

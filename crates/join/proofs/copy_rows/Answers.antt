@@ -1,5 +1,4 @@
 -- `join::copy_rows` meets its contract. Assumes nothing.
-use Prim.Native.Nat.{◌-◌}
 use Rattle.join.proofs.Copies.{copies, copies_on, copied}
 use Rattle.join.proofs.copy_rows.Goals as goal
 

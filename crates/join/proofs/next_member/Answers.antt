@@ -9,21 +9,24 @@ pub returns-then-end-row : goal.returns-then-end-row
 returns-then-end-row c = record { told = λ p fs gs w l. none_ours fs gs w l c.if-end-row.true }
 
 pub returns-then-k-m : goal.returns-then-k-m
-returns-then-k-m c = record { told = λ p fs gs w l. one_name c.name-k.ensures.read c.name-m.ensures.read c.if-k-m.true c.if-end-row.false c.if-to-other.false fs gs w }
+returns-then-k-m c =
+    record { told = λ p fs gs w l. one_name c.name-k.ensures.read c.name-m.ensures.read c.if-k-m.true c.if-end-row.false c.if-to-other.false fs gs w }
 
 pub returns : goal.returns
 returns c =
-    record { told = λ p fs gs w l. compared
-    _
-    c.name-k.ensures.read
-    c.name-m.ensures.read
-    c.text_word-w.ensures.split
-    c.text_word-v.ensures.split
-    c.text_bytes.ensures.split
-    c.text_bytes-2.ensures.split
-    c.compare.ensures.compared
-    c.if-end-row.false
-    c.if-to-other.false
-    fs
-    gs
-    w }
+    record {
+      told = λ p fs gs w l. compared
+          _
+          c.name-k.ensures.read
+          c.name-m.ensures.read
+          c.text_word-w.ensures.split
+          c.text_word-v.ensures.split
+          c.text_bytes.ensures.split
+          c.text_bytes-2.ensures.split
+          c.compare.ensures.compared
+          c.if-end-row.false
+          c.if-to-other.false
+          fs
+          gs
+          w;
+    }

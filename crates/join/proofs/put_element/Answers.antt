@@ -31,11 +31,13 @@ put_rows-requires c =
 
 pub returns-in_default : goal.returns-in_default
 returns-in_default c =
-    record { put = λ p m k a b v. let s = c.args in
-    let w = c.requires.beside in
-    put_element_full c.requires.lacks c.requires.there c.size-count.ensures.read a b v
-    (full_of _ _ _ (s.row + 2) _ _ (Copied s.second.now (s.other + 2) c.size-count.result) c.in_default.is
-    c.put_rows.ensures.put) }
+    record {
+      put = λ p m k a b v. let s = c.args in
+          let w = c.requires.beside in
+          put_element_full c.requires.lacks c.requires.there c.size-count.ensures.read a b v
+          (full_of _ _ _ (s.row + 2) _ _ (Copied s.second.now (s.other + 2) c.size-count.result) c.in_default.is
+          c.put_rows.ensures.put);
+    }
 
 pub grow_head-requires : goal.grow_head-requires
 grow_head-requires c =
@@ -44,14 +46,17 @@ grow_head-requires c =
     let q = grown_of s.shapes.now c.put_rows.new.shapes s.used (s.row + 2) 0 _
     (Copied s.second.now (s.other + 2) c.size-count.result) c.in-Grown.is
     c.put_rows.ensures.put in
-    let facts = head_room s.row 32 q.replaced w.both.ours (omega arith) (element_before w.ours w.both) w.both.used_within w.small (omega arith) in record { row_in_bounds = facts.0; fits = facts.1 }
+    let facts = head_room s.row 32 q.replaced w.both.ours (omega arith) (element_before w.ours w.both) w.both.used_within w.small (omega arith) in
+    record { row_in_bounds = facts.0; fits = facts.1 }
 
 pub returns : goal.returns
 returns c =
-    record { put = λ p m k a b v. let s = c.args in
-    let w = c.requires.beside in
-    let q = grown_of s.shapes.now c.put_rows.new.shapes s.used (s.row + 2) 0 _
-    (Copied s.second.now (s.other + 2) c.size-count.result) c.in-Grown.is
-    c.put_rows.ensures.put in
-    put_element_grown c.requires.lacks c.requires.there c.size-count.ensures.read a b v q c.grow_head.ensures.told
-    c.grow_head.auto.shapes }
+    record {
+      put = λ p m k a b v. let s = c.args in
+          let w = c.requires.beside in
+          let q = grown_of s.shapes.now c.put_rows.new.shapes s.used (s.row + 2) 0 _
+          (Copied s.second.now (s.other + 2) c.size-count.result) c.in-Grown.is
+          c.put_rows.ensures.put in
+          put_element_grown c.requires.lacks c.requires.there c.size-count.ensures.read a b v q c.grow_head.ensures.told
+          c.grow_head.auto.shapes;
+    }

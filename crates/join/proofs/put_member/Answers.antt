@@ -17,11 +17,13 @@ put_rows-requires c =
 
 pub returns-in_default : goal.returns-in_default
 returns-in_default c =
-    record { put = λ p k b h. let s = c.args in
-    let w = c.requires in
-    put_member_full s.shapes.now c.put_rows.new.shapes s.second.now s.used s.at s.from c.size-count.result h
-    c.size-count.ensures.read
-    (full_of _ _ _ s.at _ _ (Copied s.second.now s.from c.size-count.result) c.in_default.is c.put_rows.ensures.put) }
+    record {
+      put = λ p k b h. let s = c.args in
+          let w = c.requires in
+          put_member_full s.shapes.now c.put_rows.new.shapes s.second.now s.used s.at s.from c.size-count.result h
+          c.size-count.ensures.read
+          (full_of _ _ _ s.at _ _ (Copied s.second.now s.from c.size-count.result) c.in_default.is c.put_rows.ensures.put);
+    }
 
 pub add_null-requires : goal.add_null-requires
 add_null-requires c =
@@ -34,10 +36,12 @@ add_null-requires c =
 
 pub returns : goal.returns
 returns c =
-    record { put = λ p k b h. let s = c.args in
-    let w = c.requires in
-    let q = grown_of s.shapes.now c.put_rows.new.shapes s.used s.at 0 c.size-count.result
-    (Copied s.second.now s.from c.size-count.result) c.in-Grown.is
-    c.put_rows.ensures.put in
-    put_member_grown s.shapes.now c.put_rows.new.shapes s.second.now s.used s.at s.from c.size-count.result _ q
-    w.before w.used_within h c.size-count.ensures.read c.add_null.ensures.added c.add_null.auto.shapes }
+    record {
+      put = λ p k b h. let s = c.args in
+          let w = c.requires in
+          let q = grown_of s.shapes.now c.put_rows.new.shapes s.used s.at 0 c.size-count.result
+          (Copied s.second.now s.from c.size-count.result) c.in-Grown.is
+          c.put_rows.ensures.put in
+          put_member_grown s.shapes.now c.put_rows.new.shapes s.second.now s.used s.at s.from c.size-count.result _ q
+          w.before w.used_within h c.size-count.ensures.read c.add_null.ensures.added c.add_null.auto.shapes;
+    }

@@ -61,20 +61,22 @@ put_rows-requires c =
 
 pub returns-in_default : goal.returns-in_default
 returns-in_default c =
-    record { put = λ p m k a b v. let s = c.args in
-    let w = c.requires.beside in
-    let h = (let puts : let s = c.args in
-    Putting s.shapes.now s.second.now s.row s.other (s.row + c.size.result) c.members-from.result
-    (s.other + c.size-2.result) = let s = c.args in
     record {
-      end_is = ap (λ (i : ℕ). s.row + i) c.size.ensures.read;
-      from_is = c.members-from.ensures.found;
-      to_is = ap (λ (i : ℕ). s.other + i) c.size-2.ensures.read;
-    } in puts) in
-    put_members_full c.requires.lacks c.requires.there h a b v
-    (full_of _ _ _ (s.row + c.size.result) _ _
-    (Copied s.second.now c.members-from.result (s.other + c.size-2.result - c.members-from.result))
-    c.in_default.is c.put_rows.ensures.put) }
+      put = λ p m k a b v. let s = c.args in
+          let w = c.requires.beside in
+          let h = (let puts : let s = c.args in
+          Putting s.shapes.now s.second.now s.row s.other (s.row + c.size.result) c.members-from.result
+          (s.other + c.size-2.result) = let s = c.args in
+          record {
+            end_is = ap (λ (i : ℕ). s.row + i) c.size.ensures.read;
+            from_is = c.members-from.ensures.found;
+            to_is = ap (λ (i : ℕ). s.other + i) c.size-2.ensures.read;
+          } in puts) in
+          put_members_full c.requires.lacks c.requires.there h a b v
+          (full_of _ _ _ (s.row + c.size.result) _ _
+          (Copied s.second.now c.members-from.result (s.other + c.size-2.result - c.members-from.result))
+          c.in_default.is c.put_rows.ensures.put);
+    }
 
 pub grow_head-requires : goal.grow_head-requires
 grow_head-requires c =
@@ -96,17 +98,19 @@ grow_head-requires c =
 
 pub returns : goal.returns
 returns c =
-    record { put = λ p m k a b v. let s = c.args in
-    let w = c.requires.beside in
-    let h = (let puts : let s = c.args in
-    Putting s.shapes.now s.second.now s.row s.other (s.row + c.size.result) c.members-from.result
-    (s.other + c.size-2.result) = let s = c.args in
     record {
-      end_is = ap (λ (i : ℕ). s.row + i) c.size.ensures.read;
-      from_is = c.members-from.ensures.found;
-      to_is = ap (λ (i : ℕ). s.other + i) c.size-2.ensures.read;
-    } in puts) in
-    let q = grown_of s.shapes.now c.put_rows.new.shapes s.used (s.row + c.size.result) 0 _
-    (Copied s.second.now c.members-from.result (s.other + c.size-2.result - c.members-from.result))
-    c.in-Grown.is c.put_rows.ensures.put in
-    put_members_grown c.requires.lacks c.requires.there h a b v q c.grow_head.ensures.told c.grow_head.auto.shapes }
+      put = λ p m k a b v. let s = c.args in
+          let w = c.requires.beside in
+          let h = (let puts : let s = c.args in
+          Putting s.shapes.now s.second.now s.row s.other (s.row + c.size.result) c.members-from.result
+          (s.other + c.size-2.result) = let s = c.args in
+          record {
+            end_is = ap (λ (i : ℕ). s.row + i) c.size.ensures.read;
+            from_is = c.members-from.ensures.found;
+            to_is = ap (λ (i : ℕ). s.other + i) c.size-2.ensures.read;
+          } in puts) in
+          let q = grown_of s.shapes.now c.put_rows.new.shapes s.used (s.row + c.size.result) 0 _
+          (Copied s.second.now c.members-from.result (s.other + c.size-2.result - c.members-from.result))
+          c.in-Grown.is c.put_rows.ensures.put in
+          put_members_grown c.requires.lacks c.requires.there h a b v q c.grow_head.ensures.told c.grow_head.auto.shapes;
+    }

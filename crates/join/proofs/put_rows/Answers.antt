@@ -12,24 +12,26 @@ shape_of-shapes c = search rules
 
 pub returns : goal.returns
 returns c =
-    record { put = let s = c.args in
-    let w = c.requires in
-    let rows = take s.count (drop s.from s.second.now) in
     record {
-      rows = rows;
-      encoded = refl;
-      replaced = inserted
-          s.shapes.now
-          c.open_gap.new.part
-          s.used
-          s.at
-          s.count
-          rows
-          w.before
-          (omega (arith, c.if-shapes-used.false, w.used_within))
-          c.copy_rows.new.shapes
-          (length-take-le s.count (drop s.from s.second.now) (omega (arith, length-drop s.from s.second.now, w.within)))
-          c.open_gap.ensures.opened
-          c.copy_rows.ensures.copied
-          (shape_of-shapes c);
-    } }
+      put = let s = c.args in
+          let w = c.requires in
+          let rows = take s.count (drop s.from s.second.now) in
+          record {
+            rows = rows;
+            encoded = refl;
+            replaced = inserted
+                s.shapes.now
+                c.open_gap.new.part
+                s.used
+                s.at
+                s.count
+                rows
+                w.before
+                (omega (arith, c.if-shapes-used.false, w.used_within))
+                c.copy_rows.new.shapes
+                (length-take-le s.count (drop s.from s.second.now) (omega (arith, length-drop s.from s.second.now, w.within)))
+                c.open_gap.ensures.opened
+                c.copy_rows.ensures.copied
+                (shape_of-shapes c);
+          };
+    }

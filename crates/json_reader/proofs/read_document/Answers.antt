@@ -19,25 +19,37 @@ skip_white-end-requires c = (let value_read : Reads Gap.value 0 c.args.limits.ne
 
 pub returns-then-end-doc : goal.returns-then-end-doc
 returns-then-end-doc c =
-    record { read = document_goes_on c.args.limits c.args.top c.in-Done.to (let value_read : Reads Gap.value 0 c.args.limits.nesting c.args.limits.values c.args.doc.now c.args.nodes.now
-    c.args.pool.now c.read_value-r.new.nodes c.read_value-r.new.pool 0 (start c.args.top)
-    (Done c.in-Done.to) = as_word (sym c.in-Done.is ∙ c.opened.ensures.told) c.read_value-r.ensures.read in value_read)
-    c.skip_white-end.ensures.skipped c.if-end-doc.true }
+    record {
+      read = document_goes_on c.args.limits c.args.top c.in-Done.to
+          (let value_read : Reads Gap.value 0 c.args.limits.nesting c.args.limits.values c.args.doc.now c.args.nodes.now
+          c.args.pool.now c.read_value-r.new.nodes c.read_value-r.new.pool 0 (start c.args.top)
+          (Done c.in-Done.to) = as_word (sym c.in-Done.is ∙ c.opened.ensures.told) c.read_value-r.ensures.read in value_read)
+          c.skip_white-end.ensures.skipped c.if-end-doc.true;
+    }
 
 pub overflow_mul-result : goal.overflow_mul-result
 overflow_mul-result c =
-    omega (arith, (let value_read : Reads Gap.value 0 c.args.limits.nesting c.args.limits.values c.args.doc.now c.args.nodes.now
-    c.args.pool.now c.read_value-r.new.nodes c.read_value-r.new.pool 0 (start c.args.top)
-    (Done c.in-Done.to) = as_word (sym c.in-Done.is ∙ c.opened.ensures.told) c.read_value-r.ensures.read in value_read).answer.moves.limit, c.requires.few)
+    omega (
+      arith,
+      (let value_read : Reads Gap.value 0 c.args.limits.nesting c.args.limits.values c.args.doc.now c.args.nodes.now
+          c.args.pool.now c.read_value-r.new.nodes c.read_value-r.new.pool 0 (start c.args.top)
+          (Done c.in-Done.to) = as_word (sym c.in-Done.is ∙ c.opened.ensures.told) c.read_value-r.ensures.read in value_read).answer.moves.limit,
+      c.requires.few,
+    )
 
 pub returns-else-end-doc : goal.returns-else-end-doc
 returns-else-end-doc c =
-    record { read = document_read c.args.limits c.args.top c.in-Done.to (let value_read : Reads Gap.value 0 c.args.limits.nesting c.args.limits.values c.args.doc.now c.args.nodes.now
-    c.args.pool.now c.read_value-r.new.nodes c.read_value-r.new.pool 0 (start c.args.top)
-    (Done c.in-Done.to) = as_word (sym c.in-Done.is ∙ c.opened.ensures.told) c.read_value-r.ensures.read in value_read)
-    c.skip_white-end.ensures.skipped c.requires c.if-end-doc.false }
+    record {
+      read = document_read c.args.limits c.args.top c.in-Done.to
+          (let value_read : Reads Gap.value 0 c.args.limits.nesting c.args.limits.values c.args.doc.now c.args.nodes.now
+          c.args.pool.now c.read_value-r.new.nodes c.read_value-r.new.pool 0 (start c.args.top)
+          (Done c.in-Done.to) = as_word (sym c.in-Done.is ∙ c.opened.ensures.told) c.read_value-r.ensures.read in value_read)
+          c.skip_white-end.ensures.skipped c.requires c.if-end-doc.false;
+    }
 
 pub returns-in-Refused : goal.returns-in-Refused
 returns-in-Refused c =
-    record { read = document_refused c.args.limits c.args.top
-    (as_word (sym c.in-Refused.is ∙ c.opened.ensures.told) c.read_value-r.ensures.read) }
+    record {
+      read = document_refused c.args.limits c.args.top
+          (as_word (sym c.in-Refused.is ∙ c.opened.ensures.told) c.read_value-r.ensures.read);
+    }

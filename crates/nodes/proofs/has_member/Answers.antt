@@ -1,5 +1,4 @@
 -- `nodes::has_member` meets its contract: what is left of the members has the name where all have it. Assumes nothing.
-use Prim.Native.Nat.{◌-◌}
 use mathlib.Core.Path.{refl}
 use native.Mathlib.Omega.{arith}
 use Rattle.pool.specs.PoolLaws.{length_held}
@@ -41,12 +40,14 @@ same_held-requires c =
 
 pub returns-then-same_held : goal.returns-then-same_held
 returns-then-same_held c =
-    record { found = let a = c.args in
-    walk_found a.nodes.now a.pool.now a.at a.end a.name c.loop-i.invariant refl
-    (compared_parts a.pool.now a.name _ c.text_word-w.ensures.split c.text_bytes.ensures.split
-    c.held-n.ensures.counted c.text_word.ensures.split c.text_bytes-in-loop-i.ensures.split
-    c.same_held.ensures.compared)
-    c.loop-i-test.true c.if-same_held.true }
+    record {
+      found = let a = c.args in
+          walk_found a.nodes.now a.pool.now a.at a.end a.name c.loop-i.invariant refl
+          (compared_parts a.pool.now a.name _ c.text_word-w.ensures.split c.text_bytes.ensures.split
+          c.held-n.ensures.counted c.text_word.ensures.split c.text_bytes-in-loop-i.ensures.split
+          c.same_held.ensures.compared)
+          c.loop-i-test.true c.if-same_held.true;
+    }
 
 pub row_size_in-i-requires : goal.row_size_in-i-requires
 row_size_in-i-requires c =
@@ -77,5 +78,7 @@ loop-i-preserved c =
 
 pub returns : goal.returns
 returns c =
-    record { found = let a = c.args in
-    walk_ends a.nodes.now a.pool.now a.at a.end a.name c.loop-i.invariant c.loop-i-test.false }
+    record {
+      found = let a = c.args in
+          walk_ends a.nodes.now a.pool.now a.at a.end a.name c.loop-i.invariant c.loop-i-test.false;
+    }

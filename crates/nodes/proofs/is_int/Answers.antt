@@ -30,10 +30,12 @@ loop-left-init c = refl
 
 pub returns-then-digits-ne0 : goal.returns-then-digits-ne0
 returns-then-digits-ne0 c =
-    record { told = λ x e f. let at-loop = c.loop-left in
-    no_zero at-loop.left at-loop.digits c.loop-left-test.true c.if-digits-ne0.true
-    ∙ sym at-loop.invariant
-    ∙ int_told x c.args.bits c.args.coefficient e f }
+    record {
+      told = λ x e f. let at-loop = c.loop-left in
+          no_zero at-loop.left at-loop.digits c.loop-left-test.true c.if-digits-ne0.true
+          ∙ sym at-loop.invariant
+          ∙ int_told x c.args.bits c.args.coefficient e f;
+    }
 
 pub overflow_sub-left : goal.overflow_sub-left
 overflow_sub-left c = omega (arith, c.loop-left-test.true)
@@ -48,7 +50,9 @@ loop-left-preserved c =
 
 pub returns : goal.returns
 returns c =
-    record { told = λ x e f. let at-loop = c.loop-left in
-    none_left at-loop.left at-loop.digits (omega (arith, c.loop-left-test.false))
-    ∙ sym at-loop.invariant
-    ∙ int_told x c.args.bits c.args.coefficient e f }
+    record {
+      told = λ x e f. let at-loop = c.loop-left in
+          none_left at-loop.left at-loop.digits (omega (arith, c.loop-left-test.false))
+          ∙ sym at-loop.invariant
+          ∙ int_told x c.args.bits c.args.coefficient e f;
+    }

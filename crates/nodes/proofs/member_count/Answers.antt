@@ -1,5 +1,4 @@
 -- `nodes::member_count` meets its contract. The loop's invariant is `Counting`. Assumes nothing.
-use Prim.Native.Nat.{◌-◌}
 use native.Mathlib.Omega.{arith}
 use Rattle.nodes.proofs.Counting.{count_begins, count_step, count_on, count_ends}
 use Rattle.nodes.proofs.member_count.Goals as goal

@@ -18,4 +18,7 @@ unfolding head_word kind_code number_bits
 bits_of x n h e = omega (arith, sign_le x.negative)
 
 pub returns : goal.returns
-returns c = record { told = λ x h. c.is_int.ensures.told x (ap (λ (n : ℕ). n / 8 % 32) c.word.ensures.read ∙ bits_of x _ h.small h.head) (c.row_payload.ensures.read ∙ h.payload) }
+returns c = record {
+  told = λ x h. c.is_int.ensures.told x (ap (λ (n : ℕ). n / 8 % 32) c.word.ensures.read
+      ∙ bits_of x _ h.small h.head) (c.row_payload.ensures.read ∙ h.payload);
+}

@@ -19,13 +19,12 @@ pub overflow_add-point : goal.overflow_add-point
 overflow_add-point c = omega (arith, (whole_digits c.whole_end-point.ensures).within)
 
 pub digits_value-whole-requires : goal.digits_value-whole-requires
-digits_value-whole-requires c =
-     (
-      start_before c.stands_at-negative.ensures c.behind_minus-start.ensures c.whole_end-point.ensures
-          c.fraction_end-end.ensures
-          c.may_go_on.result c.if-point-start.false,
-      whole_digits c.whole_end-point.ensures,
-    )
+digits_value-whole-requires c = (
+  start_before c.stands_at-negative.ensures c.behind_minus-start.ensures c.whole_end-point.ensures
+      c.fraction_end-end.ensures
+      c.may_go_on.result c.if-point-start.false,
+  whole_digits c.whole_end-point.ensures,
+)
 
 pub returns-then-end-point : goal.returns-then-end-point
 returns-then-end-point c =
@@ -39,13 +38,12 @@ overflow_add-first c =
     omega (arith, (whole_digits c.whole_end-point.ensures).within)
 
 pub digits_value-coefficient-requires : goal.digits_value-coefficient-requires
-digits_value-coefficient-requires c =
-     (
-      first_before c.stands_at-negative.ensures c.behind_minus-start.ensures
-          c.whole_end-point.ensures c.fraction_end-end.ensures
-          c.may_go_on.result c.if-point-start.false c.if-end-point.false,
-      fraction_digits c.fraction_end-end.ensures c.if-end-point.false,
-    )
+digits_value-coefficient-requires c = (
+  first_before c.stands_at-negative.ensures c.behind_minus-start.ensures
+      c.whole_end-point.ensures c.fraction_end-end.ensures
+      c.may_go_on.result c.if-point-start.false c.if-end-point.false,
+  fraction_digits c.fraction_end-end.ensures c.if-end-point.false,
+)
 
 pub overflow_sub-end : goal.overflow_sub-end
 overflow_sub-end c =

@@ -1,6 +1,5 @@
 -- `number::read_on` meets its contract. The loop's invariant is `Reading`: the run from `at` is the run from here.
 -- Assumes nothing.
-use Prim.Native.Nat.{◌-◌}
 use native.Mathlib.Omega.{arith}
 use Rattle.number.proofs.Reading.{begins, goes_on, stops, ends, takes}
 use Rattle.number.proofs.read_on.Goals as goal

@@ -8,9 +8,11 @@ use Rattle.operations.proofs.admits.Goals as goal
 pub returns-then-stop-ne0 : goal.returns-then-stop-ne0
 unfolding admits_operation
 returns-then-stop-ne0 c =
-    record { answered = says_before c.judge_shape_document-stop.ensures.told
-    (admits_judged read_json c.args.limits c.args.shape.now c.args.document.now)
-    c.if-stop-ne0.true c.refusal.ensures.set }
+    record {
+      answered = says_before c.judge_shape_document-stop.ensures.told
+          (admits_judged read_json c.args.limits c.args.shape.now c.args.document.now)
+          c.if-stop-ne0.true c.refusal.ensures.set;
+    }
 
 pub admits-requires : goal.admits-requires
 admits-requires c =
@@ -20,6 +22,8 @@ admits-requires c =
 pub returns : goal.returns
 unfolding admits_operation source
 returns c =
-    record { answered = says_behind c.judge_shape_document-stop.ensures.told
-    (admits_judged read_json c.args.limits c.args.shape.now c.args.document.now) c.if-stop-ne0.false
-    c.admits.ensures.answered }
+    record {
+      answered = says_behind c.judge_shape_document-stop.ensures.told
+          (admits_judged read_json c.args.limits c.args.shape.now c.args.document.now) c.if-stop-ne0.false
+          c.admits.ensures.answered;
+    }

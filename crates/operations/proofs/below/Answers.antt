@@ -7,8 +7,10 @@ use Rattle.operations.proofs.below.Goals as goal
 pub returns-then-stop-ne0 : goal.returns-then-stop-ne0
 unfolding below_operation
 returns-then-stop-ne0 c =
-    record { answered = says_before c.judge_two_shapes-stop.ensures.told
-    (below_judged c.args.limits c.args.first.now c.args.second.now) c.if-stop-ne0.true c.refusal.ensures.set }
+    record {
+      answered = says_before c.judge_two_shapes-stop.ensures.told
+          (below_judged c.args.limits c.args.first.now c.args.second.now) c.if-stop-ne0.true c.refusal.ensures.set;
+    }
 
 pub below-requires : goal.below-requires
 below-requires c =
@@ -18,5 +20,7 @@ below-requires c =
 pub returns : goal.returns
 unfolding below_operation
 returns c =
-    record { answered = says_behind c.judge_two_shapes-stop.ensures.told (below_judged c.args.limits c.args.first.now c.args.second.now)
-    c.if-stop-ne0.false c.below.ensures.answered }
+    record {
+      answered = says_behind c.judge_two_shapes-stop.ensures.told (below_judged c.args.limits c.args.first.now c.args.second.now)
+          c.if-stop-ne0.false c.below.ensures.answered;
+    }

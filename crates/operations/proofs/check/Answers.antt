@@ -50,12 +50,18 @@ check-requires c =
     let e = enough_checked c.if-stop-ne0.false c.args.forms.now c.args.shapes.now c.args.results.now
     c.args.bindings.now c.args.pool.now c.judge_reader_shape-stop.ensures.told
     c.shape_words-read.ensures.counted in
-    let s = small_at c.if-stop-ne0.false c.judge_reader_shape-stop.ensures.told in record { check_slices = for_cut_check c.if-stop-ne0.false c.args.forms.now c.args.shapes.now c.args.results.now c.args.bindings.now
+    let s = small_at c.if-stop-ne0.false c.judge_reader_shape-stop.ensures.told in
+    record {
+      check_slices = for_cut_check c.if-stop-ne0.false c.args.forms.now c.args.shapes.now c.args.results.now c.args.bindings.now
           c.args.pool.now c.judge_reader_shape-stop.ensures.told c.shape_words-read.ensures.counted
-          c.args.reader.now c.args.shape.now; table = omega (arith, length-take-le _ c.args.shapes.now e.0, c.shape_words-read.ensures.counted, s.values); grown = omega (arith, length-take-le _ c.args.results.now e.1, s.values) }
+          c.args.reader.now c.args.shape.now;
+      table = omega (arith, length-take-le _ c.args.shapes.now e.0, c.shape_words-read.ensures.counted, s.values);
+      grown = omega (arith, length-take-le _ c.args.results.now e.1, s.values);
+    }
 
 pub returns : goal.returns
 unfolding check_operation
 returns c =
     let facts = finishes_behind c.judge_reader_shape-stop.ensures.told c.args.output.now
-    (check_judged c.args.limits c.args.reader.now c.args.shape.now) c.if-stop-ne0.false (c.check.ensures.answered, c.check.ensures.written) in record { answered = facts.0; written = facts.1 }
+    (check_judged c.args.limits c.args.reader.now c.args.shape.now) c.if-stop-ne0.false (c.check.ensures.answered, c.check.ensures.written) in
+    record { answered = facts.0; written = facts.1 }

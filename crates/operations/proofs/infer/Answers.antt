@@ -34,8 +34,12 @@ pub infer-requires : goal.infer-requires
 infer-requires c =
     let h = enough c.if-stop-ne0.false c.args.shapes.now c.args.nodes.now c.args.pool.now
     c.judge_shape_document-stop.ensures.told in
-    let s = small_at c.if-stop-ne0.false c.judge_shape_document-stop.ensures.told in record { grown_document_slices = for_cut c.if-stop-ne0.false c.args.shapes.now c.args.nodes.now c.args.pool.now
-          c.judge_shape_document-stop.ensures.told c.args.shape.now c.args.document.now; table = omega (arith, length-take-le _ c.args.shapes.now h, s.values) }
+    let s = small_at c.if-stop-ne0.false c.judge_shape_document-stop.ensures.told in
+    record {
+      grown_document_slices = for_cut c.if-stop-ne0.false c.args.shapes.now c.args.nodes.now c.args.pool.now
+          c.judge_shape_document-stop.ensures.told c.args.shape.now c.args.document.now;
+      table = omega (arith, length-take-le _ c.args.shapes.now h, s.values);
+    }
 
 pub returns : goal.returns
 unfolding infer_operation source

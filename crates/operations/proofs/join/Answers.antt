@@ -32,11 +32,16 @@ pub join-requires : goal.join-requires
 join-requires c =
     let h = enough_pair c.if-stop-ne0.false c.args.shapes.now c.args.others.now c.args.pool.now
     c.judge_two_shapes-stop.ensures.told in
-    let s = small_at c.if-stop-ne0.false c.judge_two_shapes-stop.ensures.told in record { grown_shapes_slices = for_cut_pair c.if-stop-ne0.false c.args.shapes.now c.args.others.now c.args.pool.now
-          c.judge_two_shapes-stop.ensures.told c.args.first.now c.args.second.now; table = omega (arith, length-take-le _ c.args.shapes.now h, s.values) }
+    let s = small_at c.if-stop-ne0.false c.judge_two_shapes-stop.ensures.told in
+    record {
+      grown_shapes_slices = for_cut_pair c.if-stop-ne0.false c.args.shapes.now c.args.others.now c.args.pool.now
+          c.judge_two_shapes-stop.ensures.told c.args.first.now c.args.second.now;
+      table = omega (arith, length-take-le _ c.args.shapes.now h, s.values);
+    }
 
 pub returns : goal.returns
 unfolding join_operation
 returns c =
     let facts = finishes_behind c.judge_two_shapes-stop.ensures.told c.args.output.now
-    (join_judged c.args.limits c.args.first.now c.args.second.now) c.if-stop-ne0.false (c.join.ensures.answered, c.join.ensures.written) in record { answered = facts.0; written = facts.1 }
+    (join_judged c.args.limits c.args.first.now c.args.second.now) c.if-stop-ne0.false (c.join.ensures.answered, c.join.ensures.written) in
+    record { answered = facts.0; written = facts.1 }

@@ -20,4 +20,5 @@ pub returns : goal.returns
 unfolding plain_operation source
 returns c =
     let facts = finishes_behind c.judge_document-stop.ensures.told c.args.output.now
-    (plain_judged read_json c.args.limits c.args.document.now) c.if-stop-ne0.false (c.plain.ensures.answered, c.plain.ensures.written) in record { answered = facts.0; written = facts.1 }
+    (plain_judged read_json c.args.limits c.args.document.now) c.if-stop-ne0.false (c.plain.ensures.answered, c.plain.ensures.written) in
+    record { answered = facts.0; written = facts.1 }

@@ -52,9 +52,14 @@ run-requires c =
     let e = enough_read c.if-stop-ne0.false c.args.forms.now c.args.nodes.now c.args.results.now
     c.args.bindings.now c.args.pool.now c.judge_reader_document-stop.ensures.told
     c.value_words-read.ensures.counted in
-    let s = small_at c.if-stop-ne0.false c.judge_reader_document-stop.ensures.told in record { run_slices = for_cut_run c.if-stop-ne0.false c.args.forms.now c.args.nodes.now c.args.results.now c.args.bindings.now
+    let s = small_at c.if-stop-ne0.false c.judge_reader_document-stop.ensures.told in
+    record {
+      run_slices = for_cut_run c.if-stop-ne0.false c.args.forms.now c.args.nodes.now c.args.results.now c.args.bindings.now
           c.args.pool.now c.judge_reader_document-stop.ensures.told c.value_words-read.ensures.counted
-          c.args.reader.now c.args.document.now; table = omega (arith, length-take-le _ c.args.nodes.now e.0, c.value_words-read.ensures.counted, s.values); made = omega (arith, length-take-le _ c.args.results.now e.1, s.values) }
+          c.args.reader.now c.args.document.now;
+      table = omega (arith, length-take-le _ c.args.nodes.now e.0, c.value_words-read.ensures.counted, s.values);
+      made = omega (arith, length-take-le _ c.args.results.now e.1, s.values);
+    }
 
 pub returns : goal.returns
 unfolding run_operation source

@@ -1,27 +1,24 @@
 -- The proof of the cycle of calls {below, below_element, below_fields, below_record}: the nesting left falls. Assumes nothing.
-use Prim.Native.Nat.{◌-◌}
 use native.Mathlib.Omega.{arith}
 use Rattle.shapes.specs.HeldLaws.{held_within, some_listed, members_within}
 use Rattle.order.proofs.Named as named
 use Rattle.order.proofs.Wholes.{some_level, Passed, kinds_fail, kinds_pass, parts_asked, element_fails, record_tells, without_list}
 use Rattle.order.proofs.Wholes.{list_asks, list_told, without_rec, records_here, nulls_asks, fields_asks, fields_fail, nulls_told}
-use Rattle.order.proofs.below as below
-use Rattle.order.proofs.below_element as below_element
-use Rattle.order.proofs.below_fields as below_fields
-use Rattle.order.proofs.below_record as below_record
 use Rattle.std.proofs.Common.{ap, not}
 use Rattle.order.proofs.+below_below_element_below_fields_below_record.Goals as goal
 
 pub below-returns-then-not-is_within : goal.below-returns-then-not-is_within
 below-returns-then-not-is_within t c =
-    record { told = kinds_fail c.args.first.now c.args.a c.args.second.now c.args.b c.args.pool.now
-    c.kinds-kinds.ensures.read c.kinds-others.ensures.read c.is_within.ensures.told (ap not c.if-not-is_within.true) }
+    record {
+      told = kinds_fail c.args.first.now c.args.a c.args.second.now c.args.b c.args.pool.now
+          c.kinds-kinds.ensures.read c.kinds-others.ensures.read c.is_within.ensures.told (ap not c.if-not-is_within.true);
+    }
 
 pub below-below_element-requires : goal.below-below_element-requires
 below-below_element-requires t c =
-    let passed : Passed c.args.first.now c.args.a c.args.second.now c.args.b c.args.pool.now = kinds_pass c.args.first.now c.args.a c.args.second.now c.args.b c.args.pool.now
-    c.kinds-kinds.ensures.read c.kinds-others.ensures.read c.is_within.ensures.told (ap not c.if-not-is_within.false) in
-    (
+    let passed : Passed c.args.first.now c.args.a c.args.second.now c.args.b c.args.pool.now =
+    kinds_pass c.args.first.now c.args.a c.args.second.now c.args.b c.args.pool.now
+    c.kinds-kinds.ensures.read c.kinds-others.ensures.read c.is_within.ensures.told (ap not c.if-not-is_within.false) in (
       omega (arith, c.decreases, c.requires.deep, some_level c.requires.shape),
       parts_asked c.args.first.now c.args.a c.args.second.now c.args.b c.args.pool.now
           passed c.requires,
@@ -29,16 +26,19 @@ below-below_element-requires t c =
 
 pub below-returns-then-not-below_element : goal.below-returns-then-not-below_element
 below-returns-then-not-below_element t c =
-    let passed : Passed c.args.first.now c.args.a c.args.second.now c.args.b c.args.pool.now = kinds_pass c.args.first.now c.args.a c.args.second.now c.args.b c.args.pool.now
+    let passed : Passed c.args.first.now c.args.a c.args.second.now c.args.b c.args.pool.now =
+    kinds_pass c.args.first.now c.args.a c.args.second.now c.args.b c.args.pool.now
     c.kinds-kinds.ensures.read c.kinds-others.ensures.read c.is_within.ensures.told (ap not c.if-not-is_within.false) in
-    record { told = element_fails c.args.first.now c.args.a c.args.second.now c.args.b c.args.pool.now
-    passed c.below_element.ensures.told (ap not c.if-not-below_element.true) }
+    record {
+      told = element_fails c.args.first.now c.args.a c.args.second.now c.args.b c.args.pool.now
+          passed c.below_element.ensures.told (ap not c.if-not-below_element.true);
+    }
 
 pub below-below_record-requires : goal.below-below_record-requires
 below-below_record-requires t c =
-    let passed : Passed c.args.first.now c.args.a c.args.second.now c.args.b c.args.pool.now = kinds_pass c.args.first.now c.args.a c.args.second.now c.args.b c.args.pool.now
-    c.kinds-kinds.ensures.read c.kinds-others.ensures.read c.is_within.ensures.told (ap not c.if-not-is_within.false) in
-    (
+    let passed : Passed c.args.first.now c.args.a c.args.second.now c.args.b c.args.pool.now =
+    kinds_pass c.args.first.now c.args.a c.args.second.now c.args.b c.args.pool.now
+    c.kinds-kinds.ensures.read c.kinds-others.ensures.read c.is_within.ensures.told (ap not c.if-not-is_within.false) in (
       omega (arith, c.decreases, c.requires.deep, some_level c.requires.shape),
       parts_asked c.args.first.now c.args.a c.args.second.now c.args.b c.args.pool.now
           passed c.requires,
@@ -46,11 +46,14 @@ below-below_record-requires t c =
 
 pub below-returns : goal.below-returns
 below-returns t c =
-    let passed : Passed c.args.first.now c.args.a c.args.second.now c.args.b c.args.pool.now = kinds_pass c.args.first.now c.args.a c.args.second.now c.args.b c.args.pool.now
+    let passed : Passed c.args.first.now c.args.a c.args.second.now c.args.b c.args.pool.now =
+    kinds_pass c.args.first.now c.args.a c.args.second.now c.args.b c.args.pool.now
     c.kinds-kinds.ensures.read c.kinds-others.ensures.read c.is_within.ensures.told (ap not c.if-not-is_within.false) in
-    record { told = record_tells c.args.first.now c.args.a c.args.second.now c.args.b c.args.pool.now
-    passed c.below_element.ensures.told (ap not c.if-not-below_element.false)
-    c.below_record.ensures.told }
+    record {
+      told = record_tells c.args.first.now c.args.a c.args.second.now c.args.b c.args.pool.now
+          passed c.below_element.ensures.told (ap not c.if-not-below_element.false)
+          c.below_record.ensures.told;
+    }
 
 pub below_element-overflow_add-a : goal.below_element-overflow_add-a
 below_element-overflow_add-a t c =
@@ -65,22 +68,25 @@ below_element-overflow_sub-left t c =
     omega (arith, c.requires.asked.deep, some_level c.requires.asked.shape)
 
 pub below_element-below-requires : goal.below_element-below-requires
-below_element-below-requires t c =
-    (
-      omega (arith, c.decreases, c.requires.asked.deep, some_level c.requires.asked.shape),
-      list_asks c.args.first.now c.args.a c.args.second.now c.args.b c.args.pool.now
-          c.kinds.ensures.read c.has.ensures.told c.if-has.true c.requires,
-    )
+below_element-below-requires t c = (
+  omega (arith, c.decreases, c.requires.asked.deep, some_level c.requires.asked.shape),
+  list_asks c.args.first.now c.args.a c.args.second.now c.args.b c.args.pool.now
+      c.kinds.ensures.read c.has.ensures.told c.if-has.true c.requires,
+)
 
 pub below_element-returns-then-has : goal.below_element-returns-then-has
 below_element-returns-then-has t c =
-    record { told = list_told c.args.first.now c.args.a c.args.second.now c.args.b c.args.pool.now
-    c.kinds.ensures.read c.has.ensures.told c.if-has.true c.below.ensures.told }
+    record {
+      told = list_told c.args.first.now c.args.a c.args.second.now c.args.b c.args.pool.now
+          c.kinds.ensures.read c.has.ensures.told c.if-has.true c.below.ensures.told;
+    }
 
 pub below_element-returns : goal.below_element-returns
 below_element-returns t c =
-    record { told = without_list c.args.first.now c.args.a c.args.second.now c.args.b c.args.pool.now
-    c.kinds.ensures.read c.has.ensures.told c.if-has.false }
+    record {
+      told = without_list c.args.first.now c.args.a c.args.second.now c.args.b c.args.pool.now
+          c.kinds.ensures.read c.has.ensures.told c.if-has.false;
+    }
 
 pub below_fields-loop-i-init : goal.below_fields-loop-i-init
 below_fields-loop-i-init t c =
@@ -93,29 +99,32 @@ below_fields-find_named-named-requires t c =
 
 pub below_fields-returns-in_default : goal.below_fields-returns-in_default
 below_fields-returns-in_default t c =
-    record { told = named.walk_misses c.args.first.now c.args.from c.args.to c.args.second.now c.args.at
-    c.args.end c.args.pool.now c.loop-i.invariant c.loop-i-test.true
-    c.find_named-named.result c.name.ensures.read
-    c.find_named-named.ensures.told c.in_default.is }
+    record {
+      told = named.walk_misses c.args.first.now c.args.from c.args.to c.args.second.now c.args.at
+          c.args.end c.args.pool.now c.loop-i.invariant c.loop-i-test.true
+          c.find_named-named.result c.name.ensures.read
+          c.find_named-named.ensures.told c.in_default.is;
+    }
 
 pub below_fields-below-requires : goal.below_fields-below-requires
-below_fields-below-requires t c =
-    (
-      omega (arith, c.decreases),
-      named.walk_asks c.args.first.now c.args.from c.args.to c.args.second.now c.args.at
-          c.args.end c.args.pool.now c.loop-i.invariant
-          c.loop-i-test.true
-          c.find_named-named.result c.name.ensures.read
-          c.find_named-named.ensures.told c.in-Found.is c.requires,
-    )
+below_fields-below-requires t c = (
+  omega (arith, c.decreases),
+  named.walk_asks c.args.first.now c.args.from c.args.to c.args.second.now c.args.at
+      c.args.end c.args.pool.now c.loop-i.invariant
+      c.loop-i-test.true
+      c.find_named-named.result c.name.ensures.read
+      c.find_named-named.ensures.told c.in-Found.is c.requires,
+)
 
 pub below_fields-returns-then-not-below : goal.below_fields-returns-then-not-below
 below_fields-returns-then-not-below t c =
-    record { told = named.walk_fails c.args.first.now c.args.from c.args.to c.args.second.now c.args.at
-    c.args.end c.args.pool.now c.loop-i.invariant c.loop-i-test.true
-    c.find_named-named.result c.name.ensures.read
-    c.find_named-named.ensures.told c.in-Found.is
-    c.below.ensures.told (ap not c.if-not-below.true) }
+    record {
+      told = named.walk_fails c.args.first.now c.args.from c.args.to c.args.second.now c.args.at
+          c.args.end c.args.pool.now c.loop-i.invariant c.loop-i-test.true
+          c.find_named-named.result c.name.ensures.read
+          c.find_named-named.ensures.told c.in-Found.is
+          c.below.ensures.told (ap not c.if-not-below.true);
+    }
 
 pub below_fields-overflow_add-i : goal.below_fields-overflow_add-i
 below_fields-overflow_add-i t c =
@@ -139,18 +148,23 @@ below_fields-loop-i-preserved t c =
 
 pub below_fields-returns : goal.below_fields-returns
 below_fields-returns t c =
-    record { told = named.walk_ends c.args.first.now c.args.from c.args.to c.args.second.now c.args.at
-    c.args.end c.args.pool.now c.loop-i.invariant c.loop-i-test.false }
+    record {
+      told = named.walk_ends c.args.first.now c.args.from c.args.to c.args.second.now c.args.at
+          c.args.end c.args.pool.now c.loop-i.invariant c.loop-i-test.false;
+    }
 
 pub below_record-members-from-requires : goal.below_record-members-from-requires
 below_record-members-from-requires t c =
-    record { row_in_bounds = omega (arith, (held_within c.requires.asked.held).0, (held_within c.requires.asked.held).1); within = omega (
+    record {
+      row_in_bounds = omega (arith, (held_within c.requires.asked.held).0, (held_within c.requires.asked.held).1);
+      within = omega (
         arith,
         members_within (records_here c.args.first.now c.args.a c.args.second.now c.args.b
             c.args.pool.now c.kinds.ensures.read c.has.ensures.told c.if-has.true c.requires).held,
         (held_within c.requires.asked.held).1,
         c.well_formed.0.0,
-      ) }
+      );
+    }
 
 pub below_record-overflow_add-to : goal.below_record-overflow_add-to
 below_record-overflow_add-to t c =
@@ -158,14 +172,17 @@ below_record-overflow_add-to t c =
 
 pub below_record-members-at-requires : goal.below_record-members-at-requires
 below_record-members-at-requires t c =
-    record { row_in_bounds = omega (arith, (held_within c.requires.asked.holds).0, (held_within c.requires.asked.holds).1); within = omega (
+    record {
+      row_in_bounds = omega (arith, (held_within c.requires.asked.holds).0, (held_within c.requires.asked.holds).1);
+      within = omega (
         arith,
         members_within (records_here c.args.first.now c.args.a c.args.second.now c.args.b
             c.args.pool.now c.kinds.ensures.read c.has.ensures.told c.if-has.true
             c.requires).holds,
         (held_within c.requires.asked.holds).1,
         c.well_formed.1.0.0,
-      ) }
+      );
+    }
 
 pub below_record-overflow_add-end : goal.below_record-overflow_add-end
 below_record-overflow_add-end t c =
@@ -176,20 +193,21 @@ below_record-overflow_sub-left t c =
     omega (arith, c.requires.asked.deep, some_level c.requires.asked.shape)
 
 pub below_record-below_fields-requires : goal.below_record-below_fields-requires
-below_record-below_fields-requires t c =
-    (
-      omega (arith, c.decreases, c.requires.asked.deep, some_level c.requires.asked.shape),
-      fields_asks c.args.first.now c.args.a c.args.second.now c.args.b c.args.pool.now
-          c.kinds.ensures.read c.has.ensures.told c.if-has.true c.members-from.ensures.found
-          c.size.ensures.read c.members-at.ensures.found c.size-then-has.ensures.read c.requires,
-    )
+below_record-below_fields-requires t c = (
+  omega (arith, c.decreases, c.requires.asked.deep, some_level c.requires.asked.shape),
+  fields_asks c.args.first.now c.args.a c.args.second.now c.args.b c.args.pool.now
+      c.kinds.ensures.read c.has.ensures.told c.if-has.true c.members-from.ensures.found
+      c.size.ensures.read c.members-at.ensures.found c.size-then-has.ensures.read c.requires,
+)
 
 pub below_record-returns-then-not-below_fields : goal.below_record-returns-then-not-below_fields
 below_record-returns-then-not-below_fields t c =
-    record { told = fields_fail c.args.first.now c.args.a c.args.second.now c.args.b c.args.pool.now
-    c.kinds.ensures.read c.has.ensures.told c.if-has.true
-    c.members-from.ensures.found c.size.ensures.read c.members-at.ensures.found c.size-then-has.ensures.read
-    c.below_fields.ensures.told (ap not c.if-not-below_fields.true) }
+    record {
+      told = fields_fail c.args.first.now c.args.a c.args.second.now c.args.b c.args.pool.now
+          c.kinds.ensures.read c.has.ensures.told c.if-has.true
+          c.members-from.ensures.found c.size.ensures.read c.members-at.ensures.found c.size-then-has.ensures.read
+          c.below_fields.ensures.told (ap not c.if-not-below_fields.true);
+    }
 
 pub below_record-lacked_have_null-requires : goal.below_record-lacked_have_null-requires
 below_record-lacked_have_null-requires t c =
@@ -200,13 +218,17 @@ below_record-lacked_have_null-requires t c =
 
 pub below_record-returns-then-has : goal.below_record-returns-then-has
 below_record-returns-then-has t c =
-    record { told = nulls_told c.args.first.now c.args.a c.args.second.now c.args.b c.args.pool.now
-    c.kinds.ensures.read c.has.ensures.told c.if-has.true
-    c.members-from.ensures.found c.size.ensures.read c.members-at.ensures.found
-    c.size-then-has.ensures.read
-    c.below_fields.ensures.told (ap not c.if-not-below_fields.false) c.lacked_have_null.ensures.told }
+    record {
+      told = nulls_told c.args.first.now c.args.a c.args.second.now c.args.b c.args.pool.now
+          c.kinds.ensures.read c.has.ensures.told c.if-has.true
+          c.members-from.ensures.found c.size.ensures.read c.members-at.ensures.found
+          c.size-then-has.ensures.read
+          c.below_fields.ensures.told (ap not c.if-not-below_fields.false) c.lacked_have_null.ensures.told;
+    }
 
 pub below_record-returns : goal.below_record-returns
 below_record-returns t c =
-    record { told = without_rec c.args.first.now c.args.a c.args.second.now c.args.b c.args.pool.now
-    c.kinds.ensures.read c.has.ensures.told c.if-has.false }
+    record {
+      told = without_rec c.args.first.now c.args.a c.args.second.now c.args.b c.args.pool.now
+          c.kinds.ensures.read c.has.ensures.told c.if-has.false;
+    }

@@ -1,10 +1,6 @@
 -- The measures and invariants of the cycle of calls. Assumes nothing.
 use Prim.Native.Nat.{◌+◌, ◌-◌, ◌*◌}
 use Rattle.order.proofs.Named as named
-use Rattle.order.proofs.below as below
-use Rattle.order.proofs.below_element as below_element
-use Rattle.order.proofs.below_fields as below_fields
-use Rattle.order.proofs.below_record as below_record
 use Rattle.order.proofs.+below_below_element_below_fields_below_record.Given as goal
 
 abbrev pub decreases-below : goal.decreases-below

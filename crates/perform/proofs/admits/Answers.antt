@@ -14,9 +14,11 @@ admits-requires c =
 pub returns-in-Read : goal.returns-in-Read
 unfolding admits_judged say
 returns-in-Read c =
-    record { answered = let b = both_passes c.shape_document.ensures.judged c.in-Read.is in
-    let e = c.admits.ensures.told b.first (shape_held b.held.shape) b.second (value_held b.held.value) in
-    says_passed _ b.judged (c.said.ensures.set ∙ ap said e) }
+    record {
+      answered = let b = both_passes c.shape_document.ensures.judged c.in-Read.is in
+          let e = c.admits.ensures.told b.first (shape_held b.held.shape) b.second (value_held b.held.value) in
+          says_passed _ b.judged (c.said.ensures.set ∙ ap said e);
+    }
 
 pub returns-in-Refused : goal.returns-in-Refused
 unfolding admits_judged

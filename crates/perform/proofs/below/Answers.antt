@@ -14,9 +14,11 @@ below-requires c =
 pub returns-in-Read : goal.returns-in-Read
 unfolding below_judged say
 returns-in-Read c =
-    record { answered = let b = both_passes c.two_shapes.ensures.judged c.in-Read.is in
-    let e = c.below.ensures.told b.first (shape_held b.held.one) b.second (shape_held b.held.other) in
-    says_passed _ b.judged (c.said.ensures.set ∙ ap said e) }
+    record {
+      answered = let b = both_passes c.two_shapes.ensures.judged c.in-Read.is in
+          let e = c.below.ensures.told b.first (shape_held b.held.one) b.second (shape_held b.held.other) in
+          says_passed _ b.judged (c.said.ensures.set ∙ ap said e);
+    }
 
 pub returns-in-Refused : goal.returns-in-Refused
 unfolding below_judged

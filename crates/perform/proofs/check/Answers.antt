@@ -13,13 +13,20 @@ reader_shape-requires c =
 pub check-requires : goal.check-requires
 check-requires c =
     let b = both_passes c.reader_shape.ensures.judged c.in-Read.is in
-    record { reader_asked = checkable b.held c.args.bindings.now (check_bindings c.requires.check_slices); small = omega (arith, c.requires.table, c.shapes-1.given) }
+    record {
+      reader_asked = checkable b.held c.args.bindings.now (check_bindings c.requires.check_slices);
+      small = omega (arith, c.requires.table, c.shapes-1.given);
+    }
 
 pub result-grown-requires : goal.result-grown-requires
 result-grown-requires c =
     let b = both_passes c.reader_shape.ensures.judged c.in-Read.is in
     let (t, e) = reader_checks b.held c.args.bindings.now (check_bindings c.requires.check_slices) c.check.ensures.checked
-    c.in-Kinds.is in record { reader_asked = giving b.held _ (omega (arith, check_bindings c.requires.check_slices, c.check.ensures.same)) e; small = c.requires.grown; few = omega (arith, c.requires.table, c.shapes-1.given) }
+    c.in-Kinds.is in record {
+      reader_asked = giving b.held _ (omega (arith, check_bindings c.requires.check_slices, c.check.ensures.same)) e;
+      small = c.requires.grown;
+      few = omega (arith, c.requires.table, c.shapes-1.given);
+    }
 
 pub deliver_grown-requires : goal.deliver_grown-requires
 deliver_grown-requires c =
@@ -58,7 +65,8 @@ returns-in-Kinds c =
     (check_results c.requires.check_slices)
     c.result-grown.ensures.given in
     let facts = finishes_passed out _ b.judged
-    (finishes_passed out _ (walk_passes 1 e) (c.deliver_grown.ensures.answered t g, c.deliver_grown.ensures.written t g)) in record { answered = facts.0; written = facts.1 }
+    (finishes_passed out _ (walk_passes 1 e) (c.deliver_grown.ensures.answered t g, c.deliver_grown.ensures.written t g)) in
+    record { answered = facts.0; written = facts.1 }
 
 pub returns-in-Refused-check : goal.returns-in-Refused-check
 unfolding check_judged

@@ -6,7 +6,11 @@ pub returns-in_default : goal.returns-in_default
 returns-in_default c =
     let a = c.args in
     let e = c.in_default.is in
-    let r = c.refusal.ensures.set in record { answered = λ u g. (full_keeps u a.grown a.shapes.now a.pool.now a.limits g a.output.now e r).0; written = λ u g. (full_keeps u a.grown a.shapes.now a.pool.now a.limits g a.output.now e r).1 }
+    let r = c.refusal.ensures.set in
+    record {
+      answered = λ u g. (full_keeps u a.grown a.shapes.now a.pool.now a.limits g a.output.now e r).0;
+      written = λ u g. (full_keeps u a.grown a.shapes.now a.pool.now a.limits g a.output.now e r).1;
+    }
 
 pub deliver-requires : goal.deliver-requires
 deliver-requires c =
@@ -18,4 +22,7 @@ deliver-requires c =
 pub returns : goal.returns
 returns c =
     let a = c.args in
-    let e = c.in-Grown.is in record { answered = λ u g. c.deliver.ensures.answered u (grown_holds u a.grown a.shapes.now a.pool.now a.limits g e); written = λ u g. c.deliver.ensures.kept u (grown_holds u a.grown a.shapes.now a.pool.now a.limits g e) }
+    let e = c.in-Grown.is in record {
+      answered = λ u g. c.deliver.ensures.answered u (grown_holds u a.grown a.shapes.now a.pool.now a.limits g e);
+      written = λ u g. c.deliver.ensures.kept u (grown_holds u a.grown a.shapes.now a.pool.now a.limits g e);
+    }

@@ -32,8 +32,10 @@ returns-in-Read c =
     let b = both_passes c.shape_document.ensures.judged c.in-Read.is in
     let g = inferred b.held _ c.infer_at-grown.result (omega (arith, room_beside_document c.requires.grown_document_slices, c.shapes-1.given))
     c.infer_at-grown.ensures.joined in
-    let facts = finishes_passed c.args.output.now _ b.judged (c.deliver_grown.ensures.answered _ g, c.deliver_grown.ensures.written _ g) in record { answered = facts.0; written = facts.1 }
+    let facts = finishes_passed c.args.output.now _ b.judged (c.deliver_grown.ensures.answered _ g, c.deliver_grown.ensures.written _ g) in
+    record { answered = facts.0; written = facts.1 }
 
 pub returns-in-Refused : goal.returns-in-Refused
 unfolding infer_judged
-returns-in-Refused c = let facts = finishes_stopped c.args.output.now _ c.refusal.ensures.set (both_refused c.shape_document.ensures.judged c.in-Refused.is) in record { answered = facts.0; written = facts.1 }
+returns-in-Refused c = let facts = finishes_stopped c.args.output.now _ c.refusal.ensures.set
+    (both_refused c.shape_document.ensures.judged c.in-Refused.is) in record { answered = facts.0; written = facts.1 }

@@ -32,8 +32,10 @@ returns-in-Read c =
     let b = both_passes c.two_shapes.ensures.judged c.in-Read.is in
     let g = joined b.held _ c.join_at-grown.result (omega (arith, room_beside_shape c.requires.grown_shapes_slices, c.shapes-1.given))
     c.join_at-grown.ensures.joined in
-    let facts = finishes_passed c.args.output.now _ b.judged (c.deliver_grown.ensures.answered _ g, c.deliver_grown.ensures.written _ g) in record { answered = facts.0; written = facts.1 }
+    let facts = finishes_passed c.args.output.now _ b.judged (c.deliver_grown.ensures.answered _ g, c.deliver_grown.ensures.written _ g) in
+    record { answered = facts.0; written = facts.1 }
 
 pub returns-in-Refused : goal.returns-in-Refused
 unfolding join_judged
-returns-in-Refused c = let facts = finishes_stopped c.args.output.now _ c.refusal.ensures.set (both_refused c.two_shapes.ensures.judged c.in-Refused.is) in record { answered = facts.0; written = facts.1 }
+returns-in-Refused c = let facts = finishes_stopped c.args.output.now _ c.refusal.ensures.set (both_refused c.two_shapes.ensures.judged c.in-Refused.is) in
+    record { answered = facts.0; written = facts.1 }

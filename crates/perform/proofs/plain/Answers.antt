@@ -33,4 +33,5 @@ returns-in-Read c =
 
 pub returns-in-Refused : goal.returns-in-Refused
 unfolding plain_judged
-returns-in-Refused c = let facts = finishes_stopped c.args.output.now _ c.refusal.ensures.set (document_refused c.read.ensures.judged c.in-Refused.is 1) in record { answered = facts.0; written = facts.1 }
+returns-in-Refused c = let facts = finishes_stopped c.args.output.now _ c.refusal.ensures.set (document_refused c.read.ensures.judged c.in-Refused.is 1) in
+    record { answered = facts.0; written = facts.1 }

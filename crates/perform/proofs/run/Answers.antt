@@ -39,7 +39,8 @@ returns-in-Over c =
     let a = c.args in
     let b = both_passes c.reader_document.ensures.judged c.in-Read.is in
     let facts = finishes_passed a.output.now _ b.judged
-    (stopped_keeps a.output.now c.refusal.ensures.set (out_over a.limits (came b.held c.run.ensures.ran c.in-Over.is))) in record { answered = facts.0; written = facts.1 }
+    (stopped_keeps a.output.now c.refusal.ensures.set (out_over a.limits (came b.held c.run.ensures.ran c.in-Over.is))) in
+    record { answered = facts.0; written = facts.1 }
 
 pub returns-in-Refused-run : goal.returns-in-Refused-run
 unfolding run_judged

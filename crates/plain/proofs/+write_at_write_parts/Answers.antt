@@ -1,6 +1,6 @@
 -- The proof of the cycle of calls {write_at, write_parts}. Each call goes on at a later row or, from `write_parts` to `write_at`, at the same one:
 -- the measures are what is left of the table from the row on, and one more for `write_parts`. The loop's invariant is `Loop`. Assumes nothing.
-use Prim.Native.Nat.{◌-◌, ◌*◌, ◌<◌}
+use Prim.Native.Nat.{◌*◌, ◌<◌}
 use native.Mathlib.Omega.{arith}
 use mathlib.Core.Path.{◌≡◌, ◌∙◌}
 use mathlib.Core.Bool.{true, false}
@@ -113,9 +113,11 @@ write_at-returns-then-kind-eq-LIST t c =
       c.write_parts-j.auto.out,
       length-set c.args.out.now c.args.at 91,
     ) in
-    record { written = λ v h. let w = list_encloses v h (c.row_size.ensures.sized ∙ stands_size h.stands)
-    (kind_told h c.row_kind-kind.ensures.read c.if-kind-eq-LIST.true) in
-    writes_enclosed w (omega (arith, c.requires.room, length_enclosed list_at)) (c.write_parts-j.ensures.written w.parts w.holds) list_end }
+    record {
+      written = λ v h. let w = list_encloses v h (c.row_size.ensures.sized ∙ stands_size h.stands)
+          (kind_told h c.row_kind-kind.ensures.read c.if-kind-eq-LIST.true) in
+          writes_enclosed w (omega (arith, c.requires.room, length_enclosed list_at)) (c.write_parts-j.ensures.written w.parts w.holds) list_end;
+    }
 
 pub write_at-bounds-out-at-2 : goal.write_at-bounds-out-at-2
 write_at-bounds-out-at-2 t c =
@@ -199,9 +201,11 @@ write_at-returns t c =
       c.write_parts-j-2.auto.out,
       length-set c.args.out.now c.args.at 123,
     ) in
-    record { written = λ v h. let k = kind_record h c.row_kind-kind.ensures.read c.if-kind-lt-LIST.false c.if-kind-eq-LIST.false in
-    let w = rec_encloses v h (c.row_size.ensures.sized ∙ stands_size h.stands) k in
-    writes_enclosed w (omega (arith, c.requires.room, length_enclosed rec_at)) (c.write_parts-j-2.ensures.written w.parts w.holds) rec_end }
+    record {
+      written = λ v h. let k = kind_record h c.row_kind-kind.ensures.read c.if-kind-lt-LIST.false c.if-kind-eq-LIST.false in
+          let w = rec_encloses v h (c.row_size.ensures.sized ∙ stands_size h.stands) k in
+          writes_enclosed w (omega (arith, c.requires.room, length_enclosed rec_at)) (c.write_parts-j-2.ensures.written w.parts w.holds) rec_end;
+    }
 
 pub write_parts-loop-i-init : goal.write_parts-loop-i-init
 write_parts-loop-i-init t c =
@@ -227,12 +231,14 @@ write_parts-row_size_in-i-requires t c =
 
 pub write_parts-overflow_add-i : goal.write_parts-overflow_add-i
 write_parts-overflow_add-i t c =
-    let step : c.row_size_in-i.result ≡ 3 * size (turn c.requires c.loop-i.invariant c.loop-i-test.true).value = let h = (turn c.requires c.loop-i.invariant c.loop-i-test.true).holds in c.row_size_in-i.ensures.sized ∙ stands_size h.stands in
+    let step : c.row_size_in-i.result ≡ 3 * size (turn c.requires c.loop-i.invariant c.loop-i-test.true).value = let h =
+    (turn c.requires c.loop-i.invariant c.loop-i-test.true).holds in c.row_size_in-i.ensures.sized ∙ stands_size h.stands in
     omega (arith, step, turn_within c.requires c.loop-i.invariant c.loop-i-test.true, c.well_formed.1.1.0.0)
 
 pub write_parts-loop-i-smaller : goal.write_parts-loop-i-smaller
 write_parts-loop-i-smaller t c =
-    let step : c.row_size_in-i.result ≡ 3 * size (turn c.requires c.loop-i.invariant c.loop-i-test.true).value = let h = (turn c.requires c.loop-i.invariant c.loop-i-test.true).holds in c.row_size_in-i.ensures.sized ∙ stands_size h.stands in
+    let step : c.row_size_in-i.result ≡ 3 * size (turn c.requires c.loop-i.invariant c.loop-i-test.true).value = let h =
+    (turn c.requires c.loop-i.invariant c.loop-i-test.true).holds in c.row_size_in-i.ensures.sized ∙ stands_size h.stands in
     omega (arith, step, turn_some c.requires c.loop-i.invariant c.loop-i-test.true, c.loop-i-test.true)
 
 pub write_parts-loop-i-preserved : goal.write_parts-loop-i-preserved

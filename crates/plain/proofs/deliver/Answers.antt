@@ -4,7 +4,10 @@ use Rattle.plain.proofs.deliver.Goals as goal
 
 pub returns-then-output-needed : goal.returns-then-output-needed
 returns-then-output-needed c =
-      record { answered = λ v s. short_answered c.args.output.now c.args.steps c.written_length-needed.ensures.measured c.if-output-needed.true v s; kept = λ v s. short_kept c.args.output.now c.args.steps c.written_length-needed.ensures.measured c.if-output-needed.true v s }
+    record {
+      answered = λ v s. short_answered c.args.output.now c.args.steps c.written_length-needed.ensures.measured c.if-output-needed.true v s;
+      kept = λ v s. short_kept c.args.output.now c.args.steps c.written_length-needed.ensures.measured c.if-output-needed.true v s;
+    }
 
 pub write_value-length-requires : goal.write_value-length-requires
 write_value-length-requires c =
@@ -12,8 +15,11 @@ write_value-length-requires c =
 
 pub returns : goal.returns
 returns c =
-      record { answered = λ v s.
+    record {
+      answered = λ v s.
           room_answered c.args.output.now c.args.steps c.written_length-needed.ensures.measured c.if-output-needed.false
-          c.write_value-length.ensures.written v s; kept = λ v s.
+          c.write_value-length.ensures.written v s;
+      kept = λ v s.
           room_written c.args.output.now c.args.steps c.written_length-needed.ensures.measured c.if-output-needed.false
-          c.write_value-length.ensures.written v s }
+          c.write_value-length.ensures.written v s;
+    }

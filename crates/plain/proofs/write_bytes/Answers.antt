@@ -1,6 +1,5 @@
 -- `plain::write_bytes` meets its contract. The loop's invariant: the first i bytes of the name stand at `at`, as `lib.Seq`'s `paste` has it.
 -- Assumes nothing.
-use Prim.Native.Nat.{◌-◌}
 use native.Mathlib.Omega.{arith}
 use Rattle.plain.proofs.Writing.{copies, copies_on, copied}
 use Rattle.plain.proofs.write_bytes.Goals as goal

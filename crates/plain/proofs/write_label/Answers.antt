@@ -37,7 +37,8 @@ write_reference-end-requires c =
     }
 
 pub bounds-out-end : goal.bounds-out-end
-bounds-out-end c = (let within : c.write_reference-end.result < length c.write_reference-end.new.out = let d = label_named c.requires.holds c.if-named.true refl in
+bounds-out-end c = (let within : c.write_reference-end.result < length c.write_reference-end.new.out = let d =
+    label_named c.requires.holds c.if-named.true refl in
     omega (
       arith,
       c.requires.room,
@@ -50,16 +51,22 @@ bounds-out-end c = (let within : c.write_reference-end.result < length c.write_r
 
 pub overflow_add-result : goal.overflow_add-result
 overflow_add-result c =
-    omega (arith, (let within : c.write_reference-end.result < length c.write_reference-end.new.out = let d = label_named c.requires.holds c.if-named.true refl in
     omega (
       arith,
-      c.requires.room,
-      length_label c.args.later d,
-      c.write_comma-j.ensures.written.end,
-      c.write_comma-j.auto.out,
-      (c.write_reference-end.ensures.written d.text d.holds).end,
+      (let within : c.write_reference-end.result < length c.write_reference-end.new.out = let d = label_named c.requires.holds c.if-named.true refl in
+          omega (
+            arith,
+            c.requires.room,
+            length_label c.args.later d,
+            c.write_comma-j.ensures.written.end,
+            c.write_comma-j.auto.out,
+            (c.write_reference-end.ensures.written d.text d.holds).end,
+            c.write_reference-end.auto.out,
+          ) in within),
       c.write_reference-end.auto.out,
-    ) in within), c.write_reference-end.auto.out, c.write_comma-j.auto.out, c.well_formed.0.0)
+      c.write_comma-j.auto.out,
+      c.well_formed.0.0,
+    )
 
 pub shape_of-out-then-named : goal.shape_of-out-then-named
 shape_of-out-then-named c =
@@ -67,21 +74,26 @@ shape_of-out-then-named c =
 
 pub returns-then-named : goal.returns-then-named
 returns-then-named c =
-    record { written = λ n h. let d = label_named h c.if-named.true refl in
-    WritesLabel c.args.later d (omega (arith, c.requires.room)) c.write_comma-j.ensures.written
-    (c.write_reference-end.ensures.written d.text d.holds) (let within : c.write_reference-end.result < length c.write_reference-end.new.out = let d = label_named c.requires.holds c.if-named.true refl in
-    omega (
-      arith,
-      c.requires.room,
-      length_label c.args.later d,
-      c.write_comma-j.ensures.written.end,
-      c.write_comma-j.auto.out,
-      (c.write_reference-end.ensures.written d.text d.holds).end,
-      c.write_reference-end.auto.out,
-    ) in within) }
+    record {
+      written = λ n h. let d = label_named h c.if-named.true refl in
+          WritesLabel c.args.later d (omega (arith, c.requires.room)) c.write_comma-j.ensures.written
+          (c.write_reference-end.ensures.written d.text d.holds) (let within : c.write_reference-end.result < length c.write_reference-end.new.out = let d =
+          label_named c.requires.holds c.if-named.true refl in
+          omega (
+            arith,
+            c.requires.room,
+            length_label c.args.later d,
+            c.write_comma-j.ensures.written.end,
+            c.write_comma-j.auto.out,
+            (c.write_reference-end.ensures.written d.text d.holds).end,
+            c.write_reference-end.auto.out,
+          ) in within);
+    }
 
 pub returns : goal.returns
 returns c =
-    record { written = λ n h. writes_as
-    (sym (append-nil (comma c.args.later)) ∙ ap (λ (s : Bytes). comma c.args.later ++ s) (label_none h c.if-named.false))
-    c.write_comma-j.ensures.written }
+    record {
+      written = λ n h. writes_as
+          (sym (append-nil (comma c.args.later)) ∙ ap (λ (s : Bytes). comma c.args.later ++ s) (label_none h c.if-named.false))
+          c.write_comma-j.ensures.written;
+    }

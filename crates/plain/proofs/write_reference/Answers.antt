@@ -15,8 +15,10 @@ write_text-requires c =
 
 pub returns : goal.returns
 returns c =
-    record { written = λ t h. writes_as
-    (ap₂ (λ (w n : ℕ). plain_text (text_in c.args.pool.now w n)) c.text_word.ensures.split
-    c.text_bytes.ensures.split
-    ∙ ap plain_text (found h.pooled h.refers).text)
-    c.write_text.ensures.written }
+    record {
+      written = λ t h. writes_as
+          (ap₂ (λ (w n : ℕ). plain_text (text_in c.args.pool.now w n)) c.text_word.ensures.split
+          c.text_bytes.ensures.split
+          ∙ ap plain_text (found h.pooled h.refers).text)
+          c.write_text.ensures.written;
+    }

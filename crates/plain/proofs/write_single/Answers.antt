@@ -23,7 +23,8 @@ write_bytes-requires c =
 
 pub returns-then-kind-eq-NULL : goal.returns-then-kind-eq-NULL
 unfolding null_name bytes
-returns-then-kind-eq-NULL c = record { written = λ v h. written_as c.write_bytes.ensures.written (plain_null v (kind_told h c.row_kind-kind.ensures.read c.if-kind-eq-NULL.true)) }
+returns-then-kind-eq-NULL c =
+    record { written = λ v h. written_as c.write_bytes.ensures.written (plain_null v (kind_told h c.row_kind-kind.ensures.read c.if-kind-eq-NULL.true)) }
 
 pub write_bytes-requires-then-kind-eq-FALSE : goal.write_bytes-requires-then-kind-eq-FALSE
 unfolding false_name bytes
@@ -33,7 +34,11 @@ write_bytes-requires-then-kind-eq-FALSE c =
 
 pub returns-then-kind-eq-FALSE : goal.returns-then-kind-eq-FALSE
 unfolding false_name bytes
-returns-then-kind-eq-FALSE c = record { written = λ v h. written_as c.write_bytes-then-kind-eq-FALSE.ensures.written (plain_false v (kind_told h c.row_kind-kind.ensures.read c.if-kind-eq-FALSE.true)) }
+returns-then-kind-eq-FALSE c =
+    record {
+      written = λ v h. written_as c.write_bytes-then-kind-eq-FALSE.ensures.written
+          (plain_false v (kind_told h c.row_kind-kind.ensures.read c.if-kind-eq-FALSE.true));
+    }
 
 pub write_bytes-requires-then-kind-eq-TRUE : goal.write_bytes-requires-then-kind-eq-TRUE
 unfolding true_name bytes
@@ -43,7 +48,11 @@ write_bytes-requires-then-kind-eq-TRUE c =
 
 pub returns-then-kind-eq-TRUE : goal.returns-then-kind-eq-TRUE
 unfolding true_name bytes
-returns-then-kind-eq-TRUE c = record { written = λ v h. written_as c.write_bytes-then-kind-eq-TRUE.ensures.written (plain_true v (kind_told h c.row_kind-kind.ensures.read c.if-kind-eq-TRUE.true)) }
+returns-then-kind-eq-TRUE c =
+    record {
+      written = λ v h. written_as c.write_bytes-then-kind-eq-TRUE.ensures.written
+          (plain_true v (kind_told h c.row_kind-kind.ensures.read c.if-kind-eq-TRUE.true));
+    }
 
 pub write_number-requires : goal.write_number-requires
 write_number-requires c =
@@ -55,10 +64,12 @@ write_number-requires c =
 
 pub returns-then-kind-eq-NUMBER : goal.returns-then-kind-eq-NUMBER
 returns-then-kind-eq-NUMBER c =
-    record { written = λ v h. let k = kind_told h c.row_kind-kind.ensures.read c.if-kind-eq-NUMBER.true in
-    let x = single_number v h k c.row_negative-negative.ensures.read c.row_payload-payload.ensures.read
-    c.row_scale.ensures.read in
-    writes_as x.same (number_writes c.write_number.ensures) }
+    record {
+      written = λ v h. let k = kind_told h c.row_kind-kind.ensures.read c.if-kind-eq-NUMBER.true in
+          let x = single_number v h k c.row_negative-negative.ensures.read c.row_payload-payload.ensures.read
+          c.row_scale.ensures.read in
+          writes_as x.same (number_writes c.write_number.ensures);
+    }
 
 pub write_reference-requires : goal.write_reference-requires
 write_reference-requires c =
@@ -80,17 +91,19 @@ write_reference-requires c =
 
 pub returns : goal.returns
 returns c =
-    record { written = λ v h. let k : kind_code v ≡ 4
-    = omega (
-      arith,
-      stands_kind h.stands,
-      c.row_kind-kind.ensures.read,
-      c.requires.single,
-      c.if-kind-eq-NULL.false,
-      c.if-kind-eq-FALSE.false,
-      c.if-kind-eq-TRUE.false,
-      c.if-kind-eq-NUMBER.false,
-    )
-    in
-    let x = single_text v h c.row_payload-payload.ensures.read k in
-    writes_as x.same (c.write_reference.ensures.written x.text x.holds) }
+    record {
+      written = λ v h. let k : kind_code v ≡ 4
+          = omega (
+            arith,
+            stands_kind h.stands,
+            c.row_kind-kind.ensures.read,
+            c.requires.single,
+            c.if-kind-eq-NULL.false,
+            c.if-kind-eq-FALSE.false,
+            c.if-kind-eq-TRUE.false,
+            c.if-kind-eq-NUMBER.false,
+          )
+          in
+          let x = single_text v h c.row_payload-payload.ensures.read k in
+          writes_as x.same (c.write_reference.ensures.written x.text x.holds);
+    }

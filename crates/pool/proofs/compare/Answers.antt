@@ -1,6 +1,6 @@
 -- `pool::compare` meets its contract. The loop's invariant: how the texts stand is how their rests from word i on stand. The measure is what is
 -- left of the shorter. Assumes nothing.
-use Prim.Native.Nat.{◌+◌, ◌-◌, ◌*◌, min}
+use Prim.Native.Nat.{◌+◌, ◌*◌, min}
 use mathlib.Core.Path.{sym, ◌∙◌}
 use native.Mathlib.Omega.{arith}
 use Rattle.pool.specs.Pool.{text_in, ordering_of}
@@ -80,28 +80,32 @@ overflow_shr-y c = omega (arith, c.least.ensures.chosen)
 pub returns-then-x-y : goal.returns-then-x-y
 unfolding ordering_of
 returns-then-x-y c =
-    record { compared = let l = c.loop-i in
-    let a = c.args in
-    sym
-    (l.invariant.1
-    ∙ words_less a.pool.now a.w a.n a.v a.m l.i c.least-end.result c.least.result
-    c.least.ensures.chosen
-    (omega arith) (omega arith) (omega arith) (omega (arith, c.shared_slice_known-in-loop-i-2-1.given (a.w + l.i)))
-    (omega (arith, c.shared_slice_known-in-loop-i-2-1.given (a.v + l.i)))
-    c.if-x-y.true) }
+    record {
+      compared = let l = c.loop-i in
+          let a = c.args in
+          sym
+          (l.invariant.1
+          ∙ words_less a.pool.now a.w a.n a.v a.m l.i c.least-end.result c.least.result
+          c.least.ensures.chosen
+          (omega arith) (omega arith) (omega arith) (omega (arith, c.shared_slice_known-in-loop-i-2-1.given (a.w + l.i)))
+          (omega (arith, c.shared_slice_known-in-loop-i-2-1.given (a.v + l.i)))
+          c.if-x-y.true);
+    }
 
 pub returns-then-y-x : goal.returns-then-y-x
 unfolding ordering_of
 returns-then-y-x c =
-    record { compared = let l = c.loop-i in
-    let a = c.args in
-    sym
-    (l.invariant.1
-    ∙ words_greater a.pool.now a.w a.n a.v a.m l.i c.least-end.result c.least.result
-    c.least.ensures.chosen
-    (omega arith) (omega arith) (omega arith) (omega (arith, c.shared_slice_known-in-loop-i-2-1.given (a.w + l.i)))
-    (omega (arith, c.shared_slice_known-in-loop-i-2-1.given (a.v + l.i)))
-    c.if-y-x.true) }
+    record {
+      compared = let l = c.loop-i in
+          let a = c.args in
+          sym
+          (l.invariant.1
+          ∙ words_greater a.pool.now a.w a.n a.v a.m l.i c.least-end.result c.least.result
+          c.least.ensures.chosen
+          (omega arith) (omega arith) (omega arith) (omega (arith, c.shared_slice_known-in-loop-i-2-1.given (a.w + l.i)))
+          (omega (arith, c.shared_slice_known-in-loop-i-2-1.given (a.v + l.i)))
+          c.if-y-x.true);
+    }
 
 pub overflow_add-i : goal.overflow_add-i
 overflow_add-i c = omega arith
@@ -124,26 +128,32 @@ loop-i-preserved c =
 pub returns-then-s-t : goal.returns-then-s-t
 unfolding ordering_of
 returns-then-s-t c =
-    record { compared = let l = c.loop-i in
-    let a = c.args in
-    sym (l.invariant.1
-    ∙ shorter_less (text_in a.pool.now a.w a.n) (text_in a.pool.now a.v a.m) (min (8 * l.i) c.least-end.result)
-    (omega arith) (omega arith)) }
+    record {
+      compared = let l = c.loop-i in
+          let a = c.args in
+          sym (l.invariant.1
+          ∙ shorter_less (text_in a.pool.now a.w a.n) (text_in a.pool.now a.v a.m) (min (8 * l.i) c.least-end.result)
+          (omega arith) (omega arith));
+    }
 
 pub returns-then-t-s : goal.returns-then-t-s
 unfolding ordering_of
 returns-then-t-s c =
-    record { compared = let l = c.loop-i in
-    let a = c.args in
-    sym (l.invariant.1
-    ∙ longer_greater (text_in a.pool.now a.w a.n) (text_in a.pool.now a.v a.m) (min (8 * l.i) c.least-end.result)
-    (omega arith) (omega arith)) }
+    record {
+      compared = let l = c.loop-i in
+          let a = c.args in
+          sym (l.invariant.1
+          ∙ longer_greater (text_in a.pool.now a.w a.n) (text_in a.pool.now a.v a.m) (min (8 * l.i) c.least-end.result)
+          (omega arith) (omega arith));
+    }
 
 pub returns : goal.returns
 unfolding ordering_of
 returns c =
-    record { compared = let l = c.loop-i in
-    let a = c.args in
-    sym (l.invariant.1
-    ∙ both_equal (text_in a.pool.now a.w a.n) (text_in a.pool.now a.v a.m) (min (8 * l.i) c.least-end.result)
-    (omega arith) (omega arith)) }
+    record {
+      compared = let l = c.loop-i in
+          let a = c.args in
+          sym (l.invariant.1
+          ∙ both_equal (text_in a.pool.now a.w a.n) (text_in a.pool.now a.v a.m) (min (8 * l.i) c.least-end.result)
+          (omega arith) (omega arith));
+    }

@@ -9,7 +9,8 @@ use Rattle.pool.proofs.compare.Given as goal
 abbrev pub invariant-loop-i : goal.invariant-loop-i
 invariant-loop-i l =
     (8 * l.i ≤ l.end + 7)
-    × (order (text_in l.pool l.w l.n) (text_in l.pool l.v l.m) ≡ order (drop (min (8 * l.i) l.end) (text_in l.pool l.w l.n)) (drop (min (8 * l.i) l.end) (text_in l.pool l.v l.m)))
+    × (order (text_in l.pool l.w l.n) (text_in l.pool l.v l.m) ≡ order (drop (min (8 * l.i) l.end) (text_in l.pool l.w l.n))
+    (drop (min (8 * l.i) l.end) (text_in l.pool l.v l.m)))
 
 abbrev pub decreases-loop-i : goal.decreases-loop-i
 decreases-loop-i l = l.end - 8 * l.i

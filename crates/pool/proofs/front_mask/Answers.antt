@@ -30,8 +30,10 @@ returns-in-7 c = record { masks = mask_at c.args.m 7 0xFFFFFFFFFFFFFF00 c.in-7.i
 
 pub returns-in_default : goal.returns-in_default
 returns-in_default c =
-    record { masks = let r = c.in_default.in_default-own.rest in
-    let s = r.0.0.0.0 in
-    mask_at c.args.m 8 0xFFFFFFFFFFFFFFFF
-    (le_antisymm c.requires (past_seven s.0.0.0.1 s.0.0.1 s.0.1 s.1 r.0.0.0.1 r.0.0.1 r.0.1 r.1))
-    refl }
+    record {
+      masks = let r = c.in_default.in_default-own.rest in
+          let s = r.0.0.0.0 in
+          mask_at c.args.m 8 0xFFFFFFFFFFFFFFFF
+          (le_antisymm c.requires (past_seven s.0.0.0.1 s.0.0.1 s.0.1 s.1 r.0.0.0.1 r.0.0.1 r.0.1 r.1))
+          refl;
+    }

@@ -5,10 +5,14 @@ use Rattle.pool.proofs.held.Goals as goal
 
 pub returns-then-w-pool : goal.returns-then-w-pool
 returns-then-w-pool c =
-    record { counted = let a = c.args in
-    omega (arith, length_text_in_min a.pool.now a.w a.n) }
+    record {
+      counted = let a = c.args in
+          omega (arith, length_text_in_min a.pool.now a.w a.n);
+    }
 
 pub returns-else-w-pool : goal.returns-else-w-pool
 returns-else-w-pool c =
-    record { counted = let a = c.args in
-    omega (arith, length_text_in_min a.pool.now a.w a.n) }
+    record {
+      counted = let a = c.args in
+          omega (arith, length_text_in_min a.pool.now a.w a.n);
+    }

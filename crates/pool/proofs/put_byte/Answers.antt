@@ -18,6 +18,8 @@ overflow_add-pool c =
 
 pub returns : goal.returns
 returns c =
-    record { put = let a = c.args in
-    stored a.pool.now a.k a.b c.requires c.shift-s.result c.shift-s.ensures.shifted
-    (omega (arith, c.slice_known-2-1.given (a.k / 8))) (omega arith) }
+    record {
+      put = let a = c.args in
+          stored a.pool.now a.k a.b c.requires c.shift-s.result c.shift-s.ensures.shifted
+          (omega (arith, c.slice_known-2-1.given (a.k / 8))) (omega arith);
+    }

@@ -18,6 +18,8 @@ same_whole-requires c =
 
 pub returns : goal.returns
 returns c =
-    record { compared = let a = c.args in
-    c.same_whole.ensures.compared
-    ∙ ap (λ (k : ℕ). same (text_in a.pool.now a.w a.n) (text_in a.pool.now a.v k)) c.if-n-m.false }
+    record {
+      compared = let a = c.args in
+          c.same_whole.ensures.compared
+          ∙ ap (λ (k : ℕ). same (text_in a.pool.now a.w a.n) (text_in a.pool.now a.v k)) c.if-n-m.false;
+    }

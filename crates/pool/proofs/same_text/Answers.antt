@@ -12,6 +12,8 @@ same_held-requires c =
 
 pub returns : goal.returns
 returns c =
-    record { compared = let a = c.args in
-    same_held a.pool.now a.w a.n a.v a.m c.held-s.result c.held.result
-    c.held-s.ensures.counted c.held.ensures.counted c.same_held.ensures.compared }
+    record {
+      compared = let a = c.args in
+          same_held a.pool.now a.w a.n a.v a.m c.held-s.result c.held.result
+          c.held-s.ensures.counted c.held.ensures.counted c.same_held.ensures.compared;
+    }

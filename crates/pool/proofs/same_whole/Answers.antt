@@ -1,7 +1,7 @@
 -- `pool::same_whole` meets its contract. The loop's invariant: the words before i are the same. Where a word differs the texts do
 -- (`top_of_texts`); where no whole word does, nor the rest behind them, the texts are the same (`texts_of_words`). The measure is the words left.
 -- Assumes nothing.
-use Prim.Native.Nat.{◌+◌, ◌-◌, ◌/◌, ◌%◌}
+use Prim.Native.Nat.{◌+◌, ◌/◌, ◌%◌}
 use mathlib.Core.Path.{◌≡◌, sym, ◌∙◌}
 use native.Mathlib.Nat.{div-one}
 use native.Mathlib.Omega.{arith}
@@ -46,19 +46,21 @@ bounds-pool-v c =
 
 pub returns-then-pool-w : goal.returns-then-pool-w
 returns-then-pool-w c =
-    record { compared = let a = c.args in
-    let x = get_or a.pool.now (a.w + c.loop-i.i) 0 in
-    let y = get_or a.pool.now (a.v + c.loop-i.i) 0 in
-    same_false
-    (λ e.
-    let q : x ≡ y =
-    sym (div-one x)
-    ∙ top_of_texts a.pool.now a.w a.v a.n c.loop-i.i 8 (omega arith) (omega arith)
-    (omega (arith, c.shared_slice_known-in-loop-i-1.given (a.w + c.loop-i.i)))
-    (omega (arith, c.shared_slice_known-in-loop-i-1.given (a.v + c.loop-i.i)))
-    e
-    ∙ div-one y in
-    omega (arith, c.if-pool-w.true)) }
+    record {
+      compared = let a = c.args in
+          let x = get_or a.pool.now (a.w + c.loop-i.i) 0 in
+          let y = get_or a.pool.now (a.v + c.loop-i.i) 0 in
+          same_false
+          (λ e.
+          let q : x ≡ y =
+          sym (div-one x)
+          ∙ top_of_texts a.pool.now a.w a.v a.n c.loop-i.i 8 (omega arith) (omega arith)
+          (omega (arith, c.shared_slice_known-in-loop-i-1.given (a.w + c.loop-i.i)))
+          (omega (arith, c.shared_slice_known-in-loop-i-1.given (a.v + c.loop-i.i)))
+          e
+          ∙ div-one y in
+          omega (arith, c.if-pool-w.true));
+    }
 
 pub overflow_add-i : goal.overflow_add-i
 overflow_add-i c = omega arith
@@ -73,11 +75,13 @@ loop-i-preserved c =
 
 pub returns-then-rest-eq0 : goal.returns-then-rest-eq0
 returns-then-rest-eq0 c =
-    record { compared = let a = c.args in
-    same_true
-    (texts_of_words a.pool.now a.w a.v a.n c.requires.0 c.requires.1
-    (λ j h. c.loop-i.invariant.1 j (omega arith))
-    (λ h. absurd (let z : ⊥ = omega arith in z))) }
+    record {
+      compared = let a = c.args in
+          same_true
+          (texts_of_words a.pool.now a.w a.v a.n c.requires.0 c.requires.1
+          (λ j h. c.loop-i.invariant.1 j (omega arith))
+          (λ h. absurd (let z : ⊥ = omega arith in z)));
+    }
 
 pub overflow_mul-s : goal.overflow_mul-s
 overflow_mul-s c = omega arith
@@ -123,12 +127,14 @@ overflow_shr-result-2 c = omega arith
 
 pub returns : goal.returns
 returns c =
-    record { compared = let a = c.args in
-    same_eqb (top (get_or a.pool.now (a.w + a.n / 8) 0) (a.n % 8)) (top (get_or a.pool.now (a.v + a.n / 8) 0) (a.n % 8))
-    (λ e.
-    texts_of_words a.pool.now a.w a.v a.n c.requires.0 c.requires.1
-    (λ j h. c.loop-i.invariant.1 j (omega arith))
-    (λ h. e))
-    (top_of_texts a.pool.now a.w a.v a.n (a.n / 8) (a.n % 8) (omega arith) (omega arith)
-    (omega (arith, c.shared_slice_known-3-1.given (a.w + a.n / 8)))
-    (omega (arith, c.shared_slice_known-3-1.given (a.v + a.n / 8)))) }
+    record {
+      compared = let a = c.args in
+          same_eqb (top (get_or a.pool.now (a.w + a.n / 8) 0) (a.n % 8)) (top (get_or a.pool.now (a.v + a.n / 8) 0) (a.n % 8))
+          (λ e.
+          texts_of_words a.pool.now a.w a.v a.n c.requires.0 c.requires.1
+          (λ j h. c.loop-i.invariant.1 j (omega arith))
+          (λ h. e))
+          (top_of_texts a.pool.now a.w a.v a.n (a.n / 8) (a.n % 8) (omega arith) (omega arith)
+          (omega (arith, c.shared_slice_known-3-1.given (a.w + a.n / 8)))
+          (omega (arith, c.shared_slice_known-3-1.given (a.v + a.n / 8))));
+    }

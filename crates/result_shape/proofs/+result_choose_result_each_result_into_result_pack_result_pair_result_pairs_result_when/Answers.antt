@@ -1,7 +1,7 @@
 -- The proof of the cycle of calls that joins what a result gives into a shape. Each call goes on at a later row of the forms table or, from
 -- parts to their first form, at the same one: the measures are four times what is left of that table, and less than four more. The
 -- loop's invariant is `PairsLoop`. Assumes nothing.
-use Prim.Native.Nat.{ℕ, ◌+◌, ◌-◌, ◌<◌}
+use Prim.Native.Nat.{ℕ, ◌+◌, ◌<◌}
 use native.Mathlib.Omega.{arith}
 use native.Mathlib.Numerals.{add-one}
 use mathlib.Core.Path.{refl, sym, ap, subst, ◌∙◌}
@@ -63,12 +63,15 @@ result_choose-result_into-r-requires t c =
 
 pub result_choose-returns-in_default : goal.result_choose-returns-in_default
 result_choose-returns-in_default t c =
-    record { given = choose_full_first c.requires.tables c.requires.code
+    record {
+      given = choose_full_first c.requires.tables c.requires.code
           (one_part c.args.forms.now c.args.row c.size.ensures.read)
           (two_parts c.args.forms.now c.args.row c.size.ensures.read c.size-2.ensures.read)
           c.result_into-r.new.env c.result_into-r.new.into
           c.result_into-r.result c.result_into-r.ensures.given c.result_into-r.ensures.kept
-          c.in_default.is; kept = c.result_into-r.ensures.kept }
+          c.in_default.is;
+      kept = c.result_into-r.ensures.kept;
+    }
 
 pub result_choose-overflow_add-used : goal.result_choose-overflow_add-used
 result_choose-overflow_add-used t c =
@@ -104,13 +107,16 @@ result_choose-result_into-r-requires-2 t c =
 
 pub result_choose-returns-in_default-r : goal.result_choose-returns-in_default-r
 result_choose-returns-in_default-r t c =
-    record { given = choose_full_then c.requires.tables c.requires.code
+    record {
+      given = choose_full_then c.requires.tables c.requires.code
           (one_part c.args.forms.now c.args.row c.size.ensures.read)
           (two_parts c.args.forms.now c.args.row c.size.ensures.read c.size-2.ensures.read)
           c.result_into-r.new.env c.result_into-r.new.into
           c.result_into-r.result c.result_into-r.ensures.given c.result_into-r.ensures.kept
           c.in-Grown.is c.result_into-r-2.new.into c.result_into-r-2.result
-          c.result_into-r-2.ensures.given c.in_default-r.is; kept = kept_then _ _ _ _ _ (omega arith) c.result_into-r.ensures.kept c.result_into-r-2.ensures.kept }
+          c.result_into-r-2.ensures.given c.in_default-r.is;
+      kept = kept_then _ _ _ _ _ (omega arith) c.result_into-r.ensures.kept c.result_into-r-2.ensures.kept;
+    }
 
 pub result_choose-overflow_add-result : goal.result_choose-overflow_add-result
 result_choose-overflow_add-result t c =
@@ -125,12 +131,15 @@ result_choose-overflow_add-result t c =
 
 pub result_choose-returns : goal.result_choose-returns
 result_choose-returns t c =
-    record { given = choose_answer c.requires.tables c.requires.code (one_part c.args.forms.now c.args.row c.size.ensures.read)
+    record {
+      given = choose_answer c.requires.tables c.requires.code (one_part c.args.forms.now c.args.row c.size.ensures.read)
           (two_parts c.args.forms.now c.args.row c.size.ensures.read c.size-2.ensures.read)
           c.result_into-r.new.env c.result_into-r.new.into
           c.result_into-r.result c.result_into-r.ensures.given c.result_into-r.ensures.kept
           c.in-Grown.is c.result_into-r-2.new.into c.result_into-r-2.result
-          c.result_into-r-2.ensures.given c.in-Grown-r.is; kept = kept_then _ _ _ _ _ (omega arith) c.result_into-r.ensures.kept c.result_into-r-2.ensures.kept }
+          c.result_into-r-2.ensures.given c.in-Grown-r.is;
+      kept = kept_then _ _ _ _ _ (omega arith) c.result_into-r.ensures.kept c.result_into-r-2.ensures.kept;
+    }
 
 pub result_each-overflow_add-row : goal.result_each-overflow_add-row
 result_each-overflow_add-row t c =
@@ -142,27 +151,38 @@ result_each-locate-r-requires t c =
 
 pub result_each-returns-in_default : goal.result_each-returns-in_default
 result_each-returns-in_default t c =
-    record { given = (λ p m r env u name s j.
+    record {
+      given = (λ p m r env u name s j.
           each_never c.requires.tables c.requires.code refl (add-one c.args.bound) c.locate-r.result
-          c.locate-r.ensures.found j c.in_default.is); kept = record { front = refl; same = refl } }
+          c.locate-r.ensures.found j c.in_default.is);
+      kept = record { front = refl; same = refl };
+    }
 
 pub result_each-bind_element-requires : goal.result_each-bind_element-requires
 result_each-bind_element-requires t c =
-    record { slot_in_bounds = each_room c.requires.tables c.requires.code refl (add-one c.args.bound) c.requires.result_asked; there = each_bound c.requires.tables c.requires.code refl (add-one c.args.bound) c.locate-r.result
-            c.locate-r.ensures.found c.in-At.is c.requires.result_asked; small = omega (arith, c.requires.tables.few) }
+    record {
+      slot_in_bounds = each_room c.requires.tables c.requires.code refl (add-one c.args.bound) c.requires.result_asked;
+      there = each_bound c.requires.tables c.requires.code refl (add-one c.args.bound) c.locate-r.result
+          c.locate-r.ensures.found c.in-At.is c.requires.result_asked;
+      small = omega (arith, c.requires.tables.few);
+    }
 
 pub result_each-ready_element-requires : goal.result_each-ready_element-requires
 result_each-ready_element-requires t c =
-    record { shape_held = each_held c.requires.tables c.requires.code refl (add-one c.args.bound) c.requires.result_asked; room = tables_room c.requires.tables }
+    record { shape_held = each_held c.requires.tables c.requires.code refl (add-one c.args.bound) c.requires.result_asked;
+        room = tables_room c.requires.tables }
 
 pub result_each-returns-in_default-ready_element : goal.result_each-returns-in_default-ready_element
 result_each-returns-in_default-ready_element t c =
-    record { given = each_full_first c.requires.tables c.requires.code refl (add-one c.args.bound) c.locate-r.result
+    record {
+      given = each_full_first c.requires.tables c.requires.code refl (add-one c.args.bound) c.locate-r.result
           c.locate-r.ensures.found c.in-At.is c.bind_element.new.bindings c.bind_element.ensures.element
           c.ready_element.new.shapes c.ready_element.result c.ready_element.ensures.ready
-          c.in_default-ready_element.is; kept = each_kept_first c.requires.tables c.requires.code refl (add-one c.args.bound) c.locate-r.result
+          c.in_default-ready_element.is;
+      kept = each_kept_first c.requires.tables c.requires.code refl (add-one c.args.bound) c.locate-r.result
           c.locate-r.ensures.found c.in-At.is c.bind_element.new.bindings
-          c.bind_element.ensures.element c.requires.result_asked }
+          c.bind_element.ensures.element c.requires.result_asked;
+    }
 
 pub result_each-overflow_add-part : goal.result_each-overflow_add-part
 result_each-overflow_add-part t c =
@@ -219,19 +239,22 @@ result_each-result_into-r-requires t c =
 
 pub result_each-returns-in_default-r : goal.result_each-returns-in_default-r
 result_each-returns-in_default-r t c =
-    record { given = each_full_then c.requires.tables c.requires.code (one_part c.args.forms.now c.args.row c.size.ensures.read)
+    record {
+      given = each_full_then c.requires.tables c.requires.code (one_part c.args.forms.now c.args.row c.size.ensures.read)
           (add-one c.args.bound) c.locate-r.result c.locate-r.ensures.found c.in-At.is
           c.bind_element.new.bindings c.bind_element.ensures.element c.ready_element.new.shapes
           c.ready_element.result c.ready_element.ensures.ready c.in-Grown.is
           c.result_into-r.new.env c.result_into-r.new.into
           c.result_into-r.result c.result_into-r.ensures.given c.result_into-r.ensures.kept
-          c.in_default-r.is; kept = each_kept c.requires.tables c.requires.code
+          c.in_default-r.is;
+      kept = each_kept c.requires.tables c.requires.code
           (one_part c.args.forms.now c.args.row c.size.ensures.read) (add-one c.args.bound)
           c.locate-r.result c.locate-r.ensures.found c.in-At.is c.bind_element.new.bindings
           c.bind_element.ensures.element c.ready_element.new.shapes c.ready_element.result
           c.ready_element.ensures.ready c.in-Grown.is c.result_into-r.new.env
           c.result_into-r.new.into c.result_into-r.result
-          c.result_into-r.ensures.given c.result_into-r.ensures.kept c.requires.result_asked }
+          c.result_into-r.ensures.given c.result_into-r.ensures.kept c.requires.result_asked;
+    }
 
 pub result_each-overflow_add-opened : goal.result_each-overflow_add-opened
 result_each-overflow_add-opened t c =
@@ -270,19 +293,22 @@ result_each-overflow_add-result t c =
 
 pub result_each-returns : goal.result_each-returns
 result_each-returns t c =
-    record { given = each_answer c.requires.tables c.requires.code (one_part c.args.forms.now c.args.row c.size.ensures.read)
+    record {
+      given = each_answer c.requires.tables c.requires.code (one_part c.args.forms.now c.args.row c.size.ensures.read)
           (add-one c.args.bound) c.locate-r.result c.locate-r.ensures.found c.in-At.is
           c.bind_element.new.bindings c.bind_element.ensures.element c.ready_element.new.shapes
           c.ready_element.result c.ready_element.ensures.ready c.in-Grown.is
           c.result_into-r.new.env c.result_into-r.new.into
           c.result_into-r.result c.result_into-r.ensures.given c.result_into-r.ensures.kept
-          c.in-Grown-r.is c.raise.ensures.raised c.raise.auto.shapes; kept = each_kept c.requires.tables c.requires.code
+          c.in-Grown-r.is c.raise.ensures.raised c.raise.auto.shapes;
+      kept = each_kept c.requires.tables c.requires.code
           (one_part c.args.forms.now c.args.row c.size.ensures.read) (add-one c.args.bound)
           c.locate-r.result c.locate-r.ensures.found c.in-At.is c.bind_element.new.bindings
           c.bind_element.ensures.element c.ready_element.new.shapes c.ready_element.result
           c.ready_element.ensures.ready c.in-Grown.is c.result_into-r.new.env
           c.result_into-r.new.into c.result_into-r.result
-          c.result_into-r.ensures.given c.result_into-r.ensures.kept c.requires.result_asked }
+          c.result_into-r.ensures.given c.result_into-r.ensures.kept c.requires.result_asked;
+    }
 
 pub result_into-result_keep-requires : goal.result_into-result_keep-requires
 result_into-result_keep-requires t c =
@@ -332,9 +358,12 @@ result_into-raise-requires t c =
 
 pub result_into-returns : goal.result_into-returns
 result_into-returns t c =
-    record { given = bare_answer c.requires.tables c.code-code.ensures.read c.operand.ensures.read c.payload.ensures.read c.if-code-eq-KEEP.false
+    record {
+      given = bare_answer c.requires.tables c.code-code.ensures.read c.operand.ensures.read c.payload.ensures.read c.if-code-eq-KEEP.false
           c.if-code-eq-EACH.false c.if-code-eq-WHEN.false c.if-code-eq-IF.false c.if-code-eq-PACK.false
-          c.bare_kinds-kinds.ensures.told c.raise.ensures.raised c.raise.auto.shapes; kept = record { front = refl; same = refl } }
+          c.bare_kinds-kinds.ensures.told c.raise.ensures.raised c.raise.auto.shapes;
+      kept = record { front = refl; same = refl };
+    }
 
 pub result_pack-overflow_add-end : goal.result_pack-overflow_add-end
 result_pack-overflow_add-end t c =
@@ -348,7 +377,8 @@ result_pack-overflow_add-end t c =
 
 pub result_pack-members-first-requires : goal.result_pack-members-first-requires
 result_pack-members-first-requires t c =
-    let facts = record_first c.requires.result_asked.meets.stands c.requires.result_asked.meets.within (tables_room c.requires.tables) in record { row_in_bounds = facts.0; within = facts.1 }
+    let facts = record_first c.requires.result_asked.meets.stands c.requires.result_asked.meets.within (tables_room c.requires.tables) in
+        record { row_in_bounds = facts.0; within = facts.1 }
 
 pub result_pack-overflow_add-last : goal.result_pack-overflow_add-last
 result_pack-overflow_add-last t c =
@@ -366,25 +396,27 @@ result_pack-overflow_add-row t c =
     omega (arith, asked_within c.requires.result_asked, c.well_formed.0.0)
 
 pub result_pack-result_pairs-r-requires : goal.result_pack-result_pairs-r-requires
-result_pack-result_pairs-r-requires t c =
-    (
-      omega (arith, c.decreases, asked_within c.requires.result_asked),
-      (
-        pack_asked c.requires.tables c.requires.code c.kinds.ensures.read
-            c.has-had.ensures.told c.members-first.ensures.found
-            (ap (λ (x : ℕ). c.args.dest + x) c.size-2.ensures.read)
-            (ap (λ (x : ℕ). c.args.row + x) c.size.ensures.read) c.requires.result_asked,
-        c.requires.tables,
-      ),
-    )
+result_pack-result_pairs-r-requires t c = (
+  omega (arith, c.decreases, asked_within c.requires.result_asked),
+  (
+    pack_asked c.requires.tables c.requires.code c.kinds.ensures.read
+        c.has-had.ensures.told c.members-first.ensures.found
+        (ap (λ (x : ℕ). c.args.dest + x) c.size-2.ensures.read)
+        (ap (λ (x : ℕ). c.args.row + x) c.size.ensures.read) c.requires.result_asked,
+    c.requires.tables,
+  ),
+)
 
 pub result_pack-returns-in_default : goal.result_pack-returns-in_default
 result_pack-returns-in_default t c =
-    record { given = pack_full c.requires.tables c.requires.code c.kinds.ensures.read
+    record {
+      given = pack_full c.requires.tables c.requires.code c.kinds.ensures.read
           c.has-had.ensures.told c.members-first.ensures.found
           (ap (λ (x : ℕ). c.args.dest + x) c.size-2.ensures.read)
           (ap (λ (x : ℕ). c.args.row + x) c.size.ensures.read) c.result_pairs-r.new.into
-          c.result_pairs-r.result c.result_pairs-r.ensures.given c.in_default.is; kept = c.result_pairs-r.ensures.kept }
+          c.result_pairs-r.result c.result_pairs-r.ensures.given c.in_default.is;
+      kept = c.result_pairs-r.ensures.kept;
+    }
 
 pub result_pack-overflow_add-used : goal.result_pack-overflow_add-used
 result_pack-overflow_add-used t c =
@@ -410,13 +442,16 @@ result_pack-overflow_add-row-2 t c =
 
 pub result_pack-null_others-requires : goal.result_pack-null_others-requires
 result_pack-null_others-requires t c =
-    record { nullable = pack_nulls c.requires.tables c.requires.code c.kinds.ensures.read c.has-had.ensures.told
+    record {
+      nullable = pack_nulls c.requires.tables c.requires.code c.kinds.ensures.read c.has-had.ensures.told
           c.members-first.ensures.found (ap (λ (x : ℕ). c.args.dest + x) c.size-2.ensures.read)
           (ap (λ (x : ℕ). c.args.row + x) c.size.ensures.read) c.result_pairs-r.new.into
-          c.result_pairs-r.result c.result_pairs-r.ensures.given c.in-Grown.is c.requires.result_asked; room = pack_room c.requires.tables c.requires.code c.kinds.ensures.read c.has-had.ensures.told
+          c.result_pairs-r.result c.result_pairs-r.ensures.given c.in-Grown.is c.requires.result_asked;
+      room = pack_room c.requires.tables c.requires.code c.kinds.ensures.read c.has-had.ensures.told
           c.members-first.ensures.found (ap (λ (x : ℕ). c.args.dest + x) c.size-2.ensures.read)
           (ap (λ (x : ℕ). c.args.row + x) c.size.ensures.read) c.result_pairs-r.new.into
-          c.result_pairs-r.result c.result_pairs-r.ensures.given c.in-Grown.is c.requires.result_asked }
+          c.result_pairs-r.result c.result_pairs-r.ensures.given c.in-Grown.is c.requires.result_asked;
+    }
 
 pub result_pack-raise-requires : goal.result_pack-raise-requires
 result_pack-raise-requires t c =
@@ -429,44 +464,56 @@ result_pack-raise-requires t c =
 
 pub result_pack-returns : goal.result_pack-returns
 result_pack-returns t c =
-    record { given = pack_answer c.requires.tables c.requires.code c.kinds.ensures.read
+    record {
+      given = pack_answer c.requires.tables c.requires.code c.kinds.ensures.read
           c.has-had.ensures.told c.members-first.ensures.found
           (ap (λ (x : ℕ). c.args.dest + x) c.size-2.ensures.read)
           (ap (λ (x : ℕ). c.args.row + x) c.size.ensures.read) c.result_pairs-r.new.into
           c.result_pairs-r.result c.result_pairs-r.ensures.given c.in-Grown.is
-          c.null_others.new.res c.null_others.ensures.nulled c.raise.ensures.raised c.raise.auto.shapes; kept = c.result_pairs-r.ensures.kept }
+          c.null_others.new.res c.null_others.ensures.nulled c.raise.ensures.raised c.raise.auto.shapes;
+      kept = c.result_pairs-r.ensures.kept;
+    }
 
 pub result_pair-find_place-place-requires : goal.result_pair-find_place-place-requires
 result_pair-find_place-place-requires t c =
     record { fields_held = pair_held c.requires.pair_asked; room = tables_room c.requires.tables }
 
 pub result_pair-result_into-requires : goal.result_pair-result_into-requires
-result_pair-result_into-requires t c =
-    (
-      omega (arith, c.decreases),
-      (
-        listed_asked c.args.had c.requires.tables c.name-name.ensures.read c.find_place-place.ensures.found
-            c.if-place.true c.requires.pair_asked,
-        c.requires.tables,
-      ),
-    )
+result_pair-result_into-requires t c = (
+  omega (arith, c.decreases),
+  (
+    listed_asked c.args.had c.requires.tables c.name-name.ensures.read c.find_place-place.ensures.found
+        c.if-place.true c.requires.pair_asked,
+    c.requires.tables,
+  ),
+)
 
 pub result_pair-returns-then-place : goal.result_pair-returns-then-place
 result_pair-returns-then-place t c =
-    record { given = listed_answer c.args.had c.requires.tables c.name-name.ensures.read c.find_place-place.ensures.found
+    record {
+      given = listed_answer c.args.had c.requires.tables c.name-name.ensures.read c.find_place-place.ensures.found
           c.if-place.true c.result_into.new.into
-          c.result_into.result c.result_into.ensures.given; kept = c.result_into.ensures.kept }
+          c.result_into.result c.result_into.ensures.given;
+      kept = c.result_into.ensures.kept;
+    }
 
 pub result_pair-open_row-r-requires : goal.result_pair-open_row-r-requires
 result_pair-open_row-r-requires t c =
-    record { room = tables_room c.requires.tables; inside = new_inside c.args.had c.requires.tables c.name-name.ensures.read c.find_place-place.ensures.found
-            c.if-place.false c.requires.pair_asked; small = subst (λ (x : ℕ). x < 128) (sym c.start_kinds.ensures.told) (kind_bits_lt (member_start c.args.had)) }
+    record {
+      room = tables_room c.requires.tables;
+      inside = new_inside c.args.had c.requires.tables c.name-name.ensures.read c.find_place-place.ensures.found
+          c.if-place.false c.requires.pair_asked;
+      small = subst (λ (x : ℕ). x < 128) (sym c.start_kinds.ensures.told) (kind_bits_lt (member_start c.args.had));
+    }
 
 pub result_pair-returns-in_default : goal.result_pair-returns-in_default
 result_pair-returns-in_default t c =
-    record { given = new_full_first c.args.had c.requires.tables c.name-name.ensures.read c.find_place-place.ensures.found
+    record {
+      given = new_full_first c.args.had c.requires.tables c.name-name.ensures.read c.find_place-place.ensures.found
           c.if-place.false c.open_row-r.new.shapes c.open_row-r.result
-          c.start_kinds.ensures.told c.open_row-r.ensures.opened c.in_default.is; kept = record { front = refl; same = refl } }
+          c.start_kinds.ensures.told c.open_row-r.ensures.opened c.in_default.is;
+      kept = record { front = refl; same = refl };
+    }
 
 pub result_pair-overflow_add-used : goal.result_pair-overflow_add-used
 result_pair-overflow_add-used t c =
@@ -476,27 +523,29 @@ result_pair-overflow_add-used t c =
     omega (arith, x.enough, x.small)
 
 pub result_pair-result_into-r-requires : goal.result_pair-result_into-r-requires
-result_pair-result_into-r-requires t c =
-    (
-      omega (arith, c.decreases),
-      (
-        new_asked c.args.had c.requires.tables c.name-name.ensures.read c.find_place-place.ensures.found c.if-place.false
-            c.open_row-r.new.shapes c.open_row-r.result c.start_kinds.ensures.told
-            c.open_row-r.ensures.opened c.in-Grown.is c.requires.pair_asked,
-        new_tables c.args.had c.requires.tables c.name-name.ensures.read c.find_place-place.ensures.found c.if-place.false
-            c.open_row-r.new.shapes c.open_row-r.result c.start_kinds.ensures.told
-            c.open_row-r.ensures.opened c.in-Grown.is c.requires.pair_asked,
-      ),
-    )
+result_pair-result_into-r-requires t c = (
+  omega (arith, c.decreases),
+  (
+    new_asked c.args.had c.requires.tables c.name-name.ensures.read c.find_place-place.ensures.found c.if-place.false
+        c.open_row-r.new.shapes c.open_row-r.result c.start_kinds.ensures.told
+        c.open_row-r.ensures.opened c.in-Grown.is c.requires.pair_asked,
+    new_tables c.args.had c.requires.tables c.name-name.ensures.read c.find_place-place.ensures.found c.if-place.false
+        c.open_row-r.new.shapes c.open_row-r.result c.start_kinds.ensures.told
+        c.open_row-r.ensures.opened c.in-Grown.is c.requires.pair_asked,
+  ),
+)
 
 pub result_pair-returns-in_default-r : goal.result_pair-returns-in_default-r
 result_pair-returns-in_default-r t c =
-    record { given = new_full_then c.args.had c.requires.tables c.name-name.ensures.read c.find_place-place.ensures.found
+    record {
+      given = new_full_then c.args.had c.requires.tables c.name-name.ensures.read c.find_place-place.ensures.found
           c.if-place.false c.open_row-r.new.shapes c.open_row-r.result
           c.start_kinds.ensures.told c.open_row-r.ensures.opened c.in-Grown.is
           c.result_into-r.new.into c.result_into-r.result
           c.result_into-r.ensures.given
-          c.in_default-r.is; kept = c.result_into-r.ensures.kept }
+          c.in_default-r.is;
+      kept = c.result_into-r.ensures.kept;
+    }
 
 pub result_pair-overflow_add-result : goal.result_pair-overflow_add-result
 result_pair-overflow_add-result t c =
@@ -509,12 +558,15 @@ result_pair-overflow_add-result t c =
 
 pub result_pair-returns : goal.result_pair-returns
 result_pair-returns t c =
-    record { given = new_answer c.args.had c.requires.tables c.name-name.ensures.read c.find_place-place.ensures.found
+    record {
+      given = new_answer c.args.had c.requires.tables c.name-name.ensures.read c.find_place-place.ensures.found
           c.if-place.false c.open_row-r.new.shapes c.open_row-r.result
           c.start_kinds.ensures.told c.open_row-r.ensures.opened c.in-Grown.is
           c.result_into-r.new.into c.result_into-r.result
           c.result_into-r.ensures.given
-          c.in-Grown-r.is; kept = c.result_into-r.ensures.kept }
+          c.in-Grown-r.is;
+      kept = c.result_into-r.ensures.kept;
+    }
 
 pub result_pairs-loop-i-init : goal.result_pairs-loop-i-init
 result_pairs-loop-i-init t c =
@@ -542,11 +594,14 @@ result_pairs-result_pair-r-requires t c =
 
 pub result_pairs-returns-in_default : goal.result_pairs-returns-in_default
 result_pairs-returns-in_default t c =
-    record { given = pairs_full c.requires.tables c.loop-i.invariant c.loop-i-test.true c.result_pair-r.new.env
+    record {
+      given = pairs_full c.requires.tables c.loop-i.invariant c.loop-i-test.true c.result_pair-r.new.env
           c.result_pair-r.new.into c.result_pair-r.result c.result_pair-r.ensures.given
-          c.result_pair-r.ensures.kept c.in_default.is; kept = pairs_kept c.requires.tables c.loop-i.invariant c.loop-i-test.true c.result_pair-r.new.env
+          c.result_pair-r.ensures.kept c.in_default.is;
+      kept = pairs_kept c.requires.tables c.loop-i.invariant c.loop-i-test.true c.result_pair-r.new.env
           c.result_pair-r.new.into c.result_pair-r.result c.result_pair-r.ensures.given
-          c.result_pair-r.ensures.kept }
+          c.result_pair-r.ensures.kept;
+    }
 
 pub result_pairs-overflow_add-grown : goal.result_pairs-overflow_add-grown
 result_pairs-overflow_add-grown t c =
@@ -587,9 +642,12 @@ result_when-locate-requires t c =
 
 pub result_when-returns-in_default : goal.result_when-returns-in_default
 result_when-returns-in_default t c =
-    record { given = (λ p m r env u name s j.
+    record {
+      given = (λ p m r env u name s j.
           when_never c.requires.tables c.requires.code refl refl (add-one c.args.bound) c.locate.result
-          c.locate.ensures.found j c.in_default.is); kept = record { front = refl; same = refl } }
+          c.locate.ensures.found j c.in_default.is);
+      kept = record { front = refl; same = refl };
+    }
 
 pub result_when-overflow_add-first : goal.result_when-overflow_add-first
 result_when-overflow_add-first t c =
@@ -613,12 +671,15 @@ result_when-overflow_add-second t c =
 
 pub result_when-bind-requires : goal.result_when-bind-requires
 result_when-bind-requires t c =
-    record { slot_in_bounds = when_room c.requires.tables c.requires.code (one_part c.args.forms.now c.args.row c.size.ensures.read)
+    record {
+      slot_in_bounds = when_room c.requires.tables c.requires.code (one_part c.args.forms.now c.args.row c.size.ensures.read)
           (two_parts c.args.forms.now c.args.row c.size.ensures.read c.size-2.ensures.read)
-          (add-one c.args.bound) c.requires.result_asked; fits = cut_fits c.requires.tables c.requires.code (one_part c.args.forms.now c.args.row c.size.ensures.read)
+          (add-one c.args.bound) c.requires.result_asked;
+      fits = cut_fits c.requires.tables c.requires.code (one_part c.args.forms.now c.args.row c.size.ensures.read)
           (two_parts c.args.forms.now c.args.row c.size.ensures.read c.size-2.ensures.read)
           (add-one c.args.bound) c.locate.result c.locate.ensures.found c.in-At.is
-          c.operand-test.ensures.read c.cut.ensures.told c.requires.result_asked }
+          c.operand-test.ensures.read c.cut.ensures.told c.requires.result_asked;
+    }
 
 pub result_when-overflow_add-bound : goal.result_when-overflow_add-bound
 result_when-overflow_add-bound t c =
@@ -646,21 +707,24 @@ result_when-result_into-requires t c =
 
 pub result_when-returns-in_default-result_into : goal.result_when-returns-in_default-result_into
 result_when-returns-in_default-result_into t c =
-    record { given = when_full_first c.requires.tables c.requires.code
+    record {
+      given = when_full_first c.requires.tables c.requires.code
           (one_part c.args.forms.now c.args.row c.size.ensures.read)
           (two_parts c.args.forms.now c.args.row c.size.ensures.read c.size-2.ensures.read)
           (add-one c.args.bound) c.locate.result c.locate.ensures.found c.in-At.is
           c.operand-test.ensures.read c.cut.ensures.told c.bind.ensures.put
           c.result_into.new.env c.result_into.new.into
           c.result_into.result c.result_into.ensures.given c.result_into.ensures.kept
-          c.in_default-result_into.is; kept = when_kept_then c.requires.tables c.requires.code
+          c.in_default-result_into.is;
+      kept = when_kept_then c.requires.tables c.requires.code
           (one_part c.args.forms.now c.args.row c.size.ensures.read)
           (two_parts c.args.forms.now c.args.row c.size.ensures.read c.size-2.ensures.read)
           (add-one c.args.bound) c.locate.result c.locate.ensures.found c.in-At.is
           c.operand-test.ensures.read c.cut.ensures.told c.bind.ensures.put
           c.result_into.new.env c.result_into.new.into
           c.result_into.result c.result_into.ensures.given
-          c.result_into.ensures.kept c.requires.result_asked }
+          c.result_into.ensures.kept c.requires.result_asked;
+    }
 
 pub result_when-bind-requires-2 : goal.result_when-bind-requires-2
 result_when-bind-requires-2 t c =
@@ -720,7 +784,8 @@ result_when-result_into-requires-2 t c =
 
 pub result_when-returns-in_default-result_into-2 : goal.result_when-returns-in_default-result_into-2
 result_when-returns-in_default-result_into-2 t c =
-    record { given = when_full_then c.requires.tables c.requires.code (one_part c.args.forms.now c.args.row c.size.ensures.read)
+    record {
+      given = when_full_then c.requires.tables c.requires.code (one_part c.args.forms.now c.args.row c.size.ensures.read)
           (two_parts c.args.forms.now c.args.row c.size.ensures.read c.size-2.ensures.read)
           (add-one c.args.bound) c.locate.result c.locate.ensures.found c.in-At.is
           c.operand-test.ensures.read c.cut.ensures.told c.bind.ensures.put
@@ -730,7 +795,8 @@ result_when-returns-in_default-result_into-2 t c =
           c.result_into-2.new.env
           c.result_into-2.new.into c.result_into-2.result
           c.result_into-2.ensures.given
-          c.result_into-2.ensures.kept c.in_default-result_into-2.is; kept = when_kept c.requires.tables c.requires.code (one_part c.args.forms.now c.args.row c.size.ensures.read)
+          c.result_into-2.ensures.kept c.in_default-result_into-2.is;
+      kept = when_kept c.requires.tables c.requires.code (one_part c.args.forms.now c.args.row c.size.ensures.read)
           (two_parts c.args.forms.now c.args.row c.size.ensures.read c.size-2.ensures.read)
           (add-one c.args.bound) c.locate.result c.locate.ensures.found c.in-At.is
           c.operand-test.ensures.read c.cut.ensures.told c.bind.ensures.put
@@ -740,7 +806,8 @@ result_when-returns-in_default-result_into-2 t c =
           c.result_into-2.new.env
           c.result_into-2.new.into c.result_into-2.result
           c.result_into-2.ensures.given
-          c.result_into-2.ensures.kept c.requires.result_asked }
+          c.result_into-2.ensures.kept c.requires.result_asked;
+    }
 
 pub result_when-overflow_add-result : goal.result_when-overflow_add-result
 result_when-overflow_add-result t c =
@@ -759,7 +826,8 @@ result_when-overflow_add-result t c =
 
 pub result_when-returns : goal.result_when-returns
 result_when-returns t c =
-    record { given = when_answer c.requires.tables c.requires.code (one_part c.args.forms.now c.args.row c.size.ensures.read)
+    record {
+      given = when_answer c.requires.tables c.requires.code (one_part c.args.forms.now c.args.row c.size.ensures.read)
           (two_parts c.args.forms.now c.args.row c.size.ensures.read c.size-2.ensures.read)
           (add-one c.args.bound) c.locate.result c.locate.ensures.found c.in-At.is
           c.operand-test.ensures.read c.cut.ensures.told c.bind.ensures.put
@@ -769,7 +837,8 @@ result_when-returns t c =
           c.result_into-2.new.env
           c.result_into-2.new.into c.result_into-2.result
           c.result_into-2.ensures.given
-          c.result_into-2.ensures.kept c.in-Grown-result_into.is; kept = when_kept c.requires.tables c.requires.code (one_part c.args.forms.now c.args.row c.size.ensures.read)
+          c.result_into-2.ensures.kept c.in-Grown-result_into.is;
+      kept = when_kept c.requires.tables c.requires.code (one_part c.args.forms.now c.args.row c.size.ensures.read)
           (two_parts c.args.forms.now c.args.row c.size.ensures.read c.size-2.ensures.read)
           (add-one c.args.bound) c.locate.result c.locate.ensures.found c.in-At.is
           c.operand-test.ensures.read c.cut.ensures.told c.bind.ensures.put
@@ -779,4 +848,5 @@ result_when-returns t c =
           c.result_into-2.new.env
           c.result_into-2.new.into c.result_into-2.result
           c.result_into-2.ensures.given
-          c.result_into-2.ensures.kept c.requires.result_asked }
+          c.result_into-2.ensures.kept c.requires.result_asked;
+    }

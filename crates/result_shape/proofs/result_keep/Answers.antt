@@ -12,15 +12,21 @@ locate-r-requires c =
     keep_asks c.requires.tables c.requires.code c.requires.result_asked
 
 pub returns-in_default : goal.returns-in_default
-returns-in_default c = record { given = λ p m r env t name s j. keep_never c.requires.tables c.requires.code c.locate-r.result c.locate-r.ensures.found j c.in_default.is }
+returns-in_default c =
+    record { given = λ p m r env t name s j. keep_never c.requires.tables c.requires.code c.locate-r.result c.locate-r.ensures.found j c.in_default.is }
 
 pub keep-requires : goal.keep-requires
 keep-requires c =
-      record { kept_asked = kept_asked c.requires.tables c.requires.code c.locate-r.result c.locate-r.ensures.found
-          c.in-At.is c.requires.result_asked; tables = c.requires.tables }
+    record {
+      kept_asked = kept_asked c.requires.tables c.requires.code c.locate-r.result c.locate-r.ensures.found
+          c.in-At.is c.requires.result_asked;
+      tables = c.requires.tables;
+    }
 
 pub returns : goal.returns
 returns c =
-    record { given = kept_Gives c.requires.tables c.requires.code c.locate-r.result c.locate-r.ensures.found
-    c.in-At.is c.keep.new.res c.keep.result
-    c.keep.ensures.kept }
+    record {
+      given = kept_Gives c.requires.tables c.requires.code c.locate-r.result c.locate-r.ensures.found
+          c.in-At.is c.keep.new.res c.keep.result
+          c.keep.ensures.kept;
+    }

@@ -18,8 +18,10 @@ shape_of-bindings-then-limits-begun c =
 
 pub returns-then-limits-begun : goal.returns-then-limits-begun
 returns-then-limits-begun c =
-    record { ran = too_many c.args.bindings.now c.requires.bound c.run_form-r.ensures.ran
-    (sym c.opened.ensures.told ∙ c.in-Done.is) c.if-limits-begun.true }
+    record {
+      ran = too_many c.args.bindings.now c.requires.bound c.run_form-r.ensures.ran
+          (sym c.opened.ensures.told ∙ c.in-Done.is) c.if-limits-begun.true;
+    }
 
 pub is_deep-requires : goal.is_deep-requires
 is_deep-requires c =
@@ -33,9 +35,11 @@ shape_of-bindings-then-is_deep c =
 
 pub returns-then-is_deep : goal.returns-then-is_deep
 returns-then-is_deep c =
-    record { ran = too_deep c.args.bindings.now c.requires.bound c.run_form-r.ensures.ran
-    (sym c.opened.ensures.told ∙ c.in-Done.is)
-    c.if-limits-begun.false c.requires.room c.is_deep.ensures.told c.if-is_deep.true }
+    record {
+      ran = too_deep c.args.bindings.now c.requires.bound c.run_form-r.ensures.ran
+          (sym c.opened.ensures.told ∙ c.in-Done.is)
+          c.if-limits-begun.false c.requires.room c.is_deep.ensures.told c.if-is_deep.true;
+    }
 
 pub shape_of-bindings-else-is_deep : goal.shape_of-bindings-else-is_deep
 shape_of-bindings-else-is_deep c =
@@ -43,9 +47,11 @@ shape_of-bindings-else-is_deep c =
 
 pub returns-else-is_deep : goal.returns-else-is_deep
 returns-else-is_deep c =
-    record { ran = allowed c.args.bindings.now c.requires.bound c.run_form-r.ensures.ran
-    (sym c.opened.ensures.told ∙ c.in-Done.is)
-    c.if-limits-begun.false c.requires.room c.is_deep.ensures.told c.if-is_deep.false }
+    record {
+      ran = allowed c.args.bindings.now c.requires.bound c.run_form-r.ensures.ran
+          (sym c.opened.ensures.told ∙ c.in-Done.is)
+          c.if-limits-begun.false c.requires.room c.is_deep.ensures.told c.if-is_deep.false;
+    }
 
 pub shape_of-bindings-in-Refused : goal.shape_of-bindings-in-Refused
 shape_of-bindings-in-Refused c =
@@ -53,5 +59,7 @@ shape_of-bindings-in-Refused c =
 
 pub returns-in-Refused : goal.returns-in-Refused
 returns-in-Refused c =
-    record { ran = refused_at c.args.bindings.now c.requires.bound c.run_form-r.ensures.ran
-    (sym c.opened.ensures.told ∙ c.in-Refused.is) }
+    record {
+      ran = refused_at c.args.bindings.now c.requires.bound c.run_form-r.ensures.ran
+          (sym c.opened.ensures.told ∙ c.in-Refused.is);
+    }

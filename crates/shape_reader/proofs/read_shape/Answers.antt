@@ -17,13 +17,17 @@ overflow_mul-result c =
 
 pub returns-in-Whole : goal.returns-in-Whole
 returns-in-Whole c =
-    record { read = whole_text c.args.limits c.requires c.read_form.ensures.read c.in-Done.is
-    c.next_end.ensures.read c.in-Whole.is }
+    record {
+      read = whole_text c.args.limits c.requires c.read_form.ensures.read c.in-Done.is
+          c.next_end.ensures.read c.in-Whole.is;
+    }
 
 pub returns-in-More : goal.returns-in-More
 returns-in-More c =
-    record { read = more_behind c.args.limits c.requires c.read_form.ensures.read c.in-Done.is
-    c.next_end.ensures.read c.in-More.is }
+    record {
+      read = more_behind c.args.limits c.requires c.read_form.ensures.read c.in-Done.is
+          c.next_end.ensures.read c.in-More.is;
+    }
 
 pub returns-in-Refused : goal.returns-in-Refused
 returns-in-Refused c = record { read = text_refused c.args.limits c.requires c.read_form.ensures.read c.in-Refused.is }

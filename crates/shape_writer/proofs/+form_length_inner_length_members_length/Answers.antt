@@ -1,7 +1,7 @@
 -- The proof of the cycle of calls {form_length, inner_length, members_length}. Each call goes on at a later row or, from `members_length`
 -- to `inner_length` and from there to `form_length`, at the same one: the measures are twice what is left of the table from the row on, and
 -- one or two more for those two. The loop's invariant is `Counting`. Assumes nothing.
-use Prim.Native.Nat.{ℕ, ◌+◌, ◌-◌}
+use Prim.Native.Nat.{ℕ, ◌+◌}
 use native.Mathlib.Omega.{arith}
 use mathlib.Core.Path.{refl, sym, ap, ◌∙◌}
 use lib.ListN.{length}
@@ -118,11 +118,13 @@ form_length-overflow_add-result-then-has-3 t c =
 
 pub form_length-returns-then-has : goal.form_length-returns-then-has
 form_length-returns-then-has t c =
-    record { measured = λ s h. let l = listed c.args.around h
-    (ap (λ (k : ℕ). has_bit k 32) (sym c.kinds-kinds.ensures.read) ∙ sym c.has.ensures.told ∙ c.if-has.true) in
-    sum_listed l (c.head_length-head.ensures.measured ∙ ap (λ (k : ℕ). length (head_text k)) (c.kinds-kinds.ensures.read ∙ held_kinds h))
-    (c.form_length-element.ensures.measured l.element l.holds)
-    (c.members_length.ensures.measured l.fields (rw (c.size.ensures.read, c.size-then-has.ensures.read) l.members)) }
+    record {
+      measured = λ s h. let l = listed c.args.around h
+          (ap (λ (k : ℕ). has_bit k 32) (sym c.kinds-kinds.ensures.read) ∙ sym c.has.ensures.told ∙ c.if-has.true) in
+          sum_listed l (c.head_length-head.ensures.measured ∙ ap (λ (k : ℕ). length (head_text k)) (c.kinds-kinds.ensures.read ∙ held_kinds h))
+          (c.form_length-element.ensures.measured l.element l.holds)
+          (c.members_length.ensures.measured l.fields (rw (c.size.ensures.read, c.size-then-has.ensures.read) l.members));
+    }
 
 pub form_length-members_length-requires-2 : goal.form_length-members_length-requires-2
 form_length-members_length-requires-2 t c =
@@ -151,14 +153,16 @@ form_length-overflow_add-result-2 t c =
 
 pub form_length-returns : goal.form_length-returns
 form_length-returns t c =
-    record { measured = λ s h. let l = unlisted c.args.around h
-    (ap (λ (k : ℕ). has_bit k 32) (sym c.kinds-kinds.ensures.read) ∙ sym c.has.ensures.told ∙ c.if-has.false) in
-    omega (
-      arith,
-      length_unlisted l,
-      (c.head_length-head.ensures.measured ∙ ap (λ (k : ℕ). length (head_text k)) (c.kinds-kinds.ensures.read ∙ held_kinds h)),
-      (c.members_length-2.ensures.measured l.fields (rw c.size.ensures.read l.members)),
-    ) }
+    record {
+      measured = λ s h. let l = unlisted c.args.around h
+          (ap (λ (k : ℕ). has_bit k 32) (sym c.kinds-kinds.ensures.read) ∙ sym c.has.ensures.told ∙ c.if-has.false) in
+          omega (
+            arith,
+            length_unlisted l,
+            (c.head_length-head.ensures.measured ∙ ap (λ (k : ℕ). length (head_text k)) (c.kinds-kinds.ensures.read ∙ held_kinds h)),
+            (c.members_length-2.ensures.measured l.fields (rw c.size.ensures.read l.members)),
+          );
+    }
 
 pub inner_length-overflow_add-result : goal.inner_length-overflow_add-result
 inner_length-overflow_add-result t c =
@@ -171,8 +175,10 @@ inner_length-overflow_add-result t c =
 
 pub inner_length-returns-then-size-eq2 : goal.inner_length-returns-then-size-eq2
 inner_length-returns-then-size-eq2 t c =
-    record { measured = λ s h. leaf_length c.args.around h c.size.ensures.read c.if-size-eq2.true c.kinds.ensures.read
-    c.head_length.ensures.measured }
+    record {
+      measured = λ s h. leaf_length c.args.around h c.size.ensures.read c.if-size-eq2.true c.kinds.ensures.read
+          c.head_length.ensures.measured;
+    }
 
 pub inner_length-form_length-requires : goal.inner_length-form_length-requires
 inner_length-form_length-requires t c =
@@ -203,17 +209,16 @@ members_length-overflow_add-around t c =
     omega (arith, inner_below c.loop-i.invariant c.loop-i-test.true c.requires)
 
 pub members_length-inner_length-requires : goal.members_length-inner_length-requires
-members_length-inner_length-requires t c =
-    (
-      omega (
-        arith,
-        c.decreases,
-        c.loop-i.invariant.ahead,
-        first_within (counted_turn c.loop-i.invariant c.loop-i-test.true c.requires),
-        first_some (counted_turn c.loop-i.invariant c.loop-i-test.true c.requires),
-      ),
-      form_measurable c.loop-i.invariant c.loop-i-test.true c.requires,
-    )
+members_length-inner_length-requires t c = (
+  omega (
+    arith,
+    c.decreases,
+    c.loop-i.invariant.ahead,
+    first_within (counted_turn c.loop-i.invariant c.loop-i-test.true c.requires),
+    first_some (counted_turn c.loop-i.invariant c.loop-i-test.true c.requires),
+  ),
+  form_measurable c.loop-i.invariant c.loop-i-test.true c.requires,
+)
 
 pub members_length-overflow_add-length-in-loop-i : goal.members_length-overflow_add-length-in-loop-i
 members_length-overflow_add-length-in-loop-i t c =

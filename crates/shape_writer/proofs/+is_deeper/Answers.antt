@@ -1,5 +1,4 @@
 -- `shape_writer::is_deeper` meets its contract: the nesting left falls. The loop's invariant is `Descent`. Assumes nothing.
-use Prim.Native.Nat.{◌-◌}
 use native.Mathlib.Omega.{arith}
 use Rattle.shape_writer.proofs.Depth.{descends, inner_standing, inner_some, inner_within, too_deep}
 use Rattle.shape_writer.proofs.Depth.{descends_on, deep_enough, deeper_than_none, too_few, standing_within, standing_some}

@@ -1,7 +1,7 @@
 -- The proof of the cycle of calls {write_form, write_inner, write_members}. Each call goes on at a later row or, from `write_members` to
 -- `write_inner` and from there to `write_form`, at the same one: the measures are twice what is left of the table from the row on, and one
 -- or two more for those two. The loop's invariant is `Loop`. Assumes nothing.
-use Prim.Native.Nat.{ℕ, ◌+◌, ◌-◌}
+use Prim.Native.Nat.{ℕ, ◌+◌}
 use native.Mathlib.Omega.{arith}
 use mathlib.Core.Path.{refl, sym, ap, ◌∙◌}
 use lib.ListN.{length}
@@ -109,17 +109,19 @@ write_form-write_members-requires t c =
 
 pub write_form-returns-then-has : goal.write_form-returns-then-has
 write_form-returns-then-has t c =
-    record { written = λ s h. let l = listed c.args.around h
-    (ap (λ (k : ℕ). has_bit k 32) (sym c.kinds-kinds.ensures.read) ∙ sym c.has.ensures.told
-    ∙ c.if-has.true) in
-    writes_as l.text
-    (writes_then (omega (arith, c.requires.room))
-    (writes_then (omega (arith, c.requires.room))
-    (writes_then (omega (arith, c.requires.room))
-    (writes_as (ap head_text (c.kinds-kinds.ensures.read ∙ held_kinds h)) c.write_head-j.ensures.written)
-    c.write_line-k.ensures.written)
-    (c.write_form-m.ensures.written l.element l.holds))
-    (c.write_members.ensures.written l.fields (rw (c.size.ensures.read, c.size-then-has.ensures.read) l.members))) }
+    record {
+      written = λ s h. let l = listed c.args.around h
+          (ap (λ (k : ℕ). has_bit k 32) (sym c.kinds-kinds.ensures.read) ∙ sym c.has.ensures.told
+          ∙ c.if-has.true) in
+          writes_as l.text
+          (writes_then (omega (arith, c.requires.room))
+          (writes_then (omega (arith, c.requires.room))
+          (writes_then (omega (arith, c.requires.room))
+          (writes_as (ap head_text (c.kinds-kinds.ensures.read ∙ held_kinds h)) c.write_head-j.ensures.written)
+          c.write_line-k.ensures.written)
+          (c.write_form-m.ensures.written l.element l.holds))
+          (c.write_members.ensures.written l.fields (rw (c.size.ensures.read, c.size-then-has.ensures.read) l.members)));
+    }
 
 pub write_form-write_members-requires-2 : goal.write_form-write_members-requires-2
 write_form-write_members-requires-2 t c =
@@ -143,12 +145,14 @@ write_form-write_members-requires-2 t c =
 
 pub write_form-returns : goal.write_form-returns
 write_form-returns t c =
-    record { written = λ s h. let l = unlisted c.args.around h
-    (ap (λ (k : ℕ). has_bit k 32) (sym c.kinds-kinds.ensures.read) ∙ sym c.has.ensures.told ∙ c.if-has.false) in
-    writes_as l.text
-    (writes_then (omega (arith, c.requires.room))
-    (writes_as (ap head_text (c.kinds-kinds.ensures.read ∙ held_kinds h)) c.write_head-j.ensures.written)
-    (c.write_members-2.ensures.written l.fields (rw c.size.ensures.read l.members))) }
+    record {
+      written = λ s h. let l = unlisted c.args.around h
+          (ap (λ (k : ℕ). has_bit k 32) (sym c.kinds-kinds.ensures.read) ∙ sym c.has.ensures.told ∙ c.if-has.false) in
+          writes_as l.text
+          (writes_then (omega (arith, c.requires.room))
+          (writes_as (ap head_text (c.kinds-kinds.ensures.read ∙ held_kinds h)) c.write_head-j.ensures.written)
+          (c.write_members-2.ensures.written l.fields (rw c.size.ensures.read l.members)));
+    }
 
 pub write_inner-write_head-j-requires : goal.write_inner-write_head-j-requires
 write_inner-write_head-j-requires t c =
@@ -173,9 +177,11 @@ write_inner-write_bytes-requires t c =
 pub write_inner-returns-then-size-eq2 : goal.write_inner-returns-then-size-eq2
 unfolding bytes
 write_inner-returns-then-size-eq2 t c =
-    record { written = λ s h. writes_as (leaf_text c.args.around h (sym c.size.ensures.read ∙ c.if-size-eq2.true))
-    (writes_then (omega (arith, c.requires.room))
-    (writes_as (ap head_text c.kinds.ensures.read) c.write_head-j.ensures.written) c.write_bytes.ensures.written) }
+    record {
+      written = λ s h. writes_as (leaf_text c.args.around h (sym c.size.ensures.read ∙ c.if-size-eq2.true))
+          (writes_then (omega (arith, c.requires.room))
+          (writes_as (ap head_text c.kinds.ensures.read) c.write_head-j.ensures.written) c.write_bytes.ensures.written);
+    }
 
 pub write_inner-write_form-requires : goal.write_inner-write_form-requires
 write_inner-write_form-requires t c =
@@ -198,18 +204,17 @@ write_members-overflow_add-around t c =
     omega (arith, inner_room c.requires c.loop-i.invariant c.loop-i-test.true, c.well_formed.0.0)
 
 pub write_members-write_inner-j-requires : goal.write_members-write_inner-j-requires
-write_members-write_inner-j-requires t c =
-    (
-      omega (
-        arith,
-        c.decreases,
-        c.loop-i.invariant.ahead,
-        first_within (turn c.requires c.loop-i.invariant c.loop-i-test.true),
-        first_some (turn c.requires c.loop-i.invariant c.loop-i-test.true),
-      ),
-      form_printable c.requires c.loop-i.invariant c.loop-i-test.true c.name.ensures.read
-          c.write_label-j.ensures.written c.write_label-j.auto.out (omega (arith, c.well_formed.0.0)),
-    )
+write_members-write_inner-j-requires t c = (
+  omega (
+    arith,
+    c.decreases,
+    c.loop-i.invariant.ahead,
+    first_within (turn c.requires c.loop-i.invariant c.loop-i-test.true),
+    first_some (turn c.requires c.loop-i.invariant c.loop-i-test.true),
+  ),
+  form_printable c.requires c.loop-i.invariant c.loop-i-test.true c.name.ensures.read
+      c.write_label-j.ensures.written c.write_label-j.auto.out (omega (arith, c.well_formed.0.0)),
+)
 
 pub write_members-write_bytes-j-requires : goal.write_members-write_bytes-j-requires
 write_members-write_bytes-j-requires t c =

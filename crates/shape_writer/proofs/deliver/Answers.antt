@@ -12,7 +12,8 @@ returns-in_default c =
 pub returns-then-output-length : goal.returns-then-output-length
 returns-then-output-length c =
     let facts = delivers_short c.args.shapes.now c.args.pool.now c.args.limits c.args.output.now
-    c.measure.ensures.judged c.in-Fits.is (omega (arith, c.if-output-length.true)) c.answer-then-output-length.ensures.set in record { answered = facts.0; kept = facts.1 }
+    c.measure.ensures.judged c.in-Fits.is (omega (arith, c.if-output-length.true)) c.answer-then-output-length.ensures.set in
+    record { answered = facts.0; kept = facts.1 }
 
 pub write_form-end-requires : goal.write_form-end-requires
 write_form-end-requires c =

@@ -32,11 +32,13 @@ returns-then-limits-length c = record { judged = over_bytes c.args.limits c.form
 
 pub returns : goal.returns
 returns c =
-    record { judged = fits
-    c.args.limits
-    c.size.ensures.read
-    (omega (arith, c.if-limits-size.false))
-    c.is_deeper.ensures.told
-    c.if-is_deeper.false
-    c.form_length-length.ensures.measured
-    (omega (arith, c.if-limits-length.false)) }
+    record {
+      judged = fits
+          c.args.limits
+          c.size.ensures.read
+          (omega (arith, c.if-limits-size.false))
+          c.is_deeper.ensures.told
+          c.if-is_deeper.false
+          c.form_length-length.ensures.measured
+          (omega (arith, c.if-limits-length.false));
+    }

@@ -1,5 +1,4 @@
 -- `shapes::find_named` meets its contract. The loop's invariant is `Searching`: the name is none of those before. Assumes nothing.
-use Prim.Native.Nat.{◌-◌}
 use mathlib.Core.Path.{refl}
 use native.Mathlib.Omega.{arith}
 use Rattle.pool.specs.PoolLaws.{length_held}
@@ -37,13 +36,15 @@ same_held-requires c =
 
 pub returns-then-same_held : goal.returns-then-same_held
 returns-then-same_held c =
-    record { told = found_Here
-    c.loop-row.invariant
-    c.loop-row-test.true
-    (asked c.args.k c.text_word-w.ensures.split c.text_bytes.ensures.split
-    c.held-n.ensures.counted c.text_word.ensures.split c.text_bytes-in-loop-row.ensures.split
-    c.same_held.ensures.compared)
-    c.if-same_held.true }
+    record {
+      told = found_Here
+          c.loop-row.invariant
+          c.loop-row-test.true
+          (asked c.args.k c.text_word-w.ensures.split c.text_bytes.ensures.split
+          c.held-n.ensures.counted c.text_word.ensures.split c.text_bytes-in-loop-row.ensures.split
+          c.same_held.ensures.compared)
+          c.if-same_held.true;
+    }
 
 pub offset_bounds-shapes-row-in-loop-row : goal.offset_bounds-shapes-row-in-loop-row
 offset_bounds-shapes-row-in-loop-row c =

@@ -1,5 +1,4 @@
 -- `shapes::member_count` meets its contract. The loop's invariant is `Counting`. Assumes nothing.
-use Prim.Native.Nat.{◌-◌}
 use mathlib.Core.Path.{refl}
 use native.Mathlib.Omega.{arith}
 use Rattle.shapes.specs.Shapes.{size_at}

@@ -18,11 +18,15 @@ overflow_add-result-then-has c =
 
 pub returns-then-has : goal.returns-then-has
 returns-then-has c =
-    record { found = ap (λ (n : ℕ). c.args.row + 2 + n) c.size.ensures.read
-    ∙ sym (behind_element c.args.shapes.now c.args.row
-    (sym (c.has.ensures.told ∙ ap (λ (n : ℕ). has_bit n 32) c.kinds.ensures.read) ∙ c.if-has.true)) }
+    record {
+      found = ap (λ (n : ℕ). c.args.row + 2 + n) c.size.ensures.read
+          ∙ sym (behind_element c.args.shapes.now c.args.row
+          (sym (c.has.ensures.told ∙ ap (λ (n : ℕ). has_bit n 32) c.kinds.ensures.read) ∙ c.if-has.true));
+    }
 
 pub returns-else-has : goal.returns-else-has
 returns-else-has c =
-    record { found = sym (behind_row c.args.shapes.now c.args.row
-    (sym (c.has.ensures.told ∙ ap (λ (n : ℕ). has_bit n 32) c.kinds.ensures.read) ∙ c.if-has.false)) }
+    record {
+      found = sym (behind_row c.args.shapes.now c.args.row
+          (sym (c.has.ensures.told ∙ ap (λ (n : ℕ). has_bit n 32) c.kinds.ensures.read) ∙ c.if-has.false));
+    }

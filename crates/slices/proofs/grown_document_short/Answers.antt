@@ -6,5 +6,7 @@ use Rattle.slices.proofs.grown_document_short.Goals as goal
 
 pub returns : goal.returns
 returns c =
-    record { told = let a = c.args in
-    c.three_short.ensures.told ∙ ap (λ ms. slices_short ms (a.shapes ∷ a.nodes ∷ a.pool ∷ [])) (cc) }
+    record {
+      told = let a = c.args in
+          c.three_short.ensures.told ∙ ap (λ ms. slices_short ms (a.shapes ∷ a.nodes ∷ a.pool ∷ [])) (cc);
+    }

@@ -8,10 +8,16 @@ pub document_short-requires : goal.document_short-requires
 document_short-requires c = range_small (sym c.in_range.ensures.told ∙ c.if-in_range.true)
 
 pub returns-then-document_short : goal.returns-then-document_short
-returns-then-document_short c = record { told = before_short (sym c.in_range.ensures.told ∙ c.if-in_range.true) (sym c.document_short.ensures.told ∙ c.if-document_short.true) }
+returns-then-document_short c = record {
+  told = before_short (sym c.in_range.ensures.told ∙ c.if-in_range.true) (sym c.document_short.ensures.told
+      ∙ c.if-document_short.true);
+}
 
 pub returns-then-in_range : goal.returns-then-in_range
-returns-then-in_range c = record { told = before_none (sym c.in_range.ensures.told ∙ c.if-in_range.true) (sym c.document_short.ensures.told ∙ c.if-document_short.false) }
+returns-then-in_range c = record {
+  told = before_none (sym c.in_range.ensures.told ∙ c.if-in_range.true) (sym c.document_short.ensures.told
+      ∙ c.if-document_short.false);
+}
 
 pub returns : goal.returns
 returns c = record { told = before_out (sym c.in_range.ensures.told ∙ c.if-in_range.false) }

@@ -9,13 +9,17 @@ grown_shapes_short-requires c = range_small (sym c.in_range.ensures.told ∙ c.i
 
 pub returns-then-grown_shapes_short : goal.returns-then-grown_shapes_short
 returns-then-grown_shapes_short c =
-    record { told = before_short (sym c.in_range.ensures.told ∙ c.if-in_range.true)
-    (sym c.grown_shapes_short.ensures.told ∙ c.if-grown_shapes_short.true) }
+    record {
+      told = before_short (sym c.in_range.ensures.told ∙ c.if-in_range.true)
+          (sym c.grown_shapes_short.ensures.told ∙ c.if-grown_shapes_short.true);
+    }
 
 pub returns-then-in_range : goal.returns-then-in_range
 returns-then-in_range c =
-    record { told = before_none (sym c.in_range.ensures.told ∙ c.if-in_range.true)
-    (sym c.grown_shapes_short.ensures.told ∙ c.if-grown_shapes_short.false) }
+    record {
+      told = before_none (sym c.in_range.ensures.told ∙ c.if-in_range.true)
+          (sym c.grown_shapes_short.ensures.told ∙ c.if-grown_shapes_short.false);
+    }
 
 pub returns : goal.returns
 returns c = record { told = before_out (sym c.in_range.ensures.told ∙ c.if-in_range.false) }

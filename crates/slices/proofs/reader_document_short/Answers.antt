@@ -16,5 +16,7 @@ overflow_add-texts c =
 
 pub returns : goal.returns
 returns c =
-    record { told = let a = c.args in
-    c.five_short.ensures.told ∙ ap (λ ms. slices_short ms (a.forms ∷ a.nodes ∷ a.results ∷ a.bindings ∷ a.pool ∷ [])) (cc) }
+    record {
+      told = let a = c.args in
+          c.five_short.ensures.told ∙ ap (λ ms. slices_short ms (a.forms ∷ a.nodes ∷ a.results ∷ a.bindings ∷ a.pool ∷ [])) (cc);
+    }

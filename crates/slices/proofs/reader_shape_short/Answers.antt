@@ -6,5 +6,7 @@ use Rattle.slices.proofs.reader_shape_short.Goals as goal
 
 pub returns : goal.returns
 returns c =
-    record { told = let a = c.args in
-    c.five_short.ensures.told ∙ ap (λ ms. slices_short ms (a.forms ∷ a.shapes ∷ a.results ∷ a.bindings ∷ a.pool ∷ [])) (cc) }
+    record {
+      told = let a = c.args in
+          c.five_short.ensures.told ∙ ap (λ ms. slices_short ms (a.forms ∷ a.shapes ∷ a.results ∷ a.bindings ∷ a.pool ∷ [])) (cc);
+    }

@@ -9,5 +9,7 @@ returns-then-x-a c = record { told = let a = c.args in short_first a.a a.x (a.b 
 
 pub returns : goal.returns
 returns c =
-    record { told = let a = c.args in
-    c.two_short.ensures.told ∙ short_rest a.a a.x (a.b ∷ a.c ∷ []) (a.y ∷ a.z ∷ []) c.if-x-a.false }
+    record {
+      told = let a = c.args in
+          c.two_short.ensures.told ∙ short_rest a.a a.x (a.b ∷ a.c ∷ []) (a.y ∷ a.z ∷ []) c.if-x-a.false;
+    }

@@ -1,8 +1,6 @@
 -- `text::read_rest` meets its contract. The loop's invariant: up to place i all is read (`Reading`). The measure is what is left of the document.
 -- Assumes nothing.
-use Prim.Native.Nat.{◌-◌}
 use mathlib.Core.Path.{◌∙◌, subst}
-use lib.ListN.{length}
 use Rattle.text.specs.TextParts.{PieceRead, PieceBroken, ReadsPiece}
 use Rattle.text.proofs.Reading.{reading_next, reading_closed, reading_end, reading_broken, room_left}
 use Rattle.text.proofs.EightBytes.{reading_run}
@@ -110,12 +108,14 @@ shape_of-pool-in-Stopped c =
 
 pub returns-in-Stopped : goal.returns-in-Stopped
 returns-in-Stopped c =
-    record { read = let a = c.args in
-    let l = c.loop-i in
-    let p' = c.read_piece.new.pool in
-    let r : PieceBroken a.doc.now l.i l.pool p' a.w c.in-Stopped.place =
-    subst (ReadsPiece a.doc.now l.i l.pool p' a.w l.n) c.in-Stopped.is c.read_piece.ensures.read in
-    reading_broken l.invariant c.requires.1 r }
+    record {
+      read = let a = c.args in
+          let l = c.loop-i in
+          let p' = c.read_piece.new.pool in
+          let r : PieceBroken a.doc.now l.i l.pool p' a.w c.in-Stopped.place =
+          subst (ReadsPiece a.doc.now l.i l.pool p' a.w l.n) c.in-Stopped.is c.read_piece.ensures.read in
+          reading_broken l.invariant c.requires.1 r;
+    }
 
 pub shape_of-pool : goal.shape_of-pool
 shape_of-pool c = c.loop-i.invariant.keeps.kept

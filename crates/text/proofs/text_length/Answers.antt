@@ -54,8 +54,10 @@ loop-left-preserved c = counted_word c.loop-left.invariant c.whole_length-writte
 
 pub returns-then-left-eq0 : goal.returns-then-left-eq0
 returns-then-left-eq0 c =
-    record { counted = let a = c.args in
-    counted_end c.loop-left.invariant c.if-left-eq0.true ∙ sym (length_plain (text_in a.pool.now a.w a.n)) }
+    record {
+      counted = let a = c.args in
+          counted_end c.loop-left.invariant c.if-left-eq0.true ∙ sym (length_plain (text_in a.pool.now a.w a.n));
+    }
 
 pub offset_bounds-pool-k-2 : goal.offset_bounds-pool-k-2
 offset_bounds-pool-k-2 c =
@@ -93,7 +95,9 @@ overflow_add-result c =
 
 pub returns : goal.returns
 returns c =
-    record { counted = let a = c.args in
-    let l = c.loop-left-test.false in
-    counted_front c.loop-left.invariant c.front_length.result (omega (arith, c.if-left-eq0.false)) (omega arith) c.front_length.ensures.counted
-    ∙ sym (length_plain (text_in a.pool.now a.w a.n)) }
+    record {
+      counted = let a = c.args in
+          let l = c.loop-left-test.false in
+          counted_front c.loop-left.invariant c.front_length.result (omega (arith, c.if-left-eq0.false)) (omega arith) c.front_length.ensures.counted
+          ∙ sym (length_plain (text_in a.pool.now a.w a.n));
+    }

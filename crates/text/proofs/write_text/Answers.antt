@@ -40,5 +40,7 @@ shape_of-out c =
 
 pub returns : goal.returns
 returns c =
-    record { written = let a = c.args in
-    quoted (text_in a.pool.now a.w a.n) a.out.now a.at c.requires.1 c.write_inside-j.ensures.written }
+    record {
+      written = let a = c.args in
+          quoted (text_in a.pool.now a.w a.n) a.out.now a.at c.requires.1 c.write_inside-j.ensures.written;
+    }

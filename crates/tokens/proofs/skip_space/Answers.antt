@@ -1,6 +1,5 @@
 -- `tokens::skip_space` meets its contract. The loop's invariant is `Skipping`: what stands before is white space.
 -- Assumes nothing.
-use Prim.Native.Nat.{◌-◌}
 use mathlib.Core.Bool.{Bool}
 use mathlib.Core.Path.{subst}
 use native.Mathlib.Omega.{arith}
@@ -19,10 +18,12 @@ loop-i-preserved c =
 
 pub returns-else-is_space : goal.returns-else-is_space
 returns-else-is_space c =
-    record { skipped = skips c.loop-i.invariant
-    (λ h.
-    subst (λ (b : Bool). SpaceAnswer (get_or c.args.text.now c.loop-i.i 0) b) c.if-is_space.false
-    c.is_space.ensures.told) }
+    record {
+      skipped = skips c.loop-i.invariant
+          (λ h.
+          subst (λ (b : Bool). SpaceAnswer (get_or c.args.text.now c.loop-i.i 0) b) c.if-is_space.false
+          c.is_space.ensures.told);
+    }
 
 pub returns : goal.returns
 returns c = record { skipped = skips c.loop-i.invariant (λ h. absurd (let z : ⊥ = omega (arith, c.loop-i-test.false) in z)) }

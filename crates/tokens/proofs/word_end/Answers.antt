@@ -1,6 +1,5 @@
 -- `tokens::word_end` meets its contract. The loop's invariant is `Running`: the bytes before are a word.
 -- Assumes nothing.
-use Prim.Native.Nat.{◌-◌}
 use mathlib.Core.Bool.{Bool}
 use mathlib.Core.Path.{subst}
 use native.Mathlib.Omega.{arith}
@@ -20,10 +19,12 @@ loop-i-preserved c =
 
 pub returns-then-is_border : goal.returns-then-is_border
 returns-then-is_border c =
-    record { ended = runs c.loop-i.invariant
-    (λ h.
-    subst (λ (b : Bool). BorderAnswer (get_or c.args.text.now c.loop-i.i 0) b) c.if-is_border.true
-    c.is_border.ensures.told) }
+    record {
+      ended = runs c.loop-i.invariant
+          (λ h.
+          subst (λ (b : Bool). BorderAnswer (get_or c.args.text.now c.loop-i.i 0) b) c.if-is_border.true
+          c.is_border.ensures.told);
+    }
 
 pub returns : goal.returns
 returns c = record { ended = runs c.loop-i.invariant (λ h. absurd (let z : ⊥ = omega (arith, c.loop-i-test.false) in z)) }

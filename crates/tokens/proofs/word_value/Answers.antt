@@ -1,6 +1,6 @@
 -- `tokens::word_value` meets its contract. The loop's invariant is `Joins`: x is the number of the bytes before.
 -- Assumes nothing.
-use Prim.Native.Nat.{ℕ, ◌+◌, ◌-◌}
+use Prim.Native.Nat.{ℕ, ◌+◌}
 use mathlib.Core.Path.{subst}
 use native.Mathlib.Omega.{arith}
 use Rattle.tokens.proofs.Words.{Joins, joins, joins_on, joins_small, long_told, short_told}
@@ -25,12 +25,11 @@ overflow_add-x-in-loop-i c =
     )
 
 pub loop-i-preserved : goal.loop-i-preserved
-loop-i-preserved c =
-     (
-      joins_on c.loop-i.invariant.0 (omega (arith, c.loop-i-test.true, c.requires.0, c.requires.1))
-          (omega (arith, c.shared_slice_known-1.given (c.args.at + c.loop-i.i))),
-      omega (arith, c.loop-i-test.true),
-    )
+loop-i-preserved c = (
+  joins_on c.loop-i.invariant.0 (omega (arith, c.loop-i-test.true, c.requires.0, c.requires.1))
+      (omega (arith, c.shared_slice_known-1.given (c.args.at + c.loop-i.i))),
+  omega (arith, c.loop-i-test.true),
+)
 
 pub overflow_mul-result : goal.overflow_mul-result
 overflow_mul-result c = omega (arith, joins_small 7 c.loop-i.invariant.0 (omega (arith, c.loop-i.invariant.1, c.if-n-gt7.false)))
@@ -41,11 +40,13 @@ overflow_add-result c =
 
 pub returns : goal.returns
 returns c =
-    record { told = short_told c.args.text.now c.args.at c.args.end c.requires.0 c.requires.1
-    (omega (arith, c.if-n-gt7.false))
-    (subst (λ (i : ℕ). Joins c.args.text.now c.args.at i c.loop-i.x)
-    (omega (arith, c.loop-i-test.false, c.loop-i.invariant.1))
-    c.loop-i.invariant.0) }
+    record {
+      told = short_told c.args.text.now c.args.at c.args.end c.requires.0 c.requires.1
+          (omega (arith, c.if-n-gt7.false))
+          (subst (λ (i : ℕ). Joins c.args.text.now c.args.at i c.loop-i.x)
+          (omega (arith, c.loop-i-test.false, c.loop-i.invariant.1))
+          c.loop-i.invariant.0);
+    }
 
 pub overflow_sub-n : goal.overflow_sub-n
 overflow_sub-n c =

@@ -6,4 +6,4 @@ use Rattle.workspace.proofs.below.Goals as goal
 
 pub short_below-requires : goal.short_below-requires
 short_below-requires c =
-     record { small = c.requires; long = sym c.two_shapes_short.ensures.told ∙ not_true _ (ap not c.if-not-two_shapes_short.true) }
+    record { small = c.requires; long = sym c.two_shapes_short.ensures.told ∙ not_true _ (ap not c.if-not-two_shapes_short.true) }

@@ -6,12 +6,12 @@ use Rattle.workspace.proofs.check.Goals as goal
 
 pub smallest_check-requires : goal.smallest_check-requires
 smallest_check-requires c =
-     record { small = c.requires; long = sym c.reader_shape_short.ensures.told ∙ not_true _ (ap not c.if-not-reader_shape_short.true) }
+    record { small = c.requires; long = sym c.reader_shape_short.ensures.told ∙ not_true _ (ap not c.if-not-reader_shape_short.true) }
 
 pub shortest_check-requires : goal.shortest_check-requires
 shortest_check-requires c =
-     record { small = c.requires; long = sym c.reader_shape_short-2.ensures.told ∙ not_true _ (ap not c.if-not-reader_shape_short-2.true) }
+    record { small = c.requires; long = sym c.reader_shape_short-2.ensures.told ∙ not_true _ (ap not c.if-not-reader_shape_short-2.true) }
 
 pub short_check-requires : goal.short_check-requires
 short_check-requires c =
-     record { small = c.requires; long = sym c.reader_shape_short-3.ensures.told ∙ not_true _ (ap not c.if-not-reader_shape_short-3.true) }
+    record { small = c.requires; long = sym c.reader_shape_short-3.ensures.told ∙ not_true _ (ap not c.if-not-reader_shape_short-3.true) }

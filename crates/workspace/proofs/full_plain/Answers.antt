@@ -6,16 +6,16 @@ use Rattle.workspace.proofs.full_plain.Goals as goal
 
 pub smallest_plain-requires : goal.smallest_plain-requires
 smallest_plain-requires c =
-     record { small = c.requires; long = sym c.document_short.ensures.told ∙ not_true _ (ap not c.if-not-document_short.true) }
+    record { small = c.requires; long = sym c.document_short.ensures.told ∙ not_true _ (ap not c.if-not-document_short.true) }
 
 pub shortest_plain-requires : goal.shortest_plain-requires
 shortest_plain-requires c =
-     record { small = c.requires; long = sym c.document_short-2.ensures.told ∙ not_true _ (ap not c.if-not-document_short-2.true) }
+    record { small = c.requires; long = sym c.document_short-2.ensures.told ∙ not_true _ (ap not c.if-not-document_short-2.true) }
 
 pub short_plain-requires : goal.short_plain-requires
 short_plain-requires c =
-     record { small = c.requires; long = sym c.document_short-3.ensures.told ∙ not_true _ (ap not c.if-not-document_short-3.true) }
+    record { small = c.requires; long = sym c.document_short-3.ensures.told ∙ not_true _ (ap not c.if-not-document_short-3.true) }
 
 pub middle_plain-requires : goal.middle_plain-requires
 middle_plain-requires c =
-     record { small = c.requires; long = sym c.document_short-4.ensures.told ∙ not_true _ (ap not c.if-not-document_short-4.true) }
+    record { small = c.requires; long = sym c.document_short-4.ensures.told ∙ not_true _ (ap not c.if-not-document_short-4.true) }

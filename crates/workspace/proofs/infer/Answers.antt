@@ -2,19 +2,19 @@
 -- Assumes nothing.
 use native.Mathlib.Omega.{arith}
 use mathlib.Core.Path.{◌≡◌, ◌∙◌}
-use lib.ListN.{length}
 use Rattle.workspace.proofs.Trying.{few_small, few_grown_document, infer_tried, accepted, keeps, again}
 use Rattle.workspace.proofs.infer.Goals as goal
 use Rattle.workspace.proofs.infer.Goals.{then-shape-lt768+then-document-lt384+else-tried-eq0, then-shape-lt768+else-document-lt384, else-shape-lt768}
 
 pub infer-tried-requires : goal.infer-tried-requires
 infer-tried-requires c =
-     record { small = few_small _ _ c.fewer.ensures.made c.requires; long = few_grown_document _ _ c.fewer.ensures.made _ _ (omega arith) (omega arith) }
+    record { small = few_small _ _ c.fewer.ensures.made c.requires; long = few_grown_document _ _ c.fewer.ensures.made _ _ (omega arith) (omega arith) }
 
 pub returns-then-tried-eq0 : goal.returns-then-tried-eq0
 returns-then-tried-eq0 c =
     let facts = accepted (infer_tried _ _ c.fewer.ensures.made c.args.format c.args.shape.now
-    c.args.document.now) c.args.output.now (c.infer-tried.ensures.answered, c.infer-tried.ensures.written) c.if-tried-eq0.true in record { answered = facts.0; written = facts.1 }
+    c.args.document.now) c.args.output.now (c.infer-tried.ensures.answered, c.infer-tried.ensures.written) c.if-tried-eq0.true in
+    record { answered = facts.0; written = facts.1 }
 
 pub shape_of-output : goal.shape_of-output
 shape_of-output c = c.full_infer.auto.output ∙ c.if-shape-lt768.auto.output
@@ -25,9 +25,10 @@ returns c =
     let kept : c.if-shape-lt768.output ≡ c.args.output.now =
     elim c.if-shape-lt768.branch [
       | then-shape-lt768+then-document-lt384+else-tried-eq0 w ↦
-        w.output-is
-            ∙ keeps (infer_tried _ _ w.fewer.ensures.made c.args.format c.args.shape.now c.args.document.now) c.args.output.now (w.infer-tried.ensures.answered, w.infer-tried.ensures.written)
-            w.if-tried-eq0.false
+          w.output-is
+          ∙ keeps (infer_tried _ _ w.fewer.ensures.made c.args.format c.args.shape.now c.args.document.now) c.args.output.now
+          (w.infer-tried.ensures.answered, w.infer-tried.ensures.written)
+          w.if-tried-eq0.false
       | then-shape-lt768+else-document-lt384 w ↦ w.output-is
       | else-shape-lt768 w ↦ w.output-is
     ] in

@@ -6,8 +6,8 @@ use Rattle.workspace.proofs.join.Goals as goal
 
 pub smallest_join-requires : goal.smallest_join-requires
 smallest_join-requires c =
-     record { small = c.requires; long = sym c.grown_shapes_short.ensures.told ∙ not_true _ (ap not c.if-not-grown_shapes_short.true) }
+    record { small = c.requires; long = sym c.grown_shapes_short.ensures.told ∙ not_true _ (ap not c.if-not-grown_shapes_short.true) }
 
 pub short_join-requires : goal.short_join-requires
 short_join-requires c =
-     record { small = c.requires; long = sym c.grown_shapes_short-2.ensures.told ∙ not_true _ (ap not c.if-not-grown_shapes_short-2.true) }
+    record { small = c.requires; long = sym c.grown_shapes_short-2.ensures.told ∙ not_true _ (ap not c.if-not-grown_shapes_short-2.true) }

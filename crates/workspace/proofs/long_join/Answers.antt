@@ -7,5 +7,8 @@ use Rattle.workspace.proofs.long_join.Goals as goal
 
 pub join-requires : goal.join-requires
 join-requires c =
-    let a = c.args in record { grown_shapes_slices = longest_grown_pair a.limits c.requires a.first.now a.second.now (replicate 1024 0) (replicate 1024 0)
-          (replicate 4096 0) (length-replicate {A = ℕ} 1024 0) (length-replicate {A = ℕ} 1024 0) (length-replicate {A = ℕ} 4096 0); table = omega (arith, length-replicate {A = ℕ} 1024 0) }
+    let a = c.args in record {
+      grown_shapes_slices = longest_grown_pair a.limits c.requires a.first.now a.second.now (replicate 1024 0) (replicate 1024 0)
+          (replicate 4096 0) (length-replicate {A = ℕ} 1024 0) (length-replicate {A = ℕ} 1024 0) (length-replicate {A = ℕ} 4096 0);
+      table = omega (arith, length-replicate {A = ℕ} 1024 0);
+    }

@@ -2,14 +2,13 @@
 -- Assumes nothing.
 use native.Mathlib.Omega.{arith}
 use mathlib.Core.Path.{◌≡◌, ◌∙◌}
-use lib.ListN.{length}
 use Rattle.workspace.proofs.Trying.{few_small, few_document, plain_tried, accepted, keeps, again}
 use Rattle.workspace.proofs.plain.Goals as goal
 use Rattle.workspace.proofs.plain.Goals.{then-document-lt384+else-tried-eq0, else-document-lt384}
 
 pub plain-tried-requires : goal.plain-tried-requires
 plain-tried-requires c =
-     record { small = few_small _ _ c.fewer.ensures.made c.requires; long = few_document _ _ c.fewer.ensures.made _ (omega arith) }
+    record { small = few_small _ _ c.fewer.ensures.made c.requires; long = few_document _ _ c.fewer.ensures.made _ (omega arith) }
 
 pub returns-then-tried-eq0 : goal.returns-then-tried-eq0
 returns-then-tried-eq0 c =
@@ -26,9 +25,12 @@ returns c =
     let kept : c.if-document-lt384.output ≡ c.args.output.now =
     elim c.if-document-lt384.branch [
       | then-document-lt384+else-tried-eq0 w ↦
-        w.output-is
-            ∙ keeps (plain_tried _ _ w.fewer.ensures.made c.args.format c.args.document.now) c.args.output.now (w.plain-tried.ensures.answered, w.plain-tried.ensures.written)
-            w.if-tried-eq0.false
+          w.output-is
+          ∙ keeps (plain_tried _ _ w.fewer.ensures.made c.args.format c.args.document.now) c.args.output.now (
+            w.plain-tried.ensures.answered,
+            w.plain-tried.ensures.written,
+          )
+          w.if-tried-eq0.false
       | else-document-lt384 w ↦ w.output-is
     ] in
     let facts = again _ kept (c.full_plain.ensures.answered, c.full_plain.ensures.written) in

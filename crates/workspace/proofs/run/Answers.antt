@@ -2,19 +2,22 @@
 -- Assumes nothing.
 use native.Mathlib.Omega.{arith}
 use mathlib.Core.Path.{◌≡◌, ◌∙◌}
-use lib.ListN.{length}
 use Rattle.workspace.proofs.Trying.{few_small, few_reader_document, run_tried, accepted, keeps, again}
 use Rattle.workspace.proofs.run.Goals as goal
 use Rattle.workspace.proofs.run.Goals.{then-reader-lt384+then-document-lt384+else-tried-eq0, then-reader-lt384+else-document-lt384, else-reader-lt384}
 
 pub run-tried-requires : goal.run-tried-requires
 run-tried-requires c =
-      record { small = few_small _ _ c.fewer.ensures.made c.requires; long = few_reader_document _ _ c.fewer.ensures.made _ _ (omega arith) c.requires.nesting (omega arith) }
+    record {
+      small = few_small _ _ c.fewer.ensures.made c.requires;
+      long = few_reader_document _ _ c.fewer.ensures.made _ _ (omega arith) c.requires.nesting (omega arith);
+    }
 
 pub returns-then-tried-eq0 : goal.returns-then-tried-eq0
 returns-then-tried-eq0 c =
     let facts = accepted (run_tried _ _ c.fewer.ensures.made c.args.format c.args.reader.now
-    c.args.document.now) c.args.output.now (c.run-tried.ensures.answered, c.run-tried.ensures.written) c.if-tried-eq0.true in record { answered = facts.0; written = facts.1 }
+    c.args.document.now) c.args.output.now (c.run-tried.ensures.answered, c.run-tried.ensures.written) c.if-tried-eq0.true in
+    record { answered = facts.0; written = facts.1 }
 
 pub shape_of-output : goal.shape_of-output
 shape_of-output c = c.full_run.auto.output ∙ c.if-reader-lt384.auto.output
@@ -25,9 +28,12 @@ returns c =
     let kept : c.if-reader-lt384.output ≡ c.args.output.now =
     elim c.if-reader-lt384.branch [
       | then-reader-lt384+then-document-lt384+else-tried-eq0 w ↦
-        w.output-is
-            ∙ keeps (run_tried _ _ w.fewer.ensures.made c.args.format c.args.reader.now c.args.document.now) c.args.output.now (w.run-tried.ensures.answered, w.run-tried.ensures.written)
-            w.if-tried-eq0.false
+          w.output-is
+          ∙ keeps (run_tried _ _ w.fewer.ensures.made c.args.format c.args.reader.now c.args.document.now) c.args.output.now (
+            w.run-tried.ensures.answered,
+            w.run-tried.ensures.written,
+          )
+          w.if-tried-eq0.false
       | then-reader-lt384+else-document-lt384 w ↦ w.output-is
       | else-reader-lt384 w ↦ w.output-is
     ] in

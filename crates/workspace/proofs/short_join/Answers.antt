@@ -7,6 +7,9 @@ use Rattle.workspace.proofs.short_join.Goals as goal
 
 pub join-requires : goal.join-requires
 join-requires c =
-    let a = c.args in record { grown_shapes_slices = held_grown_pair a.limits c.requires.small a.first.now a.second.now (replicate 1024 0) (replicate 294 0)
+    let a = c.args in record {
+      grown_shapes_slices = held_grown_pair a.limits c.requires.small a.first.now a.second.now (replicate 1024 0) (replicate 294 0)
           (replicate 256 0) (length-replicate {A = ℕ} 1024 0) (length-replicate {A = ℕ} 294 0) (length-replicate {A = ℕ} 256 0)
-          c.requires.long; table = omega (arith, length-replicate {A = ℕ} 1024 0) }
+          c.requires.long;
+      table = omega (arith, length-replicate {A = ℕ} 1024 0);
+    }

@@ -7,6 +7,11 @@ use Rattle.workspace.proofs.short_reader_run.Goals as goal
 
 pub run-requires : goal.run-requires
 run-requires c =
-    let a = c.args in record { run_slices = held_run a.limits c.requires.small a.reader.now a.document.now (replicate 255 0) (replicate 1536 0) (replicate 1536 0)
+    let a = c.args in
+    record {
+      run_slices = held_run a.limits c.requires.small a.reader.now a.document.now (replicate 255 0) (replicate 1536 0) (replicate 1536 0)
           (replicate 32 0) (replicate 2644 0) (length-replicate {A = ℕ} 255 0) (length-replicate {A = ℕ} 1536 0)
-          (length-replicate {A = ℕ} 1536 0) (length-replicate {A = ℕ} 32 0) (length-replicate {A = ℕ} 2644 0) c.requires.long; table = omega (arith, length-replicate {A = ℕ} 1536 0); made = omega (arith, length-replicate {A = ℕ} 1536 0) }
+          (length-replicate {A = ℕ} 1536 0) (length-replicate {A = ℕ} 32 0) (length-replicate {A = ℕ} 2644 0) c.requires.long;
+      table = omega (arith, length-replicate {A = ℕ} 1536 0);
+      made = omega (arith, length-replicate {A = ℕ} 1536 0);
+    }

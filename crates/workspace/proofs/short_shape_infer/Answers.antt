@@ -7,6 +7,9 @@ use Rattle.workspace.proofs.short_shape_infer.Goals as goal
 
 pub infer-requires : goal.infer-requires
 infer-requires c =
-    let a = c.args in record { grown_document_slices = held_grown a.limits c.requires.small a.shape.now a.document.now (replicate 1024 0) (replicate 1536 0)
+    let a = c.args in record {
+      grown_document_slices = held_grown a.limits c.requires.small a.shape.now a.document.now (replicate 1024 0) (replicate 1536 0)
           (replicate 2815 0) (length-replicate {A = ℕ} 1024 0) (length-replicate {A = ℕ} 1536 0) (length-replicate {A = ℕ} 2815 0)
-          c.requires.long; table = omega (arith, length-replicate {A = ℕ} 1024 0) }
+          c.requires.long;
+      table = omega (arith, length-replicate {A = ℕ} 1024 0);
+    }

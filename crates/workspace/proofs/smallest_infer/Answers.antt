@@ -7,5 +7,9 @@ use Rattle.workspace.proofs.smallest_infer.Goals as goal
 
 pub infer-requires : goal.infer-requires
 infer-requires c =
-    let a = c.args in record { grown_document_slices = held_grown a.limits c.requires.small a.shape.now a.document.now (replicate 32 0) (replicate 48 0) (replicate 271 0)
-          (length-replicate {A = ℕ} 32 0) (length-replicate {A = ℕ} 48 0) (length-replicate {A = ℕ} 271 0) c.requires.long; table = omega (arith, length-replicate {A = ℕ} 32 0) }
+    let a = c.args in
+    record {
+      grown_document_slices = held_grown a.limits c.requires.small a.shape.now a.document.now (replicate 32 0) (replicate 48 0) (replicate 271 0)
+          (length-replicate {A = ℕ} 32 0) (length-replicate {A = ℕ} 48 0) (length-replicate {A = ℕ} 271 0) c.requires.long;
+      table = omega (arith, length-replicate {A = ℕ} 32 0);
+    }

@@ -7,5 +7,9 @@ use Rattle.workspace.proofs.smallest_join.Goals as goal
 
 pub join-requires : goal.join-requires
 join-requires c =
-    let a = c.args in record { grown_shapes_slices = held_grown_pair a.limits c.requires.small a.first.now a.second.now (replicate 32 0) (replicate 32 0) (replicate 256 0)
-          (length-replicate {A = ℕ} 32 0) (length-replicate {A = ℕ} 32 0) (length-replicate {A = ℕ} 256 0) c.requires.long; table = omega (arith, length-replicate {A = ℕ} 32 0) }
+    let a = c.args in
+    record {
+      grown_shapes_slices = held_grown_pair a.limits c.requires.small a.first.now a.second.now (replicate 32 0) (replicate 32 0) (replicate 256 0)
+          (length-replicate {A = ℕ} 32 0) (length-replicate {A = ℕ} 32 0) (length-replicate {A = ℕ} 256 0) c.requires.long;
+      table = omega (arith, length-replicate {A = ℕ} 32 0);
+    }

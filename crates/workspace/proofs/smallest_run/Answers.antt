@@ -7,6 +7,10 @@ use Rattle.workspace.proofs.smallest_run.Goals as goal
 
 pub run-requires : goal.run-requires
 run-requires c =
-    let a = c.args in record { run_slices = held_run a.limits c.requires.small a.reader.now a.document.now (replicate 48 0) (replicate 48 0) (replicate 48 0)
+    let a = c.args in record {
+      run_slices = held_run a.limits c.requires.small a.reader.now a.document.now (replicate 48 0) (replicate 48 0) (replicate 48 0)
           (replicate 4 0) (replicate 281 0) (length-replicate {A = ℕ} 48 0) (length-replicate {A = ℕ} 48 0)
-          (length-replicate {A = ℕ} 48 0) (length-replicate {A = ℕ} 4 0) (length-replicate {A = ℕ} 281 0) c.requires.long; table = omega (arith, length-replicate {A = ℕ} 48 0); made = omega (arith, length-replicate {A = ℕ} 48 0) }
+          (length-replicate {A = ℕ} 48 0) (length-replicate {A = ℕ} 4 0) (length-replicate {A = ℕ} 281 0) c.requires.long;
+      table = omega (arith, length-replicate {A = ℕ} 48 0);
+      made = omega (arith, length-replicate {A = ℕ} 48 0);
+    }

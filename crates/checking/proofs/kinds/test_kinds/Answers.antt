@@ -9,7 +9,7 @@ returns-then-test-eq-NUM c = record { told = λ k e. num_flags k (sym c.if-test-
 
 pub returns-then-test-lt7 : goal.returns-then-test-lt7
 returns-then-test-lt7 c =
-     record { told = kind_flags c.args.test c.if-test-eq-NUM.false; small = power_small c.args.test c.if-test-lt7.true }
+    record { told = kind_flags c.args.test c.if-test-eq-NUM.false; small = power_small c.args.test c.if-test-lt7.true }
 
 pub returns-else-test-lt7 : goal.returns-else-test-lt7
 returns-else-test-lt7 c = record { told = no_flags c.args.test c.if-test-lt7.false; small = omega arith }

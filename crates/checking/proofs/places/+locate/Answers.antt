@@ -1,31 +1,33 @@
 -- `checking::places::+locate` meets its contract. Assumes nothing.
-use Prim.Native.Nat.{◌-◌}
 use native.Mathlib.Omega.{arith}
 use Rattle.checking.proofs.PlaceWalk.{place_within, it_located, part_asked, part_refused, member_asked, part_found}
 use Rattle.checking.proofs.places.+locate.Goals as goal
 
 pub returns-then-code-eq-IT : goal.returns-then-code-eq-IT
 returns-then-code-eq-IT t c =
-    record { found = it_located c.args.forms.now c.args.shapes.now c.args.pool.now c.args.bindings.now c.args.row
-    c.code.ensures.read c.payload-operand.ensures.read c.if-code-eq-IT.true c.bound-b.ensures.row c.bound-b.ensures.kinds }
+    record {
+      found = it_located c.args.forms.now c.args.shapes.now c.args.pool.now c.args.bindings.now c.args.row
+          c.code.ensures.read c.payload-operand.ensures.read c.if-code-eq-IT.true c.bound-b.ensures.row c.bound-b.ensures.kinds;
+    }
 
 pub overflow_add-row : goal.overflow_add-row
 overflow_add-row t c =
     omega (arith, place_within c.requires, c.well_formed)
 
 pub locate-part-requires : goal.locate-part-requires
-locate-part-requires t c =
-    (
-      omega (arith, place_within c.requires, c.decreases),
-      part_asked c.args.forms.now c.args.shapes.now c.args.pool.now c.args.bindings.now c.args.row
-          c.code.ensures.read c.payload-operand.ensures.read c.if-code-eq-IT.false c.requires,
-    )
+locate-part-requires t c = (
+  omega (arith, place_within c.requires, c.decreases),
+  part_asked c.args.forms.now c.args.shapes.now c.args.pool.now c.args.bindings.now c.args.row
+      c.code.ensures.read c.payload-operand.ensures.read c.if-code-eq-IT.false c.requires,
+)
 
 pub returns-in_default : goal.returns-in_default
 returns-in_default t c =
-    record { found = part_refused c.args.forms.now c.args.shapes.now c.args.pool.now c.args.bindings.now c.args.row
-    c.code.ensures.read c.payload-operand.ensures.read c.if-code-eq-IT.false c.locate-part.result c.locate-part.ensures.found
-    c.in_default.is }
+    record {
+      found = part_refused c.args.forms.now c.args.shapes.now c.args.pool.now c.args.bindings.now c.args.row
+          c.code.ensures.read c.payload-operand.ensures.read c.if-code-eq-IT.false c.locate-part.result c.locate-part.ensures.found
+          c.in_default.is;
+    }
 
 pub member-requires : goal.member-requires
 member-requires t c =
@@ -35,6 +37,8 @@ member-requires t c =
 
 pub returns : goal.returns
 returns t c =
-    record { found = part_found c.args.forms.now c.args.shapes.now c.args.pool.now c.args.bindings.now c.args.row
-    c.code.ensures.read c.payload-operand.ensures.read c.if-code-eq-IT.false c.locate-part.result c.locate-part.ensures.found
-    c.in-At.is c.member.result c.place.ensures.read c.member.ensures.found }
+    record {
+      found = part_found c.args.forms.now c.args.shapes.now c.args.pool.now c.args.bindings.now c.args.row
+          c.code.ensures.read c.payload-operand.ensures.read c.if-code-eq-IT.false c.locate-part.result c.locate-part.ensures.found
+          c.in-At.is c.member.result c.place.ensures.read c.member.ensures.found;
+    }

@@ -7,14 +7,18 @@ use Rattle.checking.proofs.places.member.Goals as goal
 
 pub returns-then-not-within : goal.returns-then-not-within
 returns-then-not-within c =
-    record { found = unmet c.args.shapes.now c.args.pool.now c.args.row c.args.kinds c.args.name
-    c.args.place c.within.ensures.told (not_true c.within.result (ap not c.if-not-within.true)) }
+    record {
+      found = unmet c.args.shapes.now c.args.pool.now c.args.row c.args.kinds c.args.name
+          c.args.place c.within.ensures.told (not_true c.within.result (ap not c.if-not-within.true));
+    }
 
 pub returns-then-not-has : goal.returns-then-not-has
 returns-then-not-has c =
-    record { found = without c.args.shapes.now c.args.pool.now c.args.row c.args.kinds c.args.name
-    c.args.place c.within.ensures.told c.if-not-within.false c.has.ensures.told
-    (not_true c.has.result (ap not c.if-not-has.true)) }
+    record {
+      found = without c.args.shapes.now c.args.pool.now c.args.row c.args.kinds c.args.name
+          c.args.place c.within.ensures.told c.if-not-within.false c.has.ensures.told
+          (not_true c.has.result (ap not c.if-not-has.true));
+    }
 
 pub members-from-requires : goal.members-from-requires
 members-from-requires c =
@@ -36,16 +40,20 @@ find_named-r-requires c =
 
 pub returns-in_default : goal.returns-in_default
 returns-in_default c =
-    record { found = member_missing c.args.shapes.now c.args.pool.now c.args.row c.args.kinds c.args.name
-    c.args.place c.within.ensures.told c.if-not-within.false c.has.ensures.told
-    c.if-not-has.false
-    c.members-from.ensures.found c.size.ensures.read c.find_named-r.ensures.told
-    c.in_default.is }
+    record {
+      found = member_missing c.args.shapes.now c.args.pool.now c.args.row c.args.kinds c.args.name
+          c.args.place c.within.ensures.told c.if-not-within.false c.has.ensures.told
+          c.if-not-has.false
+          c.members-from.ensures.found c.size.ensures.read c.find_named-r.ensures.told
+          c.in_default.is;
+    }
 
 pub returns : goal.returns
 returns c =
-    record { found = member_found c.args.shapes.now c.args.pool.now c.args.row c.args.kinds c.args.name
-    c.args.place c.within.ensures.told c.if-not-within.false c.has.ensures.told
-    c.if-not-has.false
-    c.members-from.ensures.found c.size.ensures.read c.find_named-r.ensures.told
-    c.in-Found.is c.kinds-left.ensures.read c.gain_null.ensures.told }
+    record {
+      found = member_found c.args.shapes.now c.args.pool.now c.args.row c.args.kinds c.args.name
+          c.args.place c.within.ensures.told c.if-not-within.false c.has.ensures.told
+          c.if-not-has.false
+          c.members-from.ensures.found c.size.ensures.read c.find_named-r.ensures.told
+          c.in-Found.is c.kinds-left.ensures.read c.gain_null.ensures.told;
+    }

@@ -14,26 +14,34 @@ locate-found-requires c =
 
 pub returns-in_default : goal.returns-in_default
 returns-in_default c =
-    record { checked = place_refused c.args.forms.now c.args.shapes.now c.args.pool.now c.args.bindings.now c.args.row
-    c.requires.coded c.requires.placed c.locate-found.result c.locate-found.ensures.found c.refusal.result
-    c.in_default.is c.refusal.ensures.passed }
+    record {
+      checked = place_refused c.args.forms.now c.args.shapes.now c.args.pool.now c.args.bindings.now c.args.row
+          c.requires.coded c.requires.placed c.locate-found.result c.locate-found.ensures.found c.refusal.result
+          c.in_default.is c.refusal.ensures.passed;
+    }
 
 pub returns-then-code-eq-KEEP : goal.returns-then-code-eq-KEEP
 returns-then-code-eq-KEEP c =
-    record { checked = keep_told c.args.forms.now c.args.shapes.now c.args.pool.now c.args.bindings.now
-    c.args.row c.requires.coded c.requires.placed c.locate-found.result c.locate-found.ensures.found
-    c.in-At.is c.if-code-eq-KEEP.true }
+    record {
+      checked = keep_told c.args.forms.now c.args.shapes.now c.args.pool.now c.args.bindings.now
+          c.args.row c.requires.coded c.requires.placed c.locate-found.result c.locate-found.ensures.found
+          c.in-At.is c.if-code-eq-KEEP.true;
+    }
 
 pub returns-then-code-eq-COUNT : goal.returns-then-code-eq-COUNT
 returns-then-code-eq-COUNT c =
-    record { checked = count_told c.args.forms.now c.args.shapes.now c.args.pool.now c.args.bindings.now
-    c.args.row c.requires.coded c.requires.placed c.locate-found.result c.locate-found.ensures.found
-    c.in-At.is c.place-place.ensures.read c.want.result
-    c.if-code-eq-COUNT.true c.want.ensures.told }
+    record {
+      checked = count_told c.args.forms.now c.args.shapes.now c.args.pool.now c.args.bindings.now
+          c.args.row c.requires.coded c.requires.placed c.locate-found.result c.locate-found.ensures.found
+          c.in-At.is c.place-place.ensures.read c.want.result
+          c.if-code-eq-COUNT.true c.want.ensures.told;
+    }
 
 pub returns : goal.returns
 returns c =
-    record { checked = convert_told c.args.forms.now c.args.shapes.now c.args.pool.now c.args.bindings.now
-    c.args.row c.requires.coded c.requires.placed c.locate-found.result c.locate-found.ensures.found
-    c.in-At.is c.place-place.ensures.read c.want-2.result c.if-code-eq-KEEP.false
-    c.if-code-eq-COUNT.false c.conversion_kinds-converted.ensures.told c.want-2.ensures.told }
+    record {
+      checked = convert_told c.args.forms.now c.args.shapes.now c.args.pool.now c.args.bindings.now
+          c.args.row c.requires.coded c.requires.placed c.locate-found.result c.locate-found.ensures.found
+          c.in-At.is c.place-place.ensures.read c.want-2.result c.if-code-eq-KEEP.false
+          c.if-code-eq-COUNT.false c.conversion_kinds-converted.ensures.told c.want-2.ensures.told;
+    }

@@ -4,13 +4,17 @@ use Rattle.checking.proofs.simple.literal_kinds.Goals as goal
 
 pub returns-then-is_int : goal.returns-then-is_int
 returns-then-is_int c =
-    record { told = int_literal c.args.code c.args.operand c.args.payload c.if-code-eq-NUM.true c.is_int.ensures.told
-    c.if-is_int.true }
+    record {
+      told = int_literal c.args.code c.args.operand c.args.payload c.if-code-eq-NUM.true c.is_int.ensures.told
+          c.if-is_int.true;
+    }
 
 pub returns-else-is_int : goal.returns-else-is_int
 returns-else-is_int c =
-    record { told = decimal_literal c.args.code c.args.operand c.args.payload c.if-code-eq-NUM.true
-    c.is_int.ensures.told c.if-is_int.false }
+    record {
+      told = decimal_literal c.args.code c.args.operand c.args.payload c.if-code-eq-NUM.true
+          c.is_int.ensures.told c.if-is_int.false;
+    }
 
 pub returns-then-code-eq-STR : goal.returns-then-code-eq-STR
 returns-then-code-eq-STR c = record { told = text_literal c.args.code c.args.operand c.args.payload c.if-code-eq-STR.true }

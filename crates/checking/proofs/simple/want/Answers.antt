@@ -8,5 +8,7 @@ returns-then-within c = record { told = want_met c.args.kinds c.args.wanted c.ar
 
 pub returns : goal.returns
 returns c =
-    record { told = want_unmet c.args.kinds c.args.wanted c.args.given c.args.place
-    (sym c.within.ensures.told ∙ c.if-within.false) }
+    record {
+      told = want_unmet c.args.kinds c.args.wanted c.args.given c.args.place
+          (sym c.within.ensures.told ∙ c.if-within.false);
+    }

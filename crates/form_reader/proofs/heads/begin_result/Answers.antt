@@ -10,8 +10,10 @@ result_code-code-requires c =
 
 pub returns-then-code-eq0 : goal.returns-then-code-eq0
 returns-then-code-eq0 c =
-    record { read = result_unknown c.args.values c.args.left c.args.c c.begin_form.ensures.read
-    c.in-Word.is c.result_code-code.ensures.told c.if-code-eq0.true }
+    record {
+      read = result_unknown c.args.values c.args.left c.args.c c.begin_form.ensures.read
+          c.in-Word.is c.result_code-code.ensures.told c.if-code-eq0.true;
+    }
 
 pub overflow_add-to : goal.overflow_add-to
 overflow_add-to c =
@@ -24,10 +26,14 @@ overflow_add-to c =
 
 pub returns-else-code-eq0 : goal.returns-else-code-eq0
 returns-else-code-eq0 c =
-    record { read = result_known c.args.values c.args.left c.args.c c.begin_form.ensures.read
-    c.in-Word.is c.result_code-code.ensures.told c.if-code-eq0.false }
+    record {
+      read = result_known c.args.values c.args.left c.args.c c.begin_form.ensures.read
+          c.in-Word.is c.result_code-code.ensures.told c.if-code-eq0.false;
+    }
 
 pub returns-in-Refused : goal.returns-in-Refused
 returns-in-Refused c =
-    record { read = result_refused c.args.values c.args.left c.args.c c.begin_form.ensures.read
-    c.in-Refused.is }
+    record {
+      read = result_refused c.args.values c.args.left c.args.c c.begin_form.ensures.read
+          c.in-Refused.is;
+    }

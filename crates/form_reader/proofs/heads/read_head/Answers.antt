@@ -12,15 +12,21 @@ read_operand-requires c =
 
 pub returns-in-Read : goal.returns-in-Read
 returns-in-Read c =
-    record { read = head_read c.args.values c.args.left c.args.c c.args.pool.now c.begin_result.ensures.read
-    c.in-Form.is c.read_operand.ensures.read c.in-Read.is }
+    record {
+      read = head_read c.args.values c.args.left c.args.c c.args.pool.now c.begin_result.ensures.read
+          c.in-Form.is c.read_operand.ensures.read c.in-Read.is;
+    }
 
 pub returns-in-Refused-read_operand : goal.returns-in-Refused-read_operand
 returns-in-Refused-read_operand c =
-    record { read = operand_refused c.args.values c.args.left c.args.c c.args.pool.now c.begin_result.ensures.read
-    c.in-Form.is c.read_operand.ensures.read c.in-Refused-read_operand.is }
+    record {
+      read = operand_refused c.args.values c.args.left c.args.c c.args.pool.now c.begin_result.ensures.read
+          c.in-Form.is c.read_operand.ensures.read c.in-Refused-read_operand.is;
+    }
 
 pub returns-in-Refused : goal.returns-in-Refused
 returns-in-Refused c =
-    record { read = head_refused c.args.values c.args.left c.args.c c.args.pool.now
-    c.begin_result.ensures.read c.in-Refused.is }
+    record {
+      read = head_refused c.args.values c.args.left c.args.c c.args.pool.now
+          c.begin_result.ensures.read c.in-Refused.is;
+    }

@@ -18,13 +18,17 @@ read_place-requires c =
 
 pub returns-in-Done : goal.returns-in-Done
 returns-in-Done c =
-    record { read = lead_placed c.args.left c.args.c c.requires c.read_head.ensures.read c.in-Form.is
-    c.if-row-lt-IF.true c.read_place.ensures.read c.in-Done.is }
+    record {
+      read = lead_placed c.args.left c.args.c c.requires c.read_head.ensures.read c.in-Form.is
+          c.if-row-lt-IF.true c.read_place.ensures.read c.in-Done.is;
+    }
 
 pub returns-in-Refused-read_place : goal.returns-in-Refused-read_place
 returns-in-Refused-read_place c =
-    record { read = lead_place_refused c.args.left c.args.c c.requires c.read_head.ensures.read c.in-Form.is
-    c.if-row-lt-IF.true c.read_place.ensures.read c.in-Refused-read_place.is }
+    record {
+      read = lead_place_refused c.args.left c.args.c c.requires c.read_head.ensures.read c.in-Form.is
+          c.if-row-lt-IF.true c.read_place.ensures.read c.in-Refused-read_place.is;
+    }
 
 pub returns-else-row-lt-IF : goal.returns-else-row-lt-IF
 returns-else-row-lt-IF c = record { read = lead_bare c.args.left c.args.c c.requires c.read_head.ensures.read c.in-Form.is c.if-row-lt-IF.false }

@@ -22,15 +22,21 @@ next_word-requires c =
 
 pub returns-in-At-next_word : goal.returns-in-At-next_word
 returns-in-At-next_word c =
-    record { read = word_read c.args.values c.args.left c.args.c c.open_form.ensures.read
-    c.in-At.is c.next_word.ensures.read c.in-At-next_word.is }
+    record {
+      read = word_read c.args.values c.args.left c.args.c c.open_form.ensures.read
+          c.in-At.is c.next_word.ensures.read c.in-At-next_word.is;
+    }
 
 pub returns-in-Missing : goal.returns-in-Missing
 returns-in-Missing c =
-    record { read = word_missing c.args.values c.args.left c.args.c c.open_form.ensures.read
-    c.in-At.is c.next_word.ensures.read c.in-Missing.is }
+    record {
+      read = word_missing c.args.values c.args.left c.args.c c.open_form.ensures.read
+          c.in-At.is c.next_word.ensures.read c.in-Missing.is;
+    }
 
 pub returns-in-Refused : goal.returns-in-Refused
 returns-in-Refused c =
-    record { read = form_refused c.args.values c.args.left c.args.c c.open_form.ensures.read
-    c.in-Refused.is }
+    record {
+      read = form_refused c.args.values c.args.left c.args.c c.open_form.ensures.read
+          c.in-Refused.is;
+    }

@@ -8,15 +8,21 @@ next_opening-requires c =
 
 pub returns-then-is_full : goal.returns-then-is_full
 returns-then-is_full c =
-    record { read = bracket_full c.args.values c.args.left c.args.c c.next_opening.ensures.read
-    c.in-At.is c.is_full.ensures.judged c.if-is_full.true }
+    record {
+      read = bracket_full c.args.values c.args.left c.args.c c.next_opening.ensures.read
+          c.in-At.is c.is_full.ensures.judged c.if-is_full.true;
+    }
 
 pub returns-else-is_full : goal.returns-else-is_full
 returns-else-is_full c =
-    record { read = bracket_read c.args.values c.args.left c.args.c c.next_opening.ensures.read
-    c.in-At.is c.is_full.ensures.judged c.if-is_full.false }
+    record {
+      read = bracket_read c.args.values c.args.left c.args.c c.next_opening.ensures.read
+          c.in-At.is c.is_full.ensures.judged c.if-is_full.false;
+    }
 
 pub returns-in-Missing : goal.returns-in-Missing
 returns-in-Missing c =
-    record { read = bracket_missing c.args.values c.args.left c.args.c c.next_opening.ensures.read
-    c.in-Missing.is }
+    record {
+      read = bracket_missing c.args.values c.args.left c.args.c c.next_opening.ensures.read
+          c.in-Missing.is;
+    }

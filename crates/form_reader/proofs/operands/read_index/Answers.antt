@@ -12,13 +12,17 @@ slot_of-requires c =
 
 pub returns-in-Of : goal.returns-in-Of
 returns-in-Of c =
-    record { read = index_right c.args.c c.next_word.ensures.read c.args.bound c.in-At.is
-    c.slot_of.ensures.told c.in-Of.is }
+    record {
+      read = index_right c.args.c c.next_word.ensures.read c.args.bound c.in-At.is
+          c.slot_of.ensures.told c.in-Of.is;
+    }
 
 pub returns-in-Nothing : goal.returns-in-Nothing
 returns-in-Nothing c =
-    record { read = index_wrong c.args.c c.next_word.ensures.read c.args.bound c.in-At.is
-    c.slot_of.ensures.told c.in-Nothing.is }
+    record {
+      read = index_wrong c.args.c c.next_word.ensures.read c.args.bound c.in-At.is
+          c.slot_of.ensures.told c.in-Nothing.is;
+    }
 
 pub returns-in-Missing : goal.returns-in-Missing
 returns-in-Missing c = record { read = index_missing c.args.c c.next_word.ensures.read c.args.bound c.in-Missing.is }

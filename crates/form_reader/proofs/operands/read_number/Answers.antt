@@ -42,15 +42,19 @@ number_bits-operand-requires c =
 pub returns-in-Number : goal.returns-in-Number
 unfolding word_in
 returns-in-Number c =
-    record { read = number_right c.args.c c.next_word.ensures.read c.in-At.is
-    c.read_word.ensures.read
-    c.in-Number.is c.number_bits-operand.ensures.made }
+    record {
+      read = number_right c.args.c c.next_word.ensures.read c.in-At.is
+          c.read_word.ensures.read
+          c.in-Number.is c.number_bits-operand.ensures.made;
+    }
 
 pub returns-in-Nothing : goal.returns-in-Nothing
 unfolding word_in
 returns-in-Nothing c =
-    record { read = number_wrong c.args.c c.next_word.ensures.read c.in-At.is c.read_word.ensures.read
-    c.in-Nothing.is }
+    record {
+      read = number_wrong c.args.c c.next_word.ensures.read c.in-At.is c.read_word.ensures.read
+          c.in-Nothing.is;
+    }
 
 pub returns-in-Missing : goal.returns-in-Missing
 returns-in-Missing c = record { read = number_missing c.args.c c.next_word.ensures.read c.in-Missing.is }

@@ -13,13 +13,17 @@ test_code-operand-requires c =
 
 pub returns-then-operand-lt7 : goal.returns-then-operand-lt7
 returns-then-operand-lt7 c =
-    record { read = test_right c.args.c c.next_word.ensures.read c.in-At.is
-    c.test_code-operand.ensures.told c.if-operand-lt7.true }
+    record {
+      read = test_right c.args.c c.next_word.ensures.read c.in-At.is
+          c.test_code-operand.ensures.told c.if-operand-lt7.true;
+    }
 
 pub returns-else-operand-lt7 : goal.returns-else-operand-lt7
 returns-else-operand-lt7 c =
-    record { read = test_wrong c.args.c c.next_word.ensures.read c.in-At.is
-    c.test_code-operand.ensures.told c.if-operand-lt7.false }
+    record {
+      read = test_wrong c.args.c c.next_word.ensures.read c.in-At.is
+          c.test_code-operand.ensures.told c.if-operand-lt7.false;
+    }
 
 pub returns-in-Missing : goal.returns-in-Missing
 returns-in-Missing c = record { read = test_missing c.args.c c.next_word.ensures.read c.in-Missing.is }

@@ -24,8 +24,10 @@ has_name-requires c =
 
 pub returns-then-has_name : goal.returns-then-has_name
 returns-then-has_name c =
-    record { read = pair_twice c.args.first c.args.c c.requires c.next_text.ensures.read c.in-At.is
-    c.has_name.ensures.found c.if-has_name.true c.refuse.ensures.made }
+    record {
+      read = pair_twice c.args.first c.args.c c.requires c.next_text.ensures.read c.in-At.is
+          c.has_name.ensures.found c.if-has_name.true c.refuse.ensures.made;
+    }
 
 pub overflow_add-from : goal.overflow_add-from
 overflow_add-from c =
@@ -58,15 +60,21 @@ overflow_add-to c =
 
 pub returns-else-has_name : goal.returns-else-has_name
 returns-else-has_name c =
-    record { read = pair_next c.args.first c.args.c c.requires c.next_text.ensures.read c.in-At.is
-    c.has_name.ensures.found c.if-has_name.false c.text_reference-name.ensures.made }
+    record {
+      read = pair_next c.args.first c.args.c c.requires c.next_text.ensures.read c.in-At.is
+          c.has_name.ensures.found c.if-has_name.false c.text_reference-name.ensures.made;
+    }
 
 pub returns-in-At-next_closing : goal.returns-in-At-next_closing
 returns-in-At-next_closing c =
-    record { read = pack_closed c.args.first c.args.c c.requires c.next_text.ensures.read
-    c.in-Missing.is c.next_closing.ensures.read c.in-At-next_closing.is }
+    record {
+      read = pack_closed c.args.first c.args.c c.requires c.next_text.ensures.read
+          c.in-Missing.is c.next_closing.ensures.read c.in-At-next_closing.is;
+    }
 
 pub returns-in-Missing-next_closing : goal.returns-in-Missing-next_closing
 returns-in-Missing-next_closing c =
-    record { read = pack_open c.args.first c.args.c c.requires c.next_text.ensures.read
-    c.in-Missing.is c.next_closing.ensures.read c.in-Missing-next_closing.is c.refuse-in-Missing-next_closing.ensures.made }
+    record {
+      read = pack_open c.args.first c.args.c c.requires c.next_text.ensures.read
+          c.in-Missing.is c.next_closing.ensures.read c.in-Missing-next_closing.is c.refuse-in-Missing-next_closing.ensures.made;
+    }

@@ -19,8 +19,10 @@ shape_of-pool-then-code-eq-PACK c =
 
 pub returns-then-code-eq-PACK : goal.returns-then-code-eq-PACK
 returns-then-code-eq-PACK c =
-    record { read = pair_turn c.args.code c.args.more c.args.first c.args.c c.requires c.if-code-eq-PACK.true
-    c.next_pair.ensures.read }
+    record {
+      read = pair_turn c.args.code c.args.more c.args.first c.args.c c.requires c.if-code-eq-PACK.true
+          c.next_pair.ensures.read;
+    }
 
 pub close_form-requires : goal.close_form-requires
 close_form-requires c =
@@ -28,5 +30,7 @@ close_form-requires c =
 
 pub returns : goal.returns
 returns c =
-    record { read = part_end c.args.code c.args.more c.args.first c.args.c c.requires
-    c.close_form.result c.if-code-eq-PACK.false c.if-more-gt0.false c.close_form.ensures.read }
+    record {
+      read = part_end c.args.code c.args.more c.args.first c.args.c c.requires
+          c.close_form.result c.if-code-eq-PACK.false c.if-more-gt0.false c.close_form.ensures.read;
+    }

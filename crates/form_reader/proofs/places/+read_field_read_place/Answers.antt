@@ -10,12 +10,11 @@ read_field-read_text-requires t c =
     ready_placed c.requires.ready
 
 pub read_field-read_place-q-requires : goal.read_field-read_place-q-requires
-read_field-read_place-q-requires t c =
-    (
-      omega (arith, c.decreases),
-      field_ready c.args.left c.args.c c.requires
-          c.read_text.ensures.read c.in-Read.is,
-    )
+read_field-read_place-q-requires t c = (
+  omega (arith, c.decreases),
+  field_ready c.args.left c.args.c c.requires
+      c.read_text.ensures.read c.in-Read.is,
+)
 
 pub read_field-shape_of-forms-in_default : goal.read_field-shape_of-forms-in_default
 read_field-shape_of-forms-in_default t c =
@@ -28,8 +27,10 @@ read_field-shape_of-pool-in_default t c =
 
 pub read_field-returns-in_default : goal.read_field-returns-in_default
 read_field-returns-in_default t c =
-    record { read = place_refused c.args.left c.args.c c.requires c.read_text.ensures.read
-    c.in-Read.is c.read_place-q.ensures.read c.in_default.is }
+    record {
+      read = place_refused c.args.left c.args.c c.requires c.read_text.ensures.read
+          c.in-Read.is c.read_place-q.ensures.read c.in_default.is;
+    }
 
 pub read_field-close_form-r-requires : goal.read_field-close_form-r-requires
 read_field-close_form-r-requires t c =
@@ -50,9 +51,11 @@ read_field-shape_of-pool-in_default-r t c =
 
 pub read_field-returns-in_default-r : goal.read_field-returns-in_default-r
 read_field-returns-in_default-r t c =
-    record { read = field_open c.args.left c.args.c c.requires c.read_text.ensures.read
-    c.in-Read.is c.read_place-q.ensures.read c.in-Done.is c.close_form-r.ensures.read
-    c.in_default-r.is }
+    record {
+      read = field_open c.args.left c.args.c c.requires c.read_text.ensures.read
+          c.in-Read.is c.read_place-q.ensures.read c.in-Done.is c.close_form-r.ensures.read
+          c.in_default-r.is;
+    }
 
 pub read_field-overflow_sub-row : goal.read_field-overflow_sub-row
 read_field-overflow_sub-row t c =
@@ -100,9 +103,11 @@ read_field-shape_of-pool-in-Done-r t c =
 
 pub read_field-returns-in-Done-r : goal.read_field-returns-in-Done-r
 read_field-returns-in-Done-r t c =
-    record { read = field_read c.args.left c.args.c c.requires c.read_text.ensures.read
-    c.in-Read.is c.read_place-q.ensures.read c.in-Done.is c.close_form-r.ensures.read
-    c.in-Done-r.is c.put_row.ensures.put }
+    record {
+      read = field_read c.args.left c.args.c c.requires c.read_text.ensures.read
+          c.in-Read.is c.read_place-q.ensures.read c.in-Done.is c.close_form-r.ensures.read
+          c.in-Done-r.is c.put_row.ensures.put;
+    }
 
 pub read_field-shape_of-pool-in-Refused : goal.read_field-shape_of-pool-in-Refused
 read_field-shape_of-pool-in-Refused t c =
@@ -146,9 +151,11 @@ read_place-shape_of-pool-then-code-eq-IT t c =
 
 pub read_place-returns-then-code-eq-IT : goal.read_place-returns-then-code-eq-IT
 read_place-returns-then-code-eq-IT t c =
-    record { read = it_placed c.args.left c.args.c c.requires c.begin_form.ensures.read
-    c.in-Word.is
-    c.place_code-code.ensures.told c.if-code-eq-IT.true c.read_it.ensures.read }
+    record {
+      read = it_placed c.args.left c.args.c c.requires c.begin_form.ensures.read
+          c.in-Word.is
+          c.place_code-code.ensures.told c.if-code-eq-IT.true c.read_it.ensures.read;
+    }
 
 pub read_place-overflow_sub-left : goal.read_place-overflow_sub-left
 read_place-overflow_sub-left t c =
@@ -159,17 +166,16 @@ read_place-overflow_sub-left t c =
     )
 
 pub read_place-read_field-requires : goal.read_place-read_field-requires
-read_place-read_field-requires t c =
-    (
-      omega (
-        arith,
-        c.decreases,
-        (worded c.args.left c.args.c c.requires
-            c.begin_form.ensures.read c.in-Word.is).bracket.nested,
-      ),
-      behind_word c.args.left
-          c.args.c c.requires c.begin_form.ensures.read c.in-Word.is,
-    )
+read_place-read_field-requires t c = (
+  omega (
+    arith,
+    c.decreases,
+    (worded c.args.left c.args.c c.requires
+        c.begin_form.ensures.read c.in-Word.is).bracket.nested,
+  ),
+  behind_word c.args.left
+      c.args.c c.requires c.begin_form.ensures.read c.in-Word.is,
+)
 
 pub read_place-shape_of-forms-then-code-eq-FIELD : goal.read_place-shape_of-forms-then-code-eq-FIELD
 read_place-shape_of-forms-then-code-eq-FIELD t c =
@@ -183,14 +189,18 @@ read_place-shape_of-pool-then-code-eq-FIELD t c =
 
 pub read_place-returns-then-code-eq-FIELD : goal.read_place-returns-then-code-eq-FIELD
 read_place-returns-then-code-eq-FIELD t c =
-    record { read = field_placed c.args.left c.args.c c.requires c.begin_form.ensures.read
-    c.in-Word.is c.place_code-code.ensures.told c.if-code-eq-FIELD.true
-    c.read_field.ensures.read }
+    record {
+      read = field_placed c.args.left c.args.c c.requires c.begin_form.ensures.read
+          c.in-Word.is c.place_code-code.ensures.told c.if-code-eq-FIELD.true
+          c.read_field.ensures.read;
+    }
 
 pub read_place-returns-else-code-eq-FIELD : goal.read_place-returns-else-code-eq-FIELD
 read_place-returns-else-code-eq-FIELD t c =
-    record { read = no_place c.args.left c.args.c c.requires c.begin_form.ensures.read c.in-Word.is
-    c.place_code-code.ensures.told c.if-code-eq-IT.false c.if-code-eq-FIELD.false }
+    record {
+      read = no_place c.args.left c.args.c c.requires c.begin_form.ensures.read c.in-Word.is
+          c.place_code-code.ensures.told c.if-code-eq-IT.false c.if-code-eq-FIELD.false;
+    }
 
 pub read_place-returns-in-Refused : goal.read_place-returns-in-Refused
 read_place-returns-in-Refused t c =

@@ -14,8 +14,10 @@ close_form-r-requires c =
 
 pub returns-in_default : goal.returns-in_default
 returns-in_default c =
-    record { read = it_open c.args.values c.args.bound c.args.place c.args.c c.requires
-    c.read_index.ensures.read c.in-Read.is c.close_form-r.ensures.read c.in_default.is }
+    record {
+      read = it_open c.args.values c.args.bound c.args.place c.args.c c.requires
+          c.read_index.ensures.read c.in-Read.is c.close_form-r.ensures.read c.in_default.is;
+    }
 
 pub overflow_sub-c : goal.overflow_sub-c
 overflow_sub-c c =
@@ -23,20 +25,27 @@ overflow_sub-c c =
 
 pub put_row-requires : goal.put_row-requires
 put_row-requires c =
-      record { row_in_bounds = omega (
+    record {
+      row_in_bounds = omega (
         arith,
         it_row_room c.args.values c.args.bound c.args.place c.args.c c.requires
             c.read_index.ensures.read c.in-Read.is c.close_form-r.ensures.read,
-      ); fits = omega (arith, c.requires.near) }
+      );
+      fits = omega (arith, c.requires.near);
+    }
 
 pub returns-in-Done : goal.returns-in-Done
 returns-in-Done c =
-    record { read = it_read c.args.values c.args.bound c.args.place c.args.c c.requires
-    c.read_index.ensures.read c.in-Read.is c.close_form-r.ensures.read
-    c.in-Done.is
-    c.put_row.ensures.put }
+    record {
+      read = it_read c.args.values c.args.bound c.args.place c.args.c c.requires
+          c.read_index.ensures.read c.in-Read.is c.close_form-r.ensures.read
+          c.in-Done.is
+          c.put_row.ensures.put;
+    }
 
 pub returns-in-Refused : goal.returns-in-Refused
 returns-in-Refused c =
-    record { read = index_refused c.args.values c.args.bound c.args.place c.args.c c.requires
-    c.read_index.ensures.read c.in-Refused.is }
+    record {
+      read = index_refused c.args.values c.args.bound c.args.place c.args.c c.requires
+          c.read_index.ensures.read c.in-Refused.is;
+    }

@@ -25,11 +25,13 @@ read_parts-loop-turn-init t c =
 
 pub read_parts-read_result-r-requires : goal.read_parts-read_result-r-requires
 read_parts-read_result-r-requires t c =
-    let begun_part : (lead : Lead) → (    lead_code lead ≡ c.args.code → PartBegun lead c.args.left c.args.values c.args.bound c.args.text.now c.args.forms.now c.args.pool.now c.loop-turn.forms c.loop-turn.pool c.args.c c.in-More.from c.in-More.name c.in-More.more) = λ lead e. subst (λ (u : Turn). TurnAnswer lead c.args.left c.args.values c.args.bound c.args.text.now
+    let begun_part : (lead : Lead)
+    → (lead_code lead ≡ c.args.code
+    → PartBegun lead c.args.left c.args.values c.args.bound c.args.text.now c.args.forms.now c.args.pool.now c.loop-turn.forms c.loop-turn.pool c.args.c
+    c.in-More.from c.in-More.name c.in-More.more) = λ lead e. subst (λ (u : Turn). TurnAnswer lead c.args.left c.args.values c.args.bound c.args.text.now
     c.args.forms.now c.args.pool.now c.loop-turn.forms c.loop-turn.pool c.args.c u) c.in-More.is
     (c.loop-turn.invariant lead c.args.c c.args.forms.now c.args.pool.now refl e c.requires
-    (parts_start c.args.c c.requires c.args.left c.parts_of.ensures.told c.next_part-turn.ensures.read lead e)) in
-    (
+    (parts_start c.args.c c.requires c.args.left c.parts_of.ensures.told c.next_part-turn.ensures.read lead e)) in (
       omega (arith, c.decreases),
       part_ready c.requires.lead c.args.c c.in-More.from
           c.requires c.requires.coded c.inner_bound-inner.ensures.told (begun_part c.requires.lead
@@ -38,7 +40,10 @@ read_parts-read_result-r-requires t c =
 
 pub read_parts-shape_of-forms-in_default : goal.read_parts-shape_of-forms-in_default
 read_parts-shape_of-forms-in_default t c =
-    let begun_part : (lead : Lead) → (    lead_code lead ≡ c.args.code → PartBegun lead c.args.left c.args.values c.args.bound c.args.text.now c.args.forms.now c.args.pool.now c.loop-turn.forms c.loop-turn.pool c.args.c c.in-More.from c.in-More.name c.in-More.more) = λ lead e. subst (λ (u : Turn). TurnAnswer lead c.args.left c.args.values c.args.bound c.args.text.now
+    let begun_part : (lead : Lead)
+    → (lead_code lead ≡ c.args.code
+    → PartBegun lead c.args.left c.args.values c.args.bound c.args.text.now c.args.forms.now c.args.pool.now c.loop-turn.forms c.loop-turn.pool c.args.c
+    c.in-More.from c.in-More.name c.in-More.more) = λ lead e. subst (λ (u : Turn). TurnAnswer lead c.args.left c.args.values c.args.bound c.args.text.now
     c.args.forms.now c.args.pool.now c.loop-turn.forms c.loop-turn.pool c.args.c u) c.in-More.is
     (c.loop-turn.invariant lead c.args.c c.args.forms.now c.args.pool.now refl e c.requires
     (parts_start c.args.c c.requires c.args.left c.parts_of.ensures.told c.next_part-turn.ensures.read lead e)) in
@@ -48,7 +53,10 @@ read_parts-shape_of-forms-in_default t c =
 
 pub read_parts-shape_of-pool-in_default : goal.read_parts-shape_of-pool-in_default
 read_parts-shape_of-pool-in_default t c =
-    let begun_part : (lead : Lead) → (    lead_code lead ≡ c.args.code → PartBegun lead c.args.left c.args.values c.args.bound c.args.text.now c.args.forms.now c.args.pool.now c.loop-turn.forms c.loop-turn.pool c.args.c c.in-More.from c.in-More.name c.in-More.more) = λ lead e. subst (λ (u : Turn). TurnAnswer lead c.args.left c.args.values c.args.bound c.args.text.now
+    let begun_part : (lead : Lead)
+    → (lead_code lead ≡ c.args.code
+    → PartBegun lead c.args.left c.args.values c.args.bound c.args.text.now c.args.forms.now c.args.pool.now c.loop-turn.forms c.loop-turn.pool c.args.c
+    c.in-More.from c.in-More.name c.in-More.more) = λ lead e. subst (λ (u : Turn). TurnAnswer lead c.args.left c.args.values c.args.bound c.args.text.now
     c.args.forms.now c.args.pool.now c.loop-turn.forms c.loop-turn.pool c.args.c u) c.in-More.is
     (c.loop-turn.invariant lead c.args.c c.args.forms.now c.args.pool.now refl e c.requires
     (parts_start c.args.c c.requires c.args.left c.parts_of.ensures.told c.next_part-turn.ensures.read lead e)) in
@@ -58,16 +66,24 @@ read_parts-shape_of-pool-in_default t c =
 
 pub read_parts-returns-in_default : goal.read_parts-returns-in_default
 read_parts-returns-in_default t c =
-    let begun_part : (lead : Lead) → (    lead_code lead ≡ c.args.code → PartBegun lead c.args.left c.args.values c.args.bound c.args.text.now c.args.forms.now c.args.pool.now c.loop-turn.forms c.loop-turn.pool c.args.c c.in-More.from c.in-More.name c.in-More.more) = λ lead e. subst (λ (u : Turn). TurnAnswer lead c.args.left c.args.values c.args.bound c.args.text.now
+    let begun_part : (lead : Lead)
+    → (lead_code lead ≡ c.args.code
+    → PartBegun lead c.args.left c.args.values c.args.bound c.args.text.now c.args.forms.now c.args.pool.now c.loop-turn.forms c.loop-turn.pool c.args.c
+    c.in-More.from c.in-More.name c.in-More.more) = λ lead e. subst (λ (u : Turn). TurnAnswer lead c.args.left c.args.values c.args.bound c.args.text.now
     c.args.forms.now c.args.pool.now c.loop-turn.forms c.loop-turn.pool c.args.c u) c.in-More.is
     (c.loop-turn.invariant lead c.args.c c.args.forms.now c.args.pool.now refl e c.requires
     (parts_start c.args.c c.requires c.args.left c.parts_of.ensures.told c.next_part-turn.ensures.read lead e)) in
-    record { read = λ lead e. part_refused lead c.args.c c.in-More.from c.requires e c.inner_bound-inner.ensures.told
-    (begun_part lead e) c.read_result-r.ensures.read c.in_default.is }
+    record {
+      read = λ lead e. part_refused lead c.args.c c.in-More.from c.requires e c.inner_bound-inner.ensures.told
+          (begun_part lead e) c.read_result-r.ensures.read c.in_default.is;
+    }
 
 pub read_parts-next_part-turn-requires-in-More : goal.read_parts-next_part-turn-requires-in-More
 read_parts-next_part-turn-requires-in-More t c =
-    let begun_part : (lead : Lead) → (    lead_code lead ≡ c.args.code → PartBegun lead c.args.left c.args.values c.args.bound c.args.text.now c.args.forms.now c.args.pool.now c.loop-turn.forms c.loop-turn.pool c.args.c c.in-More.from c.in-More.name c.in-More.more) = λ lead e. subst (λ (u : Turn). TurnAnswer lead c.args.left c.args.values c.args.bound c.args.text.now
+    let begun_part : (lead : Lead)
+    → (lead_code lead ≡ c.args.code
+    → PartBegun lead c.args.left c.args.values c.args.bound c.args.text.now c.args.forms.now c.args.pool.now c.loop-turn.forms c.loop-turn.pool c.args.c
+    c.in-More.from c.in-More.name c.in-More.more) = λ lead e. subst (λ (u : Turn). TurnAnswer lead c.args.left c.args.values c.args.bound c.args.text.now
     c.args.forms.now c.args.pool.now c.loop-turn.forms c.loop-turn.pool c.args.c u) c.in-More.is
     (c.loop-turn.invariant lead c.args.c c.args.forms.now c.args.pool.now refl e c.requires
     (parts_start c.args.c c.requires c.args.left c.parts_of.ensures.told c.next_part-turn.ensures.read lead e)) in
@@ -77,7 +93,10 @@ read_parts-next_part-turn-requires-in-More t c =
 
 pub read_parts-loop-turn-smaller : goal.read_parts-loop-turn-smaller
 read_parts-loop-turn-smaller t c =
-    let begun_part : (lead : Lead) → (    lead_code lead ≡ c.args.code → PartBegun lead c.args.left c.args.values c.args.bound c.args.text.now c.args.forms.now c.args.pool.now c.loop-turn.forms c.loop-turn.pool c.args.c c.in-More.from c.in-More.name c.in-More.more) = λ lead e. subst (λ (u : Turn). TurnAnswer lead c.args.left c.args.values c.args.bound c.args.text.now
+    let begun_part : (lead : Lead)
+    → (lead_code lead ≡ c.args.code
+    → PartBegun lead c.args.left c.args.values c.args.bound c.args.text.now c.args.forms.now c.args.pool.now c.loop-turn.forms c.loop-turn.pool c.args.c
+    c.in-More.from c.in-More.name c.in-More.more) = λ lead e. subst (λ (u : Turn). TurnAnswer lead c.args.left c.args.values c.args.bound c.args.text.now
     c.args.forms.now c.args.pool.now c.loop-turn.forms c.loop-turn.pool c.args.c u) c.in-More.is
     (c.loop-turn.invariant lead c.args.c c.args.forms.now c.args.pool.now refl e c.requires
     (parts_start c.args.c c.requires c.args.left c.parts_of.ensures.told c.next_part-turn.ensures.read lead e)) in
@@ -114,11 +133,13 @@ read_parts-shape_of-pool-in-Stop t c =
 
 pub read_parts-returns-in-Stop : goal.read_parts-returns-in-Stop
 read_parts-returns-in-Stop t c =
-    record { read = λ lead e. subst (λ (u : Turn). TurnAnswer lead c.args.left c.args.values c.args.bound
-    c.args.text.now c.args.forms.now c.args.pool.now c.loop-turn.forms c.loop-turn.pool
-    c.args.c u) c.in-Stop.is (c.loop-turn.invariant lead c.args.c c.args.forms.now
-    c.args.pool.now refl e c.requires (parts_start c.args.c c.requires c.args.left
-    c.parts_of.ensures.told c.next_part-turn.ensures.read lead e)) }
+    record {
+      read = λ lead e. subst (λ (u : Turn). TurnAnswer lead c.args.left c.args.values c.args.bound
+          c.args.text.now c.args.forms.now c.args.pool.now c.loop-turn.forms c.loop-turn.pool
+          c.args.c u) c.in-Stop.is (c.loop-turn.invariant lead c.args.c c.args.forms.now
+          c.args.pool.now refl e c.requires (parts_start c.args.c c.requires c.args.left
+          c.parts_of.ensures.told c.next_part-turn.ensures.read lead e));
+    }
 
 pub read_result-read_lead-requires : goal.read_result-read_lead-requires
 read_result-read_lead-requires t c =
@@ -129,17 +150,16 @@ read_result-overflow_sub-left t c =
     omega (arith, (led c.args.name c.args.c c.requires c.read_lead.ensures.read c.in-Form.is).nested)
 
 pub read_result-read_parts-r-requires : goal.read_result-read_parts-r-requires
-read_result-read_parts-r-requires t c =
-    (
-      omega (
-        arith,
-        c.decreases,
-        (led c.args.name c.args.c c.requires c.read_lead.ensures.read
-            c.in-Form.is).nested,
-      ),
-      parts_ready c.args.name c.args.c c.requires
-          c.read_lead.ensures.read c.in-Form.is,
-    )
+read_result-read_parts-r-requires t c = (
+  omega (
+    arith,
+    c.decreases,
+    (led c.args.name c.args.c c.requires c.read_lead.ensures.read
+        c.in-Form.is).nested,
+  ),
+  parts_ready c.args.name c.args.c c.requires
+      c.read_lead.ensures.read c.in-Form.is,
+)
 
 pub read_result-shape_of-forms-in_default : goal.read_result-shape_of-forms-in_default
 read_result-shape_of-forms-in_default t c =
@@ -153,8 +173,10 @@ read_result-shape_of-pool-in_default t c =
 
 pub read_result-returns-in_default : goal.read_result-returns-in_default
 read_result-returns-in_default t c =
-    record { read = parts_refused c.args.name c.args.c c.requires c.read_lead.ensures.read c.in-Form.is
-    c.read_parts-r.ensures.read c.in_default.is }
+    record {
+      read = parts_refused c.args.name c.args.c c.requires c.read_lead.ensures.read c.in-Form.is
+          c.read_parts-r.ensures.read c.in_default.is;
+    }
 
 pub read_result-overflow_sub-size : goal.read_result-overflow_sub-size
 read_result-overflow_sub-size t c =
@@ -200,8 +222,10 @@ read_result-shape_of-pool-in-Done t c =
 
 pub read_result-returns-in-Done : goal.read_result-returns-in-Done
 read_result-returns-in-Done t c =
-    record { read = result_read c.args.name c.args.c c.requires c.read_lead.ensures.read c.in-Form.is
-    c.read_parts-r.ensures.read c.in-Done.is c.put_row.ensures.put }
+    record {
+      read = result_read c.args.name c.args.c c.requires c.read_lead.ensures.read c.in-Form.is
+          c.read_parts-r.ensures.read c.in-Done.is c.put_row.ensures.put;
+    }
 
 pub read_result-shape_of-forms-in-Refused : goal.read_result-shape_of-forms-in-Refused
 read_result-shape_of-forms-in-Refused t c =

@@ -17,7 +17,8 @@ decreases-read_result l = 2 * l.left
 abbrev pub invariant-read_parts-loop-turn : goal.invariant-read_parts-loop-turn
 invariant-read_parts-loop-turn l =
     (lead : Lead) (c : Cursor) (ss ps : List ℕ) → c.begun ≡ l.first → lead_code lead ≡ l.code → PartsReady l.text ss ps l.values l.bound l.code c
-    → TurnAnswer lead l.left l.values l.bound l.text ss ps l.initial.forms l.initial.pool c l.initial.turn → TurnAnswer lead l.left l.values l.bound l.text ss ps l.forms l.pool c l.turn
+    → TurnAnswer lead l.left l.values l.bound l.text ss ps l.initial.forms l.initial.pool c l.initial.turn
+    → TurnAnswer lead l.left l.values l.bound l.text ss ps l.forms l.pool c l.turn
 
 abbrev pub decreases-read_parts-loop-turn : goal.decreases-read_parts-loop-turn
 decreases-read_parts-loop-turn l = to_read l.text l.turn

@@ -9,18 +9,24 @@ use Rattle.form_reader.proofs.words.place_code.Goals as goal
 pub returns-in-6910978 : goal.returns-in-6910978
 unfolding bytes word_value joined fits
 returns-in-6910978 c =
-    record { told = it_told (word_in c.args.text.now c.args.at c.args.end)
-    (c.word_value.ensures.told.is (bytes "it") refl c.in-6910978.is) }
+    record {
+      told = it_told (word_in c.args.text.now c.args.at c.args.end)
+          (c.word_value.ensures.told.is (bytes "it") refl c.in-6910978.is);
+    }
 
 pub returns-in-112602859201541 : goal.returns-in-112602859201541
 unfolding bytes word_value joined fits
 returns-in-112602859201541 c =
-    record { told = field_told (word_in c.args.text.now c.args.at c.args.end)
-    (c.word_value.ensures.told.is (bytes "field") refl c.in-112602859201541.is) }
+    record {
+      told = field_told (word_in c.args.text.now c.args.at c.args.end)
+          (c.word_value.ensures.told.is (bytes "field") refl c.in-112602859201541.is);
+    }
 
 pub returns-in_default : goal.returns-in_default
 unfolding bytes word_value joined fits
 returns-in_default c =
-    record { told = no_place_told (word_in c.args.text.now c.args.at c.args.end)
-    (c.word_value.ensures.told.other (bytes "it") refl c.in_default.in_default-own.rest.0.1)
-    (c.word_value.ensures.told.other (bytes "field") refl c.in_default.in_default-own.rest.1) }
+    record {
+      told = no_place_told (word_in c.args.text.now c.args.at c.args.end)
+          (c.word_value.ensures.told.other (bytes "it") refl c.in_default.in_default-own.rest.0.1)
+          (c.word_value.ensures.told.other (bytes "field") refl c.in_default.in_default-own.rest.1);
+    }

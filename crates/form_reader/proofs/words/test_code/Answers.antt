@@ -9,53 +9,69 @@ use Rattle.form_reader.proofs.words.test_code.Goals as goal
 pub returns-in-474416442372 : goal.returns-in-474416442372
 unfolding bytes word_value joined fits
 returns-in-474416442372 c =
-    record { told = null_told (word_in c.args.text.now c.args.at c.args.end)
-    (c.word_value.ensures.told.is (bytes "null") refl c.in-474416442372.is) }
+    record {
+      told = null_told (word_in c.args.text.now c.args.at c.args.end)
+          (c.word_value.ensures.told.is (bytes "null") refl c.in-474416442372.is);
+    }
 
 pub returns-in-422776368132 : goal.returns-in-422776368132
 unfolding bytes word_value joined fits
 returns-in-422776368132 c =
-    record { told = bool_told (word_in c.args.text.now c.args.at c.args.end)
-    (c.word_value.ensures.told.is (bytes "bool") refl c.in-422776368132.is) }
+    record {
+      told = bool_told (word_in c.args.text.now c.args.at c.args.end)
+          (c.word_value.ensures.told.is (bytes "bool") refl c.in-422776368132.is);
+    }
 
 pub returns-in-1768846339 : goal.returns-in-1768846339
 unfolding bytes word_value joined fits
 returns-in-1768846339 c =
-    record { told = int_told (word_in c.args.text.now c.args.at c.args.end)
-    (c.word_value.ensures.told.is (bytes "int") refl c.in-1768846339.is) }
+    record {
+      told = int_told (word_in c.args.text.now c.args.at c.args.end)
+          (c.word_value.ensures.told.is (bytes "int") refl c.in-1768846339.is);
+    }
 
 pub returns-in-1853189379 : goal.returns-in-1853189379
 unfolding bytes word_value joined fits
 returns-in-1853189379 c =
-    record { told = num_told (word_in c.args.text.now c.args.at c.args.end)
-    (c.word_value.ensures.told.is (bytes "num") refl c.in-1853189379.is) }
+    record {
+      told = num_told (word_in c.args.text.now c.args.at c.args.end)
+          (c.word_value.ensures.told.is (bytes "num") refl c.in-1853189379.is);
+    }
 
 pub returns-in-499918599172 : goal.returns-in-499918599172
 unfolding bytes word_value joined fits
 returns-in-499918599172 c =
-    record { told = text_told (word_in c.args.text.now c.args.at c.args.end)
-    (c.word_value.ensures.told.is (bytes "text") refl c.in-499918599172.is) }
+    record {
+      told = text_told (word_in c.args.text.now c.args.at c.args.end)
+          (c.word_value.ensures.told.is (bytes "text") refl c.in-499918599172.is);
+    }
 
 pub returns-in-465625641988 : goal.returns-in-465625641988
 unfolding bytes word_value joined fits
 returns-in-465625641988 c =
-    record { told = list_told (word_in c.args.text.now c.args.at c.args.end)
-    (c.word_value.ensures.told.is (bytes "list") refl c.in-465625641988.is) }
+    record {
+      told = list_told (word_in c.args.text.now c.args.at c.args.end)
+          (c.word_value.ensures.told.is (bytes "list") refl c.in-465625641988.is);
+    }
 
 pub returns-in-1919247107 : goal.returns-in-1919247107
 unfolding bytes word_value joined fits
 returns-in-1919247107 c =
-    record { told = rec_told (word_in c.args.text.now c.args.at c.args.end)
-    (c.word_value.ensures.told.is (bytes "rec") refl c.in-1919247107.is) }
+    record {
+      told = rec_told (word_in c.args.text.now c.args.at c.args.end)
+          (c.word_value.ensures.told.is (bytes "rec") refl c.in-1919247107.is);
+    }
 
 pub returns-in_default : goal.returns-in_default
 unfolding bytes word_value joined fits
 returns-in_default c =
-    record { told = no_test_told (word_in c.args.text.now c.args.at c.args.end)
-    (c.word_value.ensures.told.other (bytes "null") refl c.in_default.in_default-own.rest.0.0.0.0.0.0.1)
-    (c.word_value.ensures.told.other (bytes "bool") refl c.in_default.in_default-own.rest.0.0.0.0.0.1)
-    (c.word_value.ensures.told.other (bytes "int") refl c.in_default.in_default-own.rest.0.0.0.0.1)
-    (c.word_value.ensures.told.other (bytes "num") refl c.in_default.in_default-own.rest.0.0.0.1)
-    (c.word_value.ensures.told.other (bytes "text") refl c.in_default.in_default-own.rest.0.0.1)
-    (c.word_value.ensures.told.other (bytes "list") refl c.in_default.in_default-own.rest.0.1)
-    (c.word_value.ensures.told.other (bytes "rec") refl c.in_default.in_default-own.rest.1) }
+    record {
+      told = no_test_told (word_in c.args.text.now c.args.at c.args.end)
+          (c.word_value.ensures.told.other (bytes "null") refl c.in_default.in_default-own.rest.0.0.0.0.0.0.1)
+          (c.word_value.ensures.told.other (bytes "bool") refl c.in_default.in_default-own.rest.0.0.0.0.0.1)
+          (c.word_value.ensures.told.other (bytes "int") refl c.in_default.in_default-own.rest.0.0.0.0.1)
+          (c.word_value.ensures.told.other (bytes "num") refl c.in_default.in_default-own.rest.0.0.0.1)
+          (c.word_value.ensures.told.other (bytes "text") refl c.in_default.in_default-own.rest.0.0.1)
+          (c.word_value.ensures.told.other (bytes "list") refl c.in_default.in_default-own.rest.0.1)
+          (c.word_value.ensures.told.other (bytes "rec") refl c.in_default.in_default-own.rest.1);
+    }

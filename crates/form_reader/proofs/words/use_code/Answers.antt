@@ -36,12 +36,14 @@ returns-in-435425601540 c = record { told = λ w t. each_used w (t.is (bytes "ea
 pub returns-in_default : goal.returns-in_default
 unfolding bytes word_value joined fits
 returns-in_default c =
-    record { told = λ w t.
-    none_used w
-    (t.other (bytes "int") refl c.in_default.in_default-own.rest.0.0.0.0.0.0.1)
-    (t.other (bytes "dec") refl c.in_default.in_default-own.rest.0.0.0.0.0.1)
-    (t.other (bytes "bool") refl c.in_default.in_default-own.rest.0.0.0.0.1)
-    (t.other (bytes "text") refl c.in_default.in_default-own.rest.0.0.0.1)
-    (t.other (bytes "keep") refl c.in_default.in_default-own.rest.0.0.1)
-    (t.other (bytes "count") refl c.in_default.in_default-own.rest.0.1)
-    (t.other (bytes "each") refl c.in_default.in_default-own.rest.1) }
+    record {
+      told = λ w t.
+          none_used w
+          (t.other (bytes "int") refl c.in_default.in_default-own.rest.0.0.0.0.0.0.1)
+          (t.other (bytes "dec") refl c.in_default.in_default-own.rest.0.0.0.0.0.1)
+          (t.other (bytes "bool") refl c.in_default.in_default-own.rest.0.0.0.0.1)
+          (t.other (bytes "text") refl c.in_default.in_default-own.rest.0.0.0.1)
+          (t.other (bytes "keep") refl c.in_default.in_default-own.rest.0.0.1)
+          (t.other (bytes "count") refl c.in_default.in_default-own.rest.0.1)
+          (t.other (bytes "each") refl c.in_default.in_default-own.rest.1);
+    }

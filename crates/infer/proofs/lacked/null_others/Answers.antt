@@ -14,7 +14,8 @@ member_count-requires-then-had c =
     record { used = w.part; members = w.tells.members; stand = w.tells.held }
 
 pub returns-then-member_count : goal.returns-then-member_count
-returns-then-member_count c = record { nulled = none_lacked _ c.member_count.ensures.counted c.member_count-then-had.ensures.counted c.if-member_count.true c.requires.room.enough }
+returns-then-member_count c =
+    record { nulled = none_lacked _ c.member_count.ensures.counted c.member_count-then-had.ensures.counted c.if-member_count.true c.requires.room.enough }
 
 pub returns-then-had : goal.returns-then-had
 returns-then-had c = record { nulled = others_of _ (others_had _ _ _ _ _ _ _ c.if-had.true c.null_lacked.ensures.nulled) }

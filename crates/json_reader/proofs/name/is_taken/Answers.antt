@@ -13,9 +13,11 @@ overflow_shr-seen c = omega (arith, c.requires.bit)
 
 pub returns-then-seen-place-eq0 : goal.returns-then-seen-place-eq0
 returns-then-seen-place-eq0 c =
-    record { found = λ ms r covered.
-    let name = text_in c.args.pool.now c.args.c.top c.args.n in
-    not_seen name ms (subst (λ (k : ℕ). c.args.seen / 2 ^ k % 2 ≡ 0) c.requires.bit c.if-seen-place-eq0.true) covered }
+    record {
+      found = λ ms r covered.
+          let name = text_in c.args.pool.now c.args.c.top c.args.n in
+          not_seen name ms (subst (λ (k : ℕ). c.args.seen / 2 ^ k % 2 ≡ 0) c.requires.bit c.if-seen-place-eq0.true) covered;
+    }
 
 pub returns : goal.returns
 returns c = record { found = λ ms r covered. c.has_name.ensures.found ms r }

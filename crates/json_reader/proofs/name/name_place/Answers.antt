@@ -9,7 +9,10 @@ pub returns-then-n-eq0 : goal.returns-then-n-eq0
 returns-then-n-eq0 c = record { placed = place_none c.args.pool.now c.args.w c.args.n c.requires.0 c.if-n-eq0.true }
 
 pub offset_bounds-pool-w : goal.offset_bounds-pool-w
-offset_bounds-pool-w c = omega (arith, (let inside : c.args.w < length c.args.pool.now = first_inside c.args.pool.now c.args.w c.args.n c.requires.0 (omega arith) in inside))
+offset_bounds-pool-w c = omega (
+  arith,
+  (let inside : c.args.w < length c.args.pool.now = first_inside c.args.pool.now c.args.w c.args.n c.requires.0 (omega arith) in inside),
+)
 
 pub bounds-pool-w : goal.bounds-pool-w
 bounds-pool-w c = (let inside : c.args.w < length c.args.pool.now = first_inside c.args.pool.now c.args.w c.args.n c.requires.0 (omega arith) in inside)
@@ -20,5 +23,7 @@ overflow_add-result c =
 
 pub returns : goal.returns
 returns c =
-    record { placed = place_some c.args.pool.now c.args.w c.args.n c.requires.0 (omega arith)
-    (omega (arith, c.shared_slice_known-1.given c.args.w)) }
+    record {
+      placed = place_some c.args.pool.now c.args.w c.args.n c.requires.0 (omega arith)
+          (omega (arith, c.shared_slice_known-1.given c.args.w));
+    }

@@ -6,13 +6,17 @@ use Rattle.json_reader.proofs.parts.first_part.Goals as goal
 
 pub returns-then-peek-closing : goal.returns-then-peek-closing
 returns-then-peek-closing c =
-    record { entered = λ k e f seen left pool.
-    first_part_stop c.args.c c.requires.0 c.requires.1 k e f c.skip_white-at.ensures.skipped
-    (token c.skip_white-at.ensures.skipped (sym c.peek.ensures.read ∙ c.if-peek-closing.true) c.requires.3)
-    c.put_row_of.ensures.closed }
+    record {
+      entered = λ k e f seen left pool.
+          first_part_stop c.args.c c.requires.0 c.requires.1 k e f c.skip_white-at.ensures.skipped
+          (token c.skip_white-at.ensures.skipped (sym c.peek.ensures.read ∙ c.if-peek-closing.true) c.requires.3)
+          c.put_row_of.ensures.closed;
+    }
 
 pub returns : goal.returns
 returns c =
-    record { entered = λ k e f seen left pool.
-    first_part_more c.args.c c.requires.0 c.requires.1 k e f c.skip_white-at.ensures.skipped
-    (λ z. c.if-peek-closing.false (c.peek.ensures.read ∙ z)) }
+    record {
+      entered = λ k e f seen left pool.
+          first_part_more c.args.c c.requires.0 c.requires.1 k e f c.skip_white-at.ensures.skipped
+          (λ z. c.if-peek-closing.false (c.peek.ensures.read ∙ z));
+    }

@@ -8,42 +8,50 @@ use Rattle.json_reader.proofs.parts.next_part.Goals as goal
 
 pub returns-then-peek-eq-COMMA : goal.returns-then-peek-eq-COMMA
 returns-then-peek-eq-COMMA c =
-    record { gone = let next = token_here (sym c.peek.ensures.read ∙ c.if-peek-eq-COMMA.true) (omega arith) in
     record {
-      answer = λ k e f seen left values nodes₀ pool₀ pool op.
-          next_part_more c.args.c c.args.to c.requires k e f op next;
-      ahead = next.ahead;
-    } }
+      gone = let next = token_here (sym c.peek.ensures.read ∙ c.if-peek-eq-COMMA.true) (omega arith) in
+          record {
+            answer = λ k e f seen left values nodes₀ pool₀ pool op.
+                next_part_more c.args.c c.args.to c.requires k e f op next;
+            ahead = next.ahead;
+          };
+    }
 
 pub returns-then-b-eq-COMMA : goal.returns-then-b-eq-COMMA
 returns-then-b-eq-COMMA c =
-    record { gone = let next = token c.skip_white-i.ensures.skipped (sym c.peek-b.ensures.read ∙ c.if-b-eq-COMMA.true) (omega arith) in
     record {
-      answer = λ k e f seen left values nodes₀ pool₀ pool op.
-          next_part_more c.args.c c.args.to c.requires k e f op next;
-      ahead = next.ahead;
-    } }
+      gone = let next = token c.skip_white-i.ensures.skipped (sym c.peek-b.ensures.read ∙ c.if-b-eq-COMMA.true) (omega arith) in
+          record {
+            answer = λ k e f seen left values nodes₀ pool₀ pool op.
+                next_part_more c.args.c c.args.to c.requires k e f op next;
+            ahead = next.ahead;
+          };
+    }
 
 pub returns-then-b-closing : goal.returns-then-b-closing
 returns-then-b-closing c =
-    record { gone = record {
-      answer = λ k e f seen left values nodes₀ pool₀ pool op.
-          next_part_stop c.args.c c.args.to c.requires k e f op
-          (token c.skip_white-i.ensures.skipped (sym c.peek-b.ensures.read ∙ c.if-b-closing.true) c.requires.closes)
-          c.put_row_of.ensures.closed;
-      ahead = tt;
-    } }
+    record {
+      gone = record {
+        answer = λ k e f seen left values nodes₀ pool₀ pool op.
+            next_part_stop c.args.c c.args.to c.requires k e f op
+            (token c.skip_white-i.ensures.skipped (sym c.peek-b.ensures.read ∙ c.if-b-closing.true) c.requires.closes)
+            c.put_row_of.ensures.closed;
+        ahead = tt;
+      };
+    }
 
 pub returns : goal.returns
 returns c =
-    record { gone = record {
-      answer = λ k e f seen left values nodes₀ pool₀ pool op.
-          as_word c.refused.ensures.packed
-          (next_part_broken c.args.c c.args.to c.requires k e f op
-          (record {
-            skips = c.skip_white-i.ensures.skipped;
-            first = λ q. c.if-b-eq-COMMA.false (c.peek-b.ensures.read ∙ q);
-            second = λ q. c.if-b-closing.false (c.peek-b.ensures.read ∙ q);
-          }));
-      ahead = tt;
-    } }
+    record {
+      gone = record {
+        answer = λ k e f seen left values nodes₀ pool₀ pool op.
+            as_word c.refused.ensures.packed
+            (next_part_broken c.args.c c.args.to c.requires k e f op
+            (record {
+              skips = c.skip_white-i.ensures.skipped;
+              first = λ q. c.if-b-eq-COMMA.false (c.peek-b.ensures.read ∙ q);
+              second = λ q. c.if-b-closing.false (c.peek-b.ensures.read ∙ q);
+            }));
+        ahead = tt;
+      };
+    }

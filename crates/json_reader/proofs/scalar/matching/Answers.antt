@@ -1,6 +1,5 @@
 -- `json::scalar::matching` meets its contract. The loop's invariant is `Matching`: the bytes before are the name's.
 -- Assumes nothing.
-use Prim.Native.Nat.{◌-◌}
 use mathlib.Core.Path.{sym, ◌∙◌}
 use native.Mathlib.Omega.{arith}
 use Rattle.json_reader.proofs.White.{get_d_any}
@@ -12,8 +11,10 @@ loop-i-init c = matching c.requires
 
 pub returns-then-peek : goal.returns-then-peek
 returns-then-peek c =
-    record { matched = matched c.loop-i.invariant
-    (λ h e. c.if-peek.true (c.peek.ensures.read ∙ e ∙ sym c.peek-in-loop-i.ensures.read)) }
+    record {
+      matched = matched c.loop-i.invariant
+          (λ h e. c.if-peek.true (c.peek.ensures.read ∙ e ∙ sym c.peek-in-loop-i.ensures.read));
+    }
 
 pub loop-i-preserved : goal.loop-i-preserved
 loop-i-preserved c =

@@ -36,13 +36,15 @@ head_word-head-requires c =
 pub returns : goal.returns
 unfolding kind_code number_bits plain
 returns c =
-    record { put = record {
-      row =
-          c.put_row.ensures.put
-          ∙ ap (λ (h : ℕ). with_row c.args.nodes.now c.args.c.begun h c.args.x.coefficient c.args.name)
-          (c.head_word-head.ensures.made
-          ∙ head_word_is (Value.number (number_in c.args.x)) refl c.number_bits-bits.ensures.made
-          c.written_length-written.ensures);
-      answer = c.done.ensures.packed;
-      short = plain_short (number_in c.args.x) c.requires.row.2;
-    } }
+    record {
+      put = record {
+        row =
+            c.put_row.ensures.put
+            ∙ ap (λ (h : ℕ). with_row c.args.nodes.now c.args.c.begun h c.args.x.coefficient c.args.name)
+            (c.head_word-head.ensures.made
+            ∙ head_word_is (Value.number (number_in c.args.x)) refl c.number_bits-bits.ensures.made
+            c.written_length-written.ensures);
+        answer = c.done.ensures.packed;
+        short = plain_short (number_in c.args.x) c.requires.row.2;
+      };
+    }

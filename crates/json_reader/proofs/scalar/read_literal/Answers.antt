@@ -11,20 +11,24 @@ use Rattle.json_reader.proofs.scalar.read_literal.Goals as goal
 
 pub returns-then-is_full : goal.returns-then-is_full
 returns-then-is_full c =
-    record { read = λ pool.
-    as_word c.refused.ensures.packed
-    (literal_full c.args.c c.requires.1 c.requires.2 c.requires.0 pool
-    (subst (λ (b : Bool). JudgesFull c.args.values c.args.left c.args.c.begun b) c.if-is_full.true
-    c.is_full.ensures.judged)) }
+    record {
+      read = λ pool.
+          as_word c.refused.ensures.packed
+          (literal_full c.args.c c.requires.1 c.requires.2 c.requires.0 pool
+          (subst (λ (b : Bool). JudgesFull c.args.values c.args.left c.args.c.begun b) c.if-is_full.true
+          c.is_full.ensures.judged));
+    }
 
 pub returns-then-k-literal : goal.returns-then-k-literal
 returns-then-k-literal c =
-    record { read = λ pool.
-    as_word c.refused-then-k-literal.ensures.packed
-    (literal_broken c.args.c c.requires.1 c.requires.2 c.requires.0 pool
-    (subst (λ (b : Bool). JudgesFull c.args.values c.args.left c.args.c.begun b) c.if-is_full.false
-    c.is_full.ensures.judged)
-    c.matching-k.ensures.matched c.if-k-literal.true) }
+    record {
+      read = λ pool.
+          as_word c.refused-then-k-literal.ensures.packed
+          (literal_broken c.args.c c.requires.1 c.requires.2 c.requires.0 pool
+          (subst (λ (b : Bool). JudgesFull c.args.values c.args.left c.args.c.begun b) c.if-is_full.false
+          c.is_full.ensures.judged)
+          c.matching-k.ensures.matched c.if-k-literal.true);
+    }
 
 pub head_word-requires : goal.head_word-requires
 head_word-requires c =
@@ -37,12 +41,14 @@ put_row-requires c =
 
 pub returns : goal.returns
 returns c =
-    record { read = λ pool.
-    as_word c.done.ensures.packed
-    (literal_read c.args.c c.requires.1 c.requires.2 c.requires.0 pool
-    (subst (λ (b : Bool). JudgesFull c.args.values c.args.left c.args.c.begun b) c.if-is_full.false
-    c.is_full.ensures.judged)
-    c.matching-k.ensures.matched c.if-k-literal.false
-    (c.put_row.ensures.put
-    ∙ ap (λ (h : ℕ). with_row c.args.nodes.now c.args.c.begun h 0 c.args.name)
-    c.head_word.ensures.made)) }
+    record {
+      read = λ pool.
+          as_word c.done.ensures.packed
+          (literal_read c.args.c c.requires.1 c.requires.2 c.requires.0 pool
+          (subst (λ (b : Bool). JudgesFull c.args.values c.args.left c.args.c.begun b) c.if-is_full.false
+          c.is_full.ensures.judged)
+          c.matching-k.ensures.matched c.if-k-literal.false
+          (c.put_row.ensures.put
+          ∙ ap (λ (h : ℕ). with_row c.args.nodes.now c.args.c.begun h 0 c.args.name)
+          c.head_word.ensures.made));
+    }

@@ -25,12 +25,11 @@ pub returns-then-b-eq110 : goal.returns-then-b-eq110
 returns-then-b-eq110 c = record { read = c.read_literal-then-b-eq110.ensures.read c.args.pool.now }
 
 pub read_number_value-requires : goal.read_number_value-requires
-read_number_value-requires c =
-     (
-      c.requires.0.placed,
-      only_number c.peek-b.ensures.read c.requires.1 c.if-b-eq34.false c.if-b-eq116.false
-          c.if-b-eq102.false c.if-b-eq110.false,
-    )
+read_number_value-requires c = (
+  c.requires.0.placed,
+  only_number c.peek-b.ensures.read c.requires.1 c.if-b-eq34.false c.if-b-eq116.false
+      c.if-b-eq102.false c.if-b-eq110.false,
+)
 
 pub returns : goal.returns
 returns c = record { read = c.read_number_value.ensures.read c.args.pool.now }

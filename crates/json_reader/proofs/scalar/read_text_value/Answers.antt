@@ -14,10 +14,12 @@ use Rattle.json_reader.proofs.scalar.read_text_value.Goals as goal
 
 pub returns-then-is_full : goal.returns-then-is_full
 returns-then-is_full c =
-    record { read = as_word c.refused.ensures.packed
-    (text_full c.args.c c.requires.0 c.requires.1
-    (subst (λ (b : Bool). JudgesFull c.args.values c.args.left c.args.c.begun b) c.if-is_full.true
-    c.is_full.ensures.judged)) }
+    record {
+      read = as_word c.refused.ensures.packed
+          (text_full c.args.c c.requires.0 c.requires.1
+          (subst (λ (b : Bool). JudgesFull c.args.values c.args.left c.args.c.begun b) c.if-is_full.true
+          c.is_full.ensures.judged));
+    }
 
 pub read_text-requires : goal.read_text-requires
 read_text-requires c =
@@ -26,58 +28,95 @@ read_text-requires c =
 
 pub text_reference-reference-requires : goal.text_reference-reference-requires
 unfolding reference
-text_reference-reference-requires c = omega (arith, (let small : (c.args.c.top < 65536) × (c.in-Closed.length ≤ 65536) × (c.in-Closed.written ≤ 65536) = (
-      c.requires.0.placed.small,
-      omega (arith, (let closed : TextClosed c.args.doc.now (c.args.c.at + 1) c.read_text.new.pool c.args.c.top
-    c.in-Closed.end c.in-Closed.length c.in-Closed.written = subst (λ (r : TextRead).
-    TextAnswer c.args.doc.now (c.args.c.at + 1) c.read_text.new.pool c.args.c.top r)
-    c.in-Closed.is c.read_text.ensures.read.answer in closed).shorter, (let closed : TextClosed c.args.doc.now (c.args.c.at + 1) c.read_text.new.pool c.args.c.top
-    c.in-Closed.end c.in-Closed.length c.in-Closed.written = subst (λ (r : TextRead).
-    TextAnswer c.args.doc.now (c.args.c.at + 1) c.read_text.new.pool c.args.c.top r)
-    c.in-Closed.is c.read_text.ensures.read.answer in closed).within, c.requires.0.placed.short),
-      omega (arith, (let closed : TextClosed c.args.doc.now (c.args.c.at + 1) c.read_text.new.pool c.args.c.top
-    c.in-Closed.end c.in-Closed.length c.in-Closed.written = subst (λ (r : TextRead).
-    TextAnswer c.args.doc.now (c.args.c.at + 1) c.read_text.new.pool c.args.c.top r)
-    c.in-Closed.is c.read_text.ensures.read.answer in closed).bounded, (let closed : TextClosed c.args.doc.now (c.args.c.at + 1) c.read_text.new.pool c.args.c.top
-    c.in-Closed.end c.in-Closed.length c.in-Closed.written = subst (λ (r : TextRead).
-    TextAnswer c.args.doc.now (c.args.c.at + 1) c.read_text.new.pool c.args.c.top r)
-    c.in-Closed.is c.read_text.ensures.read.answer in closed).within, c.requires.0.placed.short),
-    ) in small).0, (let small : (c.args.c.top < 65536) × (c.in-Closed.length ≤ 65536) × (c.in-Closed.written ≤ 65536) = (
-      c.requires.0.placed.small,
-      omega (arith, (let closed : TextClosed c.args.doc.now (c.args.c.at + 1) c.read_text.new.pool c.args.c.top
-    c.in-Closed.end c.in-Closed.length c.in-Closed.written = subst (λ (r : TextRead).
-    TextAnswer c.args.doc.now (c.args.c.at + 1) c.read_text.new.pool c.args.c.top r)
-    c.in-Closed.is c.read_text.ensures.read.answer in closed).shorter, (let closed : TextClosed c.args.doc.now (c.args.c.at + 1) c.read_text.new.pool c.args.c.top
-    c.in-Closed.end c.in-Closed.length c.in-Closed.written = subst (λ (r : TextRead).
-    TextAnswer c.args.doc.now (c.args.c.at + 1) c.read_text.new.pool c.args.c.top r)
-    c.in-Closed.is c.read_text.ensures.read.answer in closed).within, c.requires.0.placed.short),
-      omega (arith, (let closed : TextClosed c.args.doc.now (c.args.c.at + 1) c.read_text.new.pool c.args.c.top
-    c.in-Closed.end c.in-Closed.length c.in-Closed.written = subst (λ (r : TextRead).
-    TextAnswer c.args.doc.now (c.args.c.at + 1) c.read_text.new.pool c.args.c.top r)
-    c.in-Closed.is c.read_text.ensures.read.answer in closed).bounded, (let closed : TextClosed c.args.doc.now (c.args.c.at + 1) c.read_text.new.pool c.args.c.top
-    c.in-Closed.end c.in-Closed.length c.in-Closed.written = subst (λ (r : TextRead).
-    TextAnswer c.args.doc.now (c.args.c.at + 1) c.read_text.new.pool c.args.c.top r)
-    c.in-Closed.is c.read_text.ensures.read.answer in closed).within, c.requires.0.placed.short),
-    ) in small).1)
+text_reference-reference-requires c = omega (
+  arith,
+  (let small : (c.args.c.top < 65536) × (c.in-Closed.length ≤ 65536) × (c.in-Closed.written ≤ 65536) = (
+    c.requires.0.placed.small,
+    omega (
+      arith,
+      (let closed : TextClosed c.args.doc.now (c.args.c.at + 1) c.read_text.new.pool c.args.c.top
+          c.in-Closed.end c.in-Closed.length c.in-Closed.written = subst (λ (r : TextRead).
+          TextAnswer c.args.doc.now (c.args.c.at + 1) c.read_text.new.pool c.args.c.top r)
+          c.in-Closed.is c.read_text.ensures.read.answer in closed).shorter,
+      (let closed : TextClosed c.args.doc.now (c.args.c.at + 1) c.read_text.new.pool c.args.c.top
+          c.in-Closed.end c.in-Closed.length c.in-Closed.written = subst (λ (r : TextRead).
+          TextAnswer c.args.doc.now (c.args.c.at + 1) c.read_text.new.pool c.args.c.top r)
+          c.in-Closed.is c.read_text.ensures.read.answer in closed).within,
+      c.requires.0.placed.short,
+    ),
+    omega (
+      arith,
+      (let closed : TextClosed c.args.doc.now (c.args.c.at + 1) c.read_text.new.pool c.args.c.top
+          c.in-Closed.end c.in-Closed.length c.in-Closed.written = subst (λ (r : TextRead).
+          TextAnswer c.args.doc.now (c.args.c.at + 1) c.read_text.new.pool c.args.c.top r)
+          c.in-Closed.is c.read_text.ensures.read.answer in closed).bounded,
+      (let closed : TextClosed c.args.doc.now (c.args.c.at + 1) c.read_text.new.pool c.args.c.top
+          c.in-Closed.end c.in-Closed.length c.in-Closed.written = subst (λ (r : TextRead).
+          TextAnswer c.args.doc.now (c.args.c.at + 1) c.read_text.new.pool c.args.c.top r)
+          c.in-Closed.is c.read_text.ensures.read.answer in closed).within,
+      c.requires.0.placed.short,
+    ),
+  ) in small).0,
+  (let small : (c.args.c.top < 65536) × (c.in-Closed.length ≤ 65536) × (c.in-Closed.written ≤ 65536) = (
+    c.requires.0.placed.small,
+    omega (
+      arith,
+      (let closed : TextClosed c.args.doc.now (c.args.c.at + 1) c.read_text.new.pool c.args.c.top
+          c.in-Closed.end c.in-Closed.length c.in-Closed.written = subst (λ (r : TextRead).
+          TextAnswer c.args.doc.now (c.args.c.at + 1) c.read_text.new.pool c.args.c.top r)
+          c.in-Closed.is c.read_text.ensures.read.answer in closed).shorter,
+      (let closed : TextClosed c.args.doc.now (c.args.c.at + 1) c.read_text.new.pool c.args.c.top
+          c.in-Closed.end c.in-Closed.length c.in-Closed.written = subst (λ (r : TextRead).
+          TextAnswer c.args.doc.now (c.args.c.at + 1) c.read_text.new.pool c.args.c.top r)
+          c.in-Closed.is c.read_text.ensures.read.answer in closed).within,
+      c.requires.0.placed.short,
+    ),
+    omega (
+      arith,
+      (let closed : TextClosed c.args.doc.now (c.args.c.at + 1) c.read_text.new.pool c.args.c.top
+          c.in-Closed.end c.in-Closed.length c.in-Closed.written = subst (λ (r : TextRead).
+          TextAnswer c.args.doc.now (c.args.c.at + 1) c.read_text.new.pool c.args.c.top r)
+          c.in-Closed.is c.read_text.ensures.read.answer in closed).bounded,
+      (let closed : TextClosed c.args.doc.now (c.args.c.at + 1) c.read_text.new.pool c.args.c.top
+          c.in-Closed.end c.in-Closed.length c.in-Closed.written = subst (λ (r : TextRead).
+          TextAnswer c.args.doc.now (c.args.c.at + 1) c.read_text.new.pool c.args.c.top r)
+          c.in-Closed.is c.read_text.ensures.read.answer in closed).within,
+      c.requires.0.placed.short,
+    ),
+  ) in small).1,
+)
 
 pub head_word-head-requires : goal.head_word-head-requires
-head_word-head-requires c = omega (arith, (let small : (c.args.c.top < 65536) × (c.in-Closed.length ≤ 65536) × (c.in-Closed.written ≤ 65536) = (
-      c.requires.0.placed.small,
-      omega (arith, (let closed : TextClosed c.args.doc.now (c.args.c.at + 1) c.read_text.new.pool c.args.c.top
-    c.in-Closed.end c.in-Closed.length c.in-Closed.written = subst (λ (r : TextRead).
-    TextAnswer c.args.doc.now (c.args.c.at + 1) c.read_text.new.pool c.args.c.top r)
-    c.in-Closed.is c.read_text.ensures.read.answer in closed).shorter, (let closed : TextClosed c.args.doc.now (c.args.c.at + 1) c.read_text.new.pool c.args.c.top
-    c.in-Closed.end c.in-Closed.length c.in-Closed.written = subst (λ (r : TextRead).
-    TextAnswer c.args.doc.now (c.args.c.at + 1) c.read_text.new.pool c.args.c.top r)
-    c.in-Closed.is c.read_text.ensures.read.answer in closed).within, c.requires.0.placed.short),
-      omega (arith, (let closed : TextClosed c.args.doc.now (c.args.c.at + 1) c.read_text.new.pool c.args.c.top
-    c.in-Closed.end c.in-Closed.length c.in-Closed.written = subst (λ (r : TextRead).
-    TextAnswer c.args.doc.now (c.args.c.at + 1) c.read_text.new.pool c.args.c.top r)
-    c.in-Closed.is c.read_text.ensures.read.answer in closed).bounded, (let closed : TextClosed c.args.doc.now (c.args.c.at + 1) c.read_text.new.pool c.args.c.top
-    c.in-Closed.end c.in-Closed.length c.in-Closed.written = subst (λ (r : TextRead).
-    TextAnswer c.args.doc.now (c.args.c.at + 1) c.read_text.new.pool c.args.c.top r)
-    c.in-Closed.is c.read_text.ensures.read.answer in closed).within, c.requires.0.placed.short),
-    ) in small).2)
+head_word-head-requires c = omega (
+  arith,
+  (let small : (c.args.c.top < 65536) × (c.in-Closed.length ≤ 65536) × (c.in-Closed.written ≤ 65536) = (
+    c.requires.0.placed.small,
+    omega (
+      arith,
+      (let closed : TextClosed c.args.doc.now (c.args.c.at + 1) c.read_text.new.pool c.args.c.top
+          c.in-Closed.end c.in-Closed.length c.in-Closed.written = subst (λ (r : TextRead).
+          TextAnswer c.args.doc.now (c.args.c.at + 1) c.read_text.new.pool c.args.c.top r)
+          c.in-Closed.is c.read_text.ensures.read.answer in closed).shorter,
+      (let closed : TextClosed c.args.doc.now (c.args.c.at + 1) c.read_text.new.pool c.args.c.top
+          c.in-Closed.end c.in-Closed.length c.in-Closed.written = subst (λ (r : TextRead).
+          TextAnswer c.args.doc.now (c.args.c.at + 1) c.read_text.new.pool c.args.c.top r)
+          c.in-Closed.is c.read_text.ensures.read.answer in closed).within,
+      c.requires.0.placed.short,
+    ),
+    omega (
+      arith,
+      (let closed : TextClosed c.args.doc.now (c.args.c.at + 1) c.read_text.new.pool c.args.c.top
+          c.in-Closed.end c.in-Closed.length c.in-Closed.written = subst (λ (r : TextRead).
+          TextAnswer c.args.doc.now (c.args.c.at + 1) c.read_text.new.pool c.args.c.top r)
+          c.in-Closed.is c.read_text.ensures.read.answer in closed).bounded,
+      (let closed : TextClosed c.args.doc.now (c.args.c.at + 1) c.read_text.new.pool c.args.c.top
+          c.in-Closed.end c.in-Closed.length c.in-Closed.written = subst (λ (r : TextRead).
+          TextAnswer c.args.doc.now (c.args.c.at + 1) c.read_text.new.pool c.args.c.top r)
+          c.in-Closed.is c.read_text.ensures.read.answer in closed).within,
+      c.requires.0.placed.short,
+    ),
+  ) in small).2,
+)
 
 pub put_row-requires : goal.put_row-requires
 put_row-requires c =
@@ -90,130 +129,204 @@ overflow_add-to c =
 
 pub overflow_add-to-in-Closed : goal.overflow_add-to-in-Closed
 overflow_add-to-in-Closed c =
-    omega (arith, (let small : (c.args.c.top < 65536) × (c.in-Closed.length ≤ 65536) × (c.in-Closed.written ≤ 65536) = (
-      c.requires.0.placed.small,
-      omega (arith, (let closed : TextClosed c.args.doc.now (c.args.c.at + 1) c.read_text.new.pool c.args.c.top
-    c.in-Closed.end c.in-Closed.length c.in-Closed.written = subst (λ (r : TextRead).
-    TextAnswer c.args.doc.now (c.args.c.at + 1) c.read_text.new.pool c.args.c.top r)
-    c.in-Closed.is c.read_text.ensures.read.answer in closed).shorter, (let closed : TextClosed c.args.doc.now (c.args.c.at + 1) c.read_text.new.pool c.args.c.top
-    c.in-Closed.end c.in-Closed.length c.in-Closed.written = subst (λ (r : TextRead).
-    TextAnswer c.args.doc.now (c.args.c.at + 1) c.read_text.new.pool c.args.c.top r)
-    c.in-Closed.is c.read_text.ensures.read.answer in closed).within, c.requires.0.placed.short),
-      omega (arith, (let closed : TextClosed c.args.doc.now (c.args.c.at + 1) c.read_text.new.pool c.args.c.top
-    c.in-Closed.end c.in-Closed.length c.in-Closed.written = subst (λ (r : TextRead).
-    TextAnswer c.args.doc.now (c.args.c.at + 1) c.read_text.new.pool c.args.c.top r)
-    c.in-Closed.is c.read_text.ensures.read.answer in closed).bounded, (let closed : TextClosed c.args.doc.now (c.args.c.at + 1) c.read_text.new.pool c.args.c.top
-    c.in-Closed.end c.in-Closed.length c.in-Closed.written = subst (λ (r : TextRead).
-    TextAnswer c.args.doc.now (c.args.c.at + 1) c.read_text.new.pool c.args.c.top r)
-    c.in-Closed.is c.read_text.ensures.read.answer in closed).within, c.requires.0.placed.short),
-    ) in small).1)
+    omega (
+      arith,
+      (let small : (c.args.c.top < 65536) × (c.in-Closed.length ≤ 65536) × (c.in-Closed.written ≤ 65536) = (
+        c.requires.0.placed.small,
+        omega (
+          arith,
+          (let closed : TextClosed c.args.doc.now (c.args.c.at + 1) c.read_text.new.pool c.args.c.top
+              c.in-Closed.end c.in-Closed.length c.in-Closed.written = subst (λ (r : TextRead).
+              TextAnswer c.args.doc.now (c.args.c.at + 1) c.read_text.new.pool c.args.c.top r)
+              c.in-Closed.is c.read_text.ensures.read.answer in closed).shorter,
+          (let closed : TextClosed c.args.doc.now (c.args.c.at + 1) c.read_text.new.pool c.args.c.top
+              c.in-Closed.end c.in-Closed.length c.in-Closed.written = subst (λ (r : TextRead).
+              TextAnswer c.args.doc.now (c.args.c.at + 1) c.read_text.new.pool c.args.c.top r)
+              c.in-Closed.is c.read_text.ensures.read.answer in closed).within,
+          c.requires.0.placed.short,
+        ),
+        omega (
+          arith,
+          (let closed : TextClosed c.args.doc.now (c.args.c.at + 1) c.read_text.new.pool c.args.c.top
+              c.in-Closed.end c.in-Closed.length c.in-Closed.written = subst (λ (r : TextRead).
+              TextAnswer c.args.doc.now (c.args.c.at + 1) c.read_text.new.pool c.args.c.top r)
+              c.in-Closed.is c.read_text.ensures.read.answer in closed).bounded,
+          (let closed : TextClosed c.args.doc.now (c.args.c.at + 1) c.read_text.new.pool c.args.c.top
+              c.in-Closed.end c.in-Closed.length c.in-Closed.written = subst (λ (r : TextRead).
+              TextAnswer c.args.doc.now (c.args.c.at + 1) c.read_text.new.pool c.args.c.top r)
+              c.in-Closed.is c.read_text.ensures.read.answer in closed).within,
+          c.requires.0.placed.short,
+        ),
+      ) in small).1,
+    )
 
 pub overflow_add-to-in-Closed-2 : goal.overflow_add-to-in-Closed-2
 overflow_add-to-in-Closed-2 c =
-    omega (arith, (let small : (c.args.c.top < 65536) × (c.in-Closed.length ≤ 65536) × (c.in-Closed.written ≤ 65536) = (
-      c.requires.0.placed.small,
-      omega (arith, (let closed : TextClosed c.args.doc.now (c.args.c.at + 1) c.read_text.new.pool c.args.c.top
-    c.in-Closed.end c.in-Closed.length c.in-Closed.written = subst (λ (r : TextRead).
-    TextAnswer c.args.doc.now (c.args.c.at + 1) c.read_text.new.pool c.args.c.top r)
-    c.in-Closed.is c.read_text.ensures.read.answer in closed).shorter, (let closed : TextClosed c.args.doc.now (c.args.c.at + 1) c.read_text.new.pool c.args.c.top
-    c.in-Closed.end c.in-Closed.length c.in-Closed.written = subst (λ (r : TextRead).
-    TextAnswer c.args.doc.now (c.args.c.at + 1) c.read_text.new.pool c.args.c.top r)
-    c.in-Closed.is c.read_text.ensures.read.answer in closed).within, c.requires.0.placed.short),
-      omega (arith, (let closed : TextClosed c.args.doc.now (c.args.c.at + 1) c.read_text.new.pool c.args.c.top
-    c.in-Closed.end c.in-Closed.length c.in-Closed.written = subst (λ (r : TextRead).
-    TextAnswer c.args.doc.now (c.args.c.at + 1) c.read_text.new.pool c.args.c.top r)
-    c.in-Closed.is c.read_text.ensures.read.answer in closed).bounded, (let closed : TextClosed c.args.doc.now (c.args.c.at + 1) c.read_text.new.pool c.args.c.top
-    c.in-Closed.end c.in-Closed.length c.in-Closed.written = subst (λ (r : TextRead).
-    TextAnswer c.args.doc.now (c.args.c.at + 1) c.read_text.new.pool c.args.c.top r)
-    c.in-Closed.is c.read_text.ensures.read.answer in closed).within, c.requires.0.placed.short),
-    ) in small).0, (let small : (c.args.c.top < 65536) × (c.in-Closed.length ≤ 65536) × (c.in-Closed.written ≤ 65536) = (
-      c.requires.0.placed.small,
-      omega (arith, (let closed : TextClosed c.args.doc.now (c.args.c.at + 1) c.read_text.new.pool c.args.c.top
-    c.in-Closed.end c.in-Closed.length c.in-Closed.written = subst (λ (r : TextRead).
-    TextAnswer c.args.doc.now (c.args.c.at + 1) c.read_text.new.pool c.args.c.top r)
-    c.in-Closed.is c.read_text.ensures.read.answer in closed).shorter, (let closed : TextClosed c.args.doc.now (c.args.c.at + 1) c.read_text.new.pool c.args.c.top
-    c.in-Closed.end c.in-Closed.length c.in-Closed.written = subst (λ (r : TextRead).
-    TextAnswer c.args.doc.now (c.args.c.at + 1) c.read_text.new.pool c.args.c.top r)
-    c.in-Closed.is c.read_text.ensures.read.answer in closed).within, c.requires.0.placed.short),
-      omega (arith, (let closed : TextClosed c.args.doc.now (c.args.c.at + 1) c.read_text.new.pool c.args.c.top
-    c.in-Closed.end c.in-Closed.length c.in-Closed.written = subst (λ (r : TextRead).
-    TextAnswer c.args.doc.now (c.args.c.at + 1) c.read_text.new.pool c.args.c.top r)
-    c.in-Closed.is c.read_text.ensures.read.answer in closed).bounded, (let closed : TextClosed c.args.doc.now (c.args.c.at + 1) c.read_text.new.pool c.args.c.top
-    c.in-Closed.end c.in-Closed.length c.in-Closed.written = subst (λ (r : TextRead).
-    TextAnswer c.args.doc.now (c.args.c.at + 1) c.read_text.new.pool c.args.c.top r)
-    c.in-Closed.is c.read_text.ensures.read.answer in closed).within, c.requires.0.placed.short),
-    ) in small).1)
-
-pub done-requires : goal.done-requires
-done-requires c =
-     (
-      omega (arith, (let closed : TextClosed c.args.doc.now (c.args.c.at + 1) c.read_text.new.pool c.args.c.top
-    c.in-Closed.end c.in-Closed.length c.in-Closed.written = subst (λ (r : TextRead).
-    TextAnswer c.args.doc.now (c.args.c.at + 1) c.read_text.new.pool c.args.c.top r)
-    c.in-Closed.is c.read_text.ensures.read.answer in closed).within, c.requires.0.placed.short),
-      omega (arith, c.requires.0.placed.few, c.requires.0.placed.limit),
-      omega (arith, (let small : (c.args.c.top < 65536) × (c.in-Closed.length ≤ 65536) × (c.in-Closed.written ≤ 65536) = (
-      c.requires.0.placed.small,
-      omega (arith, (let closed : TextClosed c.args.doc.now (c.args.c.at + 1) c.read_text.new.pool c.args.c.top
-    c.in-Closed.end c.in-Closed.length c.in-Closed.written = subst (λ (r : TextRead).
-    TextAnswer c.args.doc.now (c.args.c.at + 1) c.read_text.new.pool c.args.c.top r)
-    c.in-Closed.is c.read_text.ensures.read.answer in closed).shorter, (let closed : TextClosed c.args.doc.now (c.args.c.at + 1) c.read_text.new.pool c.args.c.top
-    c.in-Closed.end c.in-Closed.length c.in-Closed.written = subst (λ (r : TextRead).
-    TextAnswer c.args.doc.now (c.args.c.at + 1) c.read_text.new.pool c.args.c.top r)
-    c.in-Closed.is c.read_text.ensures.read.answer in closed).within, c.requires.0.placed.short),
-      omega (arith, (let closed : TextClosed c.args.doc.now (c.args.c.at + 1) c.read_text.new.pool c.args.c.top
-    c.in-Closed.end c.in-Closed.length c.in-Closed.written = subst (λ (r : TextRead).
-    TextAnswer c.args.doc.now (c.args.c.at + 1) c.read_text.new.pool c.args.c.top r)
-    c.in-Closed.is c.read_text.ensures.read.answer in closed).bounded, (let closed : TextClosed c.args.doc.now (c.args.c.at + 1) c.read_text.new.pool c.args.c.top
-    c.in-Closed.end c.in-Closed.length c.in-Closed.written = subst (λ (r : TextRead).
-    TextAnswer c.args.doc.now (c.args.c.at + 1) c.read_text.new.pool c.args.c.top r)
-    c.in-Closed.is c.read_text.ensures.read.answer in closed).within, c.requires.0.placed.short),
-    ) in small).0, (let small : (c.args.c.top < 65536) × (c.in-Closed.length ≤ 65536) × (c.in-Closed.written ≤ 65536) = (
-      c.requires.0.placed.small,
-      omega (arith, (let closed : TextClosed c.args.doc.now (c.args.c.at + 1) c.read_text.new.pool c.args.c.top
-    c.in-Closed.end c.in-Closed.length c.in-Closed.written = subst (λ (r : TextRead).
-    TextAnswer c.args.doc.now (c.args.c.at + 1) c.read_text.new.pool c.args.c.top r)
-    c.in-Closed.is c.read_text.ensures.read.answer in closed).shorter, (let closed : TextClosed c.args.doc.now (c.args.c.at + 1) c.read_text.new.pool c.args.c.top
-    c.in-Closed.end c.in-Closed.length c.in-Closed.written = subst (λ (r : TextRead).
-    TextAnswer c.args.doc.now (c.args.c.at + 1) c.read_text.new.pool c.args.c.top r)
-    c.in-Closed.is c.read_text.ensures.read.answer in closed).within, c.requires.0.placed.short),
-      omega (arith, (let closed : TextClosed c.args.doc.now (c.args.c.at + 1) c.read_text.new.pool c.args.c.top
-    c.in-Closed.end c.in-Closed.length c.in-Closed.written = subst (λ (r : TextRead).
-    TextAnswer c.args.doc.now (c.args.c.at + 1) c.read_text.new.pool c.args.c.top r)
-    c.in-Closed.is c.read_text.ensures.read.answer in closed).bounded, (let closed : TextClosed c.args.doc.now (c.args.c.at + 1) c.read_text.new.pool c.args.c.top
-    c.in-Closed.end c.in-Closed.length c.in-Closed.written = subst (λ (r : TextRead).
-    TextAnswer c.args.doc.now (c.args.c.at + 1) c.read_text.new.pool c.args.c.top r)
-    c.in-Closed.is c.read_text.ensures.read.answer in closed).within, c.requires.0.placed.short),
-    ) in small).1),
+    omega (
+      arith,
+      (let small : (c.args.c.top < 65536) × (c.in-Closed.length ≤ 65536) × (c.in-Closed.written ≤ 65536) = (
+        c.requires.0.placed.small,
+        omega (
+          arith,
+          (let closed : TextClosed c.args.doc.now (c.args.c.at + 1) c.read_text.new.pool c.args.c.top
+              c.in-Closed.end c.in-Closed.length c.in-Closed.written = subst (λ (r : TextRead).
+              TextAnswer c.args.doc.now (c.args.c.at + 1) c.read_text.new.pool c.args.c.top r)
+              c.in-Closed.is c.read_text.ensures.read.answer in closed).shorter,
+          (let closed : TextClosed c.args.doc.now (c.args.c.at + 1) c.read_text.new.pool c.args.c.top
+              c.in-Closed.end c.in-Closed.length c.in-Closed.written = subst (λ (r : TextRead).
+              TextAnswer c.args.doc.now (c.args.c.at + 1) c.read_text.new.pool c.args.c.top r)
+              c.in-Closed.is c.read_text.ensures.read.answer in closed).within,
+          c.requires.0.placed.short,
+        ),
+        omega (
+          arith,
+          (let closed : TextClosed c.args.doc.now (c.args.c.at + 1) c.read_text.new.pool c.args.c.top
+              c.in-Closed.end c.in-Closed.length c.in-Closed.written = subst (λ (r : TextRead).
+              TextAnswer c.args.doc.now (c.args.c.at + 1) c.read_text.new.pool c.args.c.top r)
+              c.in-Closed.is c.read_text.ensures.read.answer in closed).bounded,
+          (let closed : TextClosed c.args.doc.now (c.args.c.at + 1) c.read_text.new.pool c.args.c.top
+              c.in-Closed.end c.in-Closed.length c.in-Closed.written = subst (λ (r : TextRead).
+              TextAnswer c.args.doc.now (c.args.c.at + 1) c.read_text.new.pool c.args.c.top r)
+              c.in-Closed.is c.read_text.ensures.read.answer in closed).within,
+          c.requires.0.placed.short,
+        ),
+      ) in small).0,
+      (let small : (c.args.c.top < 65536) × (c.in-Closed.length ≤ 65536) × (c.in-Closed.written ≤ 65536) = (
+        c.requires.0.placed.small,
+        omega (
+          arith,
+          (let closed : TextClosed c.args.doc.now (c.args.c.at + 1) c.read_text.new.pool c.args.c.top
+              c.in-Closed.end c.in-Closed.length c.in-Closed.written = subst (λ (r : TextRead).
+              TextAnswer c.args.doc.now (c.args.c.at + 1) c.read_text.new.pool c.args.c.top r)
+              c.in-Closed.is c.read_text.ensures.read.answer in closed).shorter,
+          (let closed : TextClosed c.args.doc.now (c.args.c.at + 1) c.read_text.new.pool c.args.c.top
+              c.in-Closed.end c.in-Closed.length c.in-Closed.written = subst (λ (r : TextRead).
+              TextAnswer c.args.doc.now (c.args.c.at + 1) c.read_text.new.pool c.args.c.top r)
+              c.in-Closed.is c.read_text.ensures.read.answer in closed).within,
+          c.requires.0.placed.short,
+        ),
+        omega (
+          arith,
+          (let closed : TextClosed c.args.doc.now (c.args.c.at + 1) c.read_text.new.pool c.args.c.top
+              c.in-Closed.end c.in-Closed.length c.in-Closed.written = subst (λ (r : TextRead).
+              TextAnswer c.args.doc.now (c.args.c.at + 1) c.read_text.new.pool c.args.c.top r)
+              c.in-Closed.is c.read_text.ensures.read.answer in closed).bounded,
+          (let closed : TextClosed c.args.doc.now (c.args.c.at + 1) c.read_text.new.pool c.args.c.top
+              c.in-Closed.end c.in-Closed.length c.in-Closed.written = subst (λ (r : TextRead).
+              TextAnswer c.args.doc.now (c.args.c.at + 1) c.read_text.new.pool c.args.c.top r)
+              c.in-Closed.is c.read_text.ensures.read.answer in closed).within,
+          c.requires.0.placed.short,
+        ),
+      ) in small).1,
     )
 
+pub done-requires : goal.done-requires
+done-requires c = (
+  omega (
+    arith,
+    (let closed : TextClosed c.args.doc.now (c.args.c.at + 1) c.read_text.new.pool c.args.c.top
+        c.in-Closed.end c.in-Closed.length c.in-Closed.written = subst (λ (r : TextRead).
+        TextAnswer c.args.doc.now (c.args.c.at + 1) c.read_text.new.pool c.args.c.top r)
+        c.in-Closed.is c.read_text.ensures.read.answer in closed).within,
+    c.requires.0.placed.short,
+  ),
+  omega (arith, c.requires.0.placed.few, c.requires.0.placed.limit),
+  omega (
+    arith,
+    (let small : (c.args.c.top < 65536) × (c.in-Closed.length ≤ 65536) × (c.in-Closed.written ≤ 65536) = (
+      c.requires.0.placed.small,
+      omega (
+        arith,
+        (let closed : TextClosed c.args.doc.now (c.args.c.at + 1) c.read_text.new.pool c.args.c.top
+            c.in-Closed.end c.in-Closed.length c.in-Closed.written = subst (λ (r : TextRead).
+            TextAnswer c.args.doc.now (c.args.c.at + 1) c.read_text.new.pool c.args.c.top r)
+            c.in-Closed.is c.read_text.ensures.read.answer in closed).shorter,
+        (let closed : TextClosed c.args.doc.now (c.args.c.at + 1) c.read_text.new.pool c.args.c.top
+            c.in-Closed.end c.in-Closed.length c.in-Closed.written = subst (λ (r : TextRead).
+            TextAnswer c.args.doc.now (c.args.c.at + 1) c.read_text.new.pool c.args.c.top r)
+            c.in-Closed.is c.read_text.ensures.read.answer in closed).within,
+        c.requires.0.placed.short,
+      ),
+      omega (
+        arith,
+        (let closed : TextClosed c.args.doc.now (c.args.c.at + 1) c.read_text.new.pool c.args.c.top
+            c.in-Closed.end c.in-Closed.length c.in-Closed.written = subst (λ (r : TextRead).
+            TextAnswer c.args.doc.now (c.args.c.at + 1) c.read_text.new.pool c.args.c.top r)
+            c.in-Closed.is c.read_text.ensures.read.answer in closed).bounded,
+        (let closed : TextClosed c.args.doc.now (c.args.c.at + 1) c.read_text.new.pool c.args.c.top
+            c.in-Closed.end c.in-Closed.length c.in-Closed.written = subst (λ (r : TextRead).
+            TextAnswer c.args.doc.now (c.args.c.at + 1) c.read_text.new.pool c.args.c.top r)
+            c.in-Closed.is c.read_text.ensures.read.answer in closed).within,
+        c.requires.0.placed.short,
+      ),
+    ) in small).0,
+    (let small : (c.args.c.top < 65536) × (c.in-Closed.length ≤ 65536) × (c.in-Closed.written ≤ 65536) = (
+      c.requires.0.placed.small,
+      omega (
+        arith,
+        (let closed : TextClosed c.args.doc.now (c.args.c.at + 1) c.read_text.new.pool c.args.c.top
+            c.in-Closed.end c.in-Closed.length c.in-Closed.written = subst (λ (r : TextRead).
+            TextAnswer c.args.doc.now (c.args.c.at + 1) c.read_text.new.pool c.args.c.top r)
+            c.in-Closed.is c.read_text.ensures.read.answer in closed).shorter,
+        (let closed : TextClosed c.args.doc.now (c.args.c.at + 1) c.read_text.new.pool c.args.c.top
+            c.in-Closed.end c.in-Closed.length c.in-Closed.written = subst (λ (r : TextRead).
+            TextAnswer c.args.doc.now (c.args.c.at + 1) c.read_text.new.pool c.args.c.top r)
+            c.in-Closed.is c.read_text.ensures.read.answer in closed).within,
+        c.requires.0.placed.short,
+      ),
+      omega (
+        arith,
+        (let closed : TextClosed c.args.doc.now (c.args.c.at + 1) c.read_text.new.pool c.args.c.top
+            c.in-Closed.end c.in-Closed.length c.in-Closed.written = subst (λ (r : TextRead).
+            TextAnswer c.args.doc.now (c.args.c.at + 1) c.read_text.new.pool c.args.c.top r)
+            c.in-Closed.is c.read_text.ensures.read.answer in closed).bounded,
+        (let closed : TextClosed c.args.doc.now (c.args.c.at + 1) c.read_text.new.pool c.args.c.top
+            c.in-Closed.end c.in-Closed.length c.in-Closed.written = subst (λ (r : TextRead).
+            TextAnswer c.args.doc.now (c.args.c.at + 1) c.read_text.new.pool c.args.c.top r)
+            c.in-Closed.is c.read_text.ensures.read.answer in closed).within,
+        c.requires.0.placed.short,
+      ),
+    ) in small).1,
+  ),
+)
+
 pub refused-requires-in-Broken : goal.refused-requires-in-Broken
-refused-requires-in-Broken c =
-    (omega arith, omega (arith, (let broken : TextBroken c.args.doc.now (c.args.c.at + 1) c.in-Broken.place = subst (λ (r : TextRead).
-    TextAnswer c.args.doc.now (c.args.c.at + 1) c.read_text.new.pool c.args.c.top r)
-    c.in-Broken.is c.read_text.ensures.read.answer in broken).within, c.requires.0.placed.short))
+refused-requires-in-Broken c = (
+  omega arith,
+  omega (
+    arith,
+    (let broken : TextBroken c.args.doc.now (c.args.c.at + 1) c.in-Broken.place = subst (λ (r : TextRead).
+        TextAnswer c.args.doc.now (c.args.c.at + 1) c.read_text.new.pool c.args.c.top r)
+        c.in-Broken.is c.read_text.ensures.read.answer in broken).within,
+    c.requires.0.placed.short,
+  ),
+)
 
 pub returns-in-Closed : goal.returns-in-Closed
 returns-in-Closed c =
-    record { read = as_word c.done.ensures.packed
-    (text_read c.args.c c.requires.0 c.requires.1 c.read_text.ensures.read.kept
-    c.read_text.ensures.read.front
-    (subst (λ (b : Bool). JudgesFull c.args.values c.args.left c.args.c.begun b)
-    c.if-is_full.false c.is_full.ensures.judged)
-    (let closed : TextClosed c.args.doc.now (c.args.c.at + 1) c.read_text.new.pool c.args.c.top
-    c.in-Closed.end c.in-Closed.length c.in-Closed.written = subst (λ (r : TextRead).
-    TextAnswer c.args.doc.now (c.args.c.at + 1) c.read_text.new.pool c.args.c.top r)
-    c.in-Closed.is c.read_text.ensures.read.answer in closed)
-    (c.put_row.ensures.put
-    ∙ ap₂ (λ (h x : ℕ). with_row c.args.nodes.now c.args.c.begun h x c.args.name)
-    c.head_word-head.ensures.made c.text_reference-reference.ensures.made)) }
+    record {
+      read = as_word c.done.ensures.packed
+          (text_read c.args.c c.requires.0 c.requires.1 c.read_text.ensures.read.kept
+          c.read_text.ensures.read.front
+          (subst (λ (b : Bool). JudgesFull c.args.values c.args.left c.args.c.begun b)
+          c.if-is_full.false c.is_full.ensures.judged)
+          (let closed : TextClosed c.args.doc.now (c.args.c.at + 1) c.read_text.new.pool c.args.c.top
+          c.in-Closed.end c.in-Closed.length c.in-Closed.written = subst (λ (r : TextRead).
+          TextAnswer c.args.doc.now (c.args.c.at + 1) c.read_text.new.pool c.args.c.top r)
+          c.in-Closed.is c.read_text.ensures.read.answer in closed)
+          (c.put_row.ensures.put
+          ∙ ap₂ (λ (h x : ℕ). with_row c.args.nodes.now c.args.c.begun h x c.args.name)
+          c.head_word-head.ensures.made c.text_reference-reference.ensures.made));
+    }
 
 pub returns-in-Broken : goal.returns-in-Broken
 returns-in-Broken c =
-    record { read = as_word c.refused-in-Broken.ensures.packed
-    (text_broken c.args.c c.requires.0 c.requires.1 c.read_text.ensures.read.kept
-    (subst (λ (b : Bool). JudgesFull c.args.values c.args.left c.args.c.begun b)
-    c.if-is_full.false c.is_full.ensures.judged)
-    (let broken : TextBroken c.args.doc.now (c.args.c.at + 1) c.in-Broken.place = subst (λ (r : TextRead).
-    TextAnswer c.args.doc.now (c.args.c.at + 1) c.read_text.new.pool c.args.c.top r)
-    c.in-Broken.is c.read_text.ensures.read.answer in broken)) }
+    record {
+      read = as_word c.refused-in-Broken.ensures.packed
+          (text_broken c.args.c c.requires.0 c.requires.1 c.read_text.ensures.read.kept
+          (subst (λ (b : Bool). JudgesFull c.args.values c.args.left c.args.c.begun b)
+          c.if-is_full.false c.is_full.ensures.judged)
+          (let broken : TextBroken c.args.doc.now (c.args.c.at + 1) c.in-Broken.place = subst (λ (r : TextRead).
+          TextAnswer c.args.doc.now (c.args.c.at + 1) c.read_text.new.pool c.args.c.top r)
+          c.in-Broken.is c.read_text.ensures.read.answer in broken));
+    }

@@ -29,87 +29,131 @@ read_list-loop-turn-init t c =
 
 pub read_list-read_value-r-requires : goal.read_list-read_value-r-requires
 read_list-read_value-r-requires t c =
-    let list_open : (ns ps : List ℕ) →    TurnAnswer square 0 c.args.left c.args.values c.args.doc.now ns ps c.first_part-turn.new.nodes c.args.pool.now c.args.name c.args.c c.first_part-turn.result → OpenParts square 0 (next_of square) 1 c.args.left c.args.values c.args.doc.now ns ps c.loop-turn.nodes c.loop-turn.pool c.args.c c.in-More.from c.in-More.written = λ ns ps h. subst (λ (u : Turn).
+    let list_open : (ns ps : List ℕ)
+    → TurnAnswer square 0 c.args.left c.args.values c.args.doc.now ns ps c.first_part-turn.new.nodes c.args.pool.now c.args.name c.args.c
+    c.first_part-turn.result
+    → OpenParts square 0 (next_of square) 1 c.args.left c.args.values c.args.doc.now ns ps c.loop-turn.nodes c.loop-turn.pool c.args.c c.in-More.from
+    c.in-More.written = λ ns ps h. subst (λ (u : Turn).
     TurnAnswer square 0 c.args.left c.args.values c.args.doc.now ns ps c.loop-turn.nodes c.loop-turn.pool
     c.args.name c.args.c u)
     c.in-More.is
     (c.loop-turn.invariant ns ps h) in
-    let list_here : OpenParts square 0 (next_of square) 1 c.args.left c.args.values c.args.doc.now c.args.nodes.now c.args.pool.now c.loop-turn.nodes c.loop-turn.pool c.args.c c.in-More.from c.in-More.written = list_open c.args.nodes.now c.args.pool.now
-    (c.first_part-turn.ensures.entered square refl refl 0 c.args.left c.args.pool.now) in
-    (
+    let list_here : OpenParts square 0 (next_of square) 1 c.args.left c.args.values c.args.doc.now c.args.nodes.now c.args.pool.now c.loop-turn.nodes
+    c.loop-turn.pool c.args.c c.in-More.from c.in-More.written = list_open c.args.nodes.now c.args.pool.now
+    (c.first_part-turn.ensures.entered square refl refl 0 c.args.left c.args.pool.now) in (
       omega (arith, c.decreases),
       part_ready square c.args.c c.in-More.from c.requires.0 list_here,
     )
 
 pub read_list-returns-in_default : goal.read_list-returns-in_default
 read_list-returns-in_default t c =
-    let list_open : (ns ps : List ℕ) →    TurnAnswer square 0 c.args.left c.args.values c.args.doc.now ns ps c.first_part-turn.new.nodes c.args.pool.now c.args.name c.args.c c.first_part-turn.result → OpenParts square 0 (next_of square) 1 c.args.left c.args.values c.args.doc.now ns ps c.loop-turn.nodes c.loop-turn.pool c.args.c c.in-More.from c.in-More.written = λ ns ps h. subst (λ (u : Turn).
+    let list_open : (ns ps : List ℕ)
+    → TurnAnswer square 0 c.args.left c.args.values c.args.doc.now ns ps c.first_part-turn.new.nodes c.args.pool.now c.args.name c.args.c
+    c.first_part-turn.result
+    → OpenParts square 0 (next_of square) 1 c.args.left c.args.values c.args.doc.now ns ps c.loop-turn.nodes c.loop-turn.pool c.args.c c.in-More.from
+    c.in-More.written = λ ns ps h. subst (λ (u : Turn).
     TurnAnswer square 0 c.args.left c.args.values c.args.doc.now ns ps c.loop-turn.nodes c.loop-turn.pool
     c.args.name c.args.c u)
     c.in-More.is
     (c.loop-turn.invariant ns ps h) in
-    let list_here : OpenParts square 0 (next_of square) 1 c.args.left c.args.values c.args.doc.now c.args.nodes.now c.args.pool.now c.loop-turn.nodes c.loop-turn.pool c.args.c c.in-More.from c.in-More.written = list_open c.args.nodes.now c.args.pool.now
+    let list_here : OpenParts square 0 (next_of square) 1 c.args.left c.args.values c.args.doc.now c.args.nodes.now c.args.pool.now c.loop-turn.nodes
+    c.loop-turn.pool c.args.c c.in-More.from c.in-More.written = list_open c.args.nodes.now c.args.pool.now
     (c.first_part-turn.ensures.entered square refl refl 0 c.args.left c.args.pool.now) in
-    let list_used : c.in-More.from.top ≤ length c.loop-turn.pool = used_within c.in-More.from (part_ready square c.args.c c.in-More.from c.requires.0 list_here) in
-    record { read = element_refused c.args.c c.in-More.from list_used list_here
-    (sym c.opened.ensures.told ∙ c.in_default.is)
-    c.read_value-r.ensures.read }
+    let list_used : c.in-More.from.top ≤ length c.loop-turn.pool =
+    used_within c.in-More.from (part_ready square c.args.c c.in-More.from c.requires.0 list_here) in
+    record {
+      read = element_refused c.args.c c.in-More.from list_used list_here
+          (sym c.opened.ensures.told ∙ c.in_default.is)
+          c.read_value-r.ensures.read;
+    }
 
 pub read_list-overflow_mul-from : goal.read_list-overflow_mul-from
 read_list-overflow_mul-from t c =
-    let list_open : (ns ps : List ℕ) →    TurnAnswer square 0 c.args.left c.args.values c.args.doc.now ns ps c.first_part-turn.new.nodes c.args.pool.now c.args.name c.args.c c.first_part-turn.result → OpenParts square 0 (next_of square) 1 c.args.left c.args.values c.args.doc.now ns ps c.loop-turn.nodes c.loop-turn.pool c.args.c c.in-More.from c.in-More.written = λ ns ps h. subst (λ (u : Turn).
+    let list_open : (ns ps : List ℕ)
+    → TurnAnswer square 0 c.args.left c.args.values c.args.doc.now ns ps c.first_part-turn.new.nodes c.args.pool.now c.args.name c.args.c
+    c.first_part-turn.result
+    → OpenParts square 0 (next_of square) 1 c.args.left c.args.values c.args.doc.now ns ps c.loop-turn.nodes c.loop-turn.pool c.args.c c.in-More.from
+    c.in-More.written = λ ns ps h. subst (λ (u : Turn).
     TurnAnswer square 0 c.args.left c.args.values c.args.doc.now ns ps c.loop-turn.nodes c.loop-turn.pool
     c.args.name c.args.c u)
     c.in-More.is
     (c.loop-turn.invariant ns ps h) in
-    let list_here : OpenParts square 0 (next_of square) 1 c.args.left c.args.values c.args.doc.now c.args.nodes.now c.args.pool.now c.loop-turn.nodes c.loop-turn.pool c.args.c c.in-More.from c.in-More.written = list_open c.args.nodes.now c.args.pool.now
+    let list_here : OpenParts square 0 (next_of square) 1 c.args.left c.args.values c.args.doc.now c.args.nodes.now c.args.pool.now c.loop-turn.nodes
+    c.loop-turn.pool c.args.c c.in-More.from c.in-More.written = list_open c.args.nodes.now c.args.pool.now
     (c.first_part-turn.ensures.entered square refl refl 0 c.args.left c.args.pool.now) in
     omega (arith, list_here.moves.limit, c.requires.0.placed.few)
 
 pub read_list-overflow_add-total : goal.read_list-overflow_add-total
 read_list-overflow_add-total t c =
-    let list_open : (ns ps : List ℕ) →    TurnAnswer square 0 c.args.left c.args.values c.args.doc.now ns ps c.first_part-turn.new.nodes c.args.pool.now c.args.name c.args.c c.first_part-turn.result → OpenParts square 0 (next_of square) 1 c.args.left c.args.values c.args.doc.now ns ps c.loop-turn.nodes c.loop-turn.pool c.args.c c.in-More.from c.in-More.written = λ ns ps h. subst (λ (u : Turn).
+    let list_open : (ns ps : List ℕ)
+    → TurnAnswer square 0 c.args.left c.args.values c.args.doc.now ns ps c.first_part-turn.new.nodes c.args.pool.now c.args.name c.args.c
+    c.first_part-turn.result
+    → OpenParts square 0 (next_of square) 1 c.args.left c.args.values c.args.doc.now ns ps c.loop-turn.nodes c.loop-turn.pool c.args.c c.in-More.from
+    c.in-More.written = λ ns ps h. subst (λ (u : Turn).
     TurnAnswer square 0 c.args.left c.args.values c.args.doc.now ns ps c.loop-turn.nodes c.loop-turn.pool
     c.args.name c.args.c u)
     c.in-More.is
     (c.loop-turn.invariant ns ps h) in
-    let list_here : OpenParts square 0 (next_of square) 1 c.args.left c.args.values c.args.doc.now c.args.nodes.now c.args.pool.now c.loop-turn.nodes c.loop-turn.pool c.args.c c.in-More.from c.in-More.written = list_open c.args.nodes.now c.args.pool.now
+    let list_here : OpenParts square 0 (next_of square) 1 c.args.left c.args.values c.args.doc.now c.args.nodes.now c.args.pool.now c.loop-turn.nodes
+    c.loop-turn.pool c.args.c c.in-More.from c.in-More.written = list_open c.args.nodes.now c.args.pool.now
     (c.first_part-turn.ensures.entered square refl refl 0 c.args.left c.args.pool.now) in
-    let list_used : c.in-More.from.top ≤ length c.loop-turn.pool = used_within c.in-More.from (part_ready square c.args.c c.in-More.from c.requires.0 list_here) in
-    let list_read : Reads Gap.value c.in-More.from.begun c.args.left c.args.values c.args.doc.now c.loop-turn.nodes c.loop-turn.pool c.read_value-r.new.nodes c.read_value-r.new.pool 0 c.in-More.from (Done c.in-Done.to) = as_word (sym c.in-Done.is ∙ c.opened.ensures.told) c.read_value-r.ensures.read in
-    let list_behind : OpenParts square 0 (behind_of square) 0 c.args.left c.args.values c.args.doc.now c.args.nodes.now c.args.pool.now c.read_value-r.new.nodes c.read_value-r.new.pool c.args.c c.in-Done.to (c.in-More.written + c.row_written-length.result + 1) = element_read c.args.c c.in-More.from list_used list_here
+    let list_used : c.in-More.from.top ≤ length c.loop-turn.pool =
+    used_within c.in-More.from (part_ready square c.args.c c.in-More.from c.requires.0 list_here) in
+    let list_read : Reads Gap.value c.in-More.from.begun c.args.left c.args.values c.args.doc.now c.loop-turn.nodes c.loop-turn.pool c.read_value-r.new.nodes
+    c.read_value-r.new.pool 0 c.in-More.from (Done c.in-Done.to) = as_word (sym c.in-Done.is ∙ c.opened.ensures.told) c.read_value-r.ensures.read in
+    let list_behind : OpenParts square 0
+    (behind_of square) 0 c.args.left c.args.values c.args.doc.now c.args.nodes.now c.args.pool.now c.read_value-r.new.nodes c.read_value-r.new.pool
+    c.args.c c.in-Done.to (c.in-More.written + c.row_written-length.result + 1) = element_read c.args.c c.in-More.from list_used list_here
     list_read c.row_written-length.ensures.read in
     let list_small : c.in-More.written + c.row_written-length.result + 1 ≤ 2 ^ 40 = total_small square c.args.c c.in-Done.to c.requires.0 list_behind in
     omega (arith, list_small)
 
 pub read_list-overflow_add-total-in-More : goal.read_list-overflow_add-total-in-More
 read_list-overflow_add-total-in-More t c =
-    let list_open : (ns ps : List ℕ) →    TurnAnswer square 0 c.args.left c.args.values c.args.doc.now ns ps c.first_part-turn.new.nodes c.args.pool.now c.args.name c.args.c c.first_part-turn.result → OpenParts square 0 (next_of square) 1 c.args.left c.args.values c.args.doc.now ns ps c.loop-turn.nodes c.loop-turn.pool c.args.c c.in-More.from c.in-More.written = λ ns ps h. subst (λ (u : Turn).
+    let list_open : (ns ps : List ℕ)
+    → TurnAnswer square 0 c.args.left c.args.values c.args.doc.now ns ps c.first_part-turn.new.nodes c.args.pool.now c.args.name c.args.c
+    c.first_part-turn.result
+    → OpenParts square 0 (next_of square) 1 c.args.left c.args.values c.args.doc.now ns ps c.loop-turn.nodes c.loop-turn.pool c.args.c c.in-More.from
+    c.in-More.written = λ ns ps h. subst (λ (u : Turn).
     TurnAnswer square 0 c.args.left c.args.values c.args.doc.now ns ps c.loop-turn.nodes c.loop-turn.pool
     c.args.name c.args.c u)
     c.in-More.is
     (c.loop-turn.invariant ns ps h) in
-    let list_here : OpenParts square 0 (next_of square) 1 c.args.left c.args.values c.args.doc.now c.args.nodes.now c.args.pool.now c.loop-turn.nodes c.loop-turn.pool c.args.c c.in-More.from c.in-More.written = list_open c.args.nodes.now c.args.pool.now
+    let list_here : OpenParts square 0 (next_of square) 1 c.args.left c.args.values c.args.doc.now c.args.nodes.now c.args.pool.now c.loop-turn.nodes
+    c.loop-turn.pool c.args.c c.in-More.from c.in-More.written = list_open c.args.nodes.now c.args.pool.now
     (c.first_part-turn.ensures.entered square refl refl 0 c.args.left c.args.pool.now) in
-    let list_used : c.in-More.from.top ≤ length c.loop-turn.pool = used_within c.in-More.from (part_ready square c.args.c c.in-More.from c.requires.0 list_here) in
-    let list_read : Reads Gap.value c.in-More.from.begun c.args.left c.args.values c.args.doc.now c.loop-turn.nodes c.loop-turn.pool c.read_value-r.new.nodes c.read_value-r.new.pool 0 c.in-More.from (Done c.in-Done.to) = as_word (sym c.in-Done.is ∙ c.opened.ensures.told) c.read_value-r.ensures.read in
-    let list_behind : OpenParts square 0 (behind_of square) 0 c.args.left c.args.values c.args.doc.now c.args.nodes.now c.args.pool.now c.read_value-r.new.nodes c.read_value-r.new.pool c.args.c c.in-Done.to (c.in-More.written + c.row_written-length.result + 1) = element_read c.args.c c.in-More.from list_used list_here
+    let list_used : c.in-More.from.top ≤ length c.loop-turn.pool =
+    used_within c.in-More.from (part_ready square c.args.c c.in-More.from c.requires.0 list_here) in
+    let list_read : Reads Gap.value c.in-More.from.begun c.args.left c.args.values c.args.doc.now c.loop-turn.nodes c.loop-turn.pool c.read_value-r.new.nodes
+    c.read_value-r.new.pool 0 c.in-More.from (Done c.in-Done.to) = as_word (sym c.in-Done.is ∙ c.opened.ensures.told) c.read_value-r.ensures.read in
+    let list_behind : OpenParts square 0
+    (behind_of square) 0 c.args.left c.args.values c.args.doc.now c.args.nodes.now c.args.pool.now c.read_value-r.new.nodes c.read_value-r.new.pool
+    c.args.c c.in-Done.to (c.in-More.written + c.row_written-length.result + 1) = element_read c.args.c c.in-More.from list_used list_here
     list_read c.row_written-length.ensures.read in
     let list_small : c.in-More.written + c.row_written-length.result + 1 ≤ 2 ^ 40 = total_small square c.args.c c.in-Done.to c.requires.0 list_behind in
     omega (arith, list_small)
 
 pub read_list-next_part-turn-requires : goal.read_list-next_part-turn-requires
 read_list-next_part-turn-requires t c =
-    let list_open : (ns ps : List ℕ) →    TurnAnswer square 0 c.args.left c.args.values c.args.doc.now ns ps c.first_part-turn.new.nodes c.args.pool.now c.args.name c.args.c c.first_part-turn.result → OpenParts square 0 (next_of square) 1 c.args.left c.args.values c.args.doc.now ns ps c.loop-turn.nodes c.loop-turn.pool c.args.c c.in-More.from c.in-More.written = λ ns ps h. subst (λ (u : Turn).
+    let list_open : (ns ps : List ℕ)
+    → TurnAnswer square 0 c.args.left c.args.values c.args.doc.now ns ps c.first_part-turn.new.nodes c.args.pool.now c.args.name c.args.c
+    c.first_part-turn.result
+    → OpenParts square 0 (next_of square) 1 c.args.left c.args.values c.args.doc.now ns ps c.loop-turn.nodes c.loop-turn.pool c.args.c c.in-More.from
+    c.in-More.written = λ ns ps h. subst (λ (u : Turn).
     TurnAnswer square 0 c.args.left c.args.values c.args.doc.now ns ps c.loop-turn.nodes c.loop-turn.pool
     c.args.name c.args.c u)
     c.in-More.is
     (c.loop-turn.invariant ns ps h) in
-    let list_here : OpenParts square 0 (next_of square) 1 c.args.left c.args.values c.args.doc.now c.args.nodes.now c.args.pool.now c.loop-turn.nodes c.loop-turn.pool c.args.c c.in-More.from c.in-More.written = list_open c.args.nodes.now c.args.pool.now
+    let list_here : OpenParts square 0 (next_of square) 1 c.args.left c.args.values c.args.doc.now c.args.nodes.now c.args.pool.now c.loop-turn.nodes
+    c.loop-turn.pool c.args.c c.in-More.from c.in-More.written = list_open c.args.nodes.now c.args.pool.now
     (c.first_part-turn.ensures.entered square refl refl 0 c.args.left c.args.pool.now) in
-    let list_used : c.in-More.from.top ≤ length c.loop-turn.pool = used_within c.in-More.from (part_ready square c.args.c c.in-More.from c.requires.0 list_here) in
-    let list_read : Reads Gap.value c.in-More.from.begun c.args.left c.args.values c.args.doc.now c.loop-turn.nodes c.loop-turn.pool c.read_value-r.new.nodes c.read_value-r.new.pool 0 c.in-More.from (Done c.in-Done.to) = as_word (sym c.in-Done.is ∙ c.opened.ensures.told) c.read_value-r.ensures.read in
-    let list_behind : OpenParts square 0 (behind_of square) 0 c.args.left c.args.values c.args.doc.now c.args.nodes.now c.args.pool.now c.read_value-r.new.nodes c.read_value-r.new.pool c.args.c c.in-Done.to (c.in-More.written + c.row_written-length.result + 1) = element_read c.args.c c.in-More.from list_used list_here
+    let list_used : c.in-More.from.top ≤ length c.loop-turn.pool =
+    used_within c.in-More.from (part_ready square c.args.c c.in-More.from c.requires.0 list_here) in
+    let list_read : Reads Gap.value c.in-More.from.begun c.args.left c.args.values c.args.doc.now c.loop-turn.nodes c.loop-turn.pool c.read_value-r.new.nodes
+    c.read_value-r.new.pool 0 c.in-More.from (Done c.in-Done.to) = as_word (sym c.in-Done.is ∙ c.opened.ensures.told) c.read_value-r.ensures.read in
+    let list_behind : OpenParts square 0
+    (behind_of square) 0 c.args.left c.args.values c.args.doc.now c.args.nodes.now c.args.pool.now c.read_value-r.new.nodes c.read_value-r.new.pool
+    c.args.c c.in-Done.to (c.in-More.written + c.row_written-length.result + 1) = element_read c.args.c c.in-More.from list_used list_here
     list_read c.row_written-length.ensures.read in
     behind_ready square c.args.c c.in-More.from c.in-Done.to c.requires.0
     (omega arith) (omega arith)
@@ -119,7 +163,8 @@ read_list-next_part-turn-requires t c =
 
 pub read_list-loop-turn-smaller : goal.read_list-loop-turn-smaller
 read_list-loop-turn-smaller t c =
-    let list_read : Reads Gap.value c.in-More.from.begun c.args.left c.args.values c.args.doc.now c.loop-turn.nodes c.loop-turn.pool c.read_value-r.new.nodes c.read_value-r.new.pool 0 c.in-More.from (Done c.in-Done.to) = as_word (sym c.in-Done.is ∙ c.opened.ensures.told) c.read_value-r.ensures.read in
+    let list_read : Reads Gap.value c.in-More.from.begun c.args.left c.args.values c.args.doc.now c.loop-turn.nodes c.loop-turn.pool c.read_value-r.new.nodes
+    c.read_value-r.new.pool 0 c.in-More.from (Done c.in-Done.to) = as_word (sym c.in-Done.is ∙ c.opened.ensures.told) c.read_value-r.ensures.read in
     subst (λ (u : Turn). to_read c.args.doc.now c.next_part-turn.result < to_read c.args.doc.now u)
     (sym c.in-More.is)
     (let m = list_read.answer.moves in
@@ -128,15 +173,22 @@ read_list-loop-turn-smaller t c =
 
 pub read_list-loop-turn-preserved : goal.read_list-loop-turn-preserved
 read_list-loop-turn-preserved t c =
-    let list_open : (ns ps : List ℕ) →    TurnAnswer square 0 c.args.left c.args.values c.args.doc.now ns ps c.first_part-turn.new.nodes c.args.pool.now c.args.name c.args.c c.first_part-turn.result → OpenParts square 0 (next_of square) 1 c.args.left c.args.values c.args.doc.now ns ps c.loop-turn.nodes c.loop-turn.pool c.args.c c.in-More.from c.in-More.written = λ ns ps h. subst (λ (u : Turn).
+    let list_open : (ns ps : List ℕ)
+    → TurnAnswer square 0 c.args.left c.args.values c.args.doc.now ns ps c.first_part-turn.new.nodes c.args.pool.now c.args.name c.args.c
+    c.first_part-turn.result
+    → OpenParts square 0 (next_of square) 1 c.args.left c.args.values c.args.doc.now ns ps c.loop-turn.nodes c.loop-turn.pool c.args.c c.in-More.from
+    c.in-More.written = λ ns ps h. subst (λ (u : Turn).
     TurnAnswer square 0 c.args.left c.args.values c.args.doc.now ns ps c.loop-turn.nodes c.loop-turn.pool
     c.args.name c.args.c u)
     c.in-More.is
     (c.loop-turn.invariant ns ps h) in
-    let list_here : OpenParts square 0 (next_of square) 1 c.args.left c.args.values c.args.doc.now c.args.nodes.now c.args.pool.now c.loop-turn.nodes c.loop-turn.pool c.args.c c.in-More.from c.in-More.written = list_open c.args.nodes.now c.args.pool.now
+    let list_here : OpenParts square 0 (next_of square) 1 c.args.left c.args.values c.args.doc.now c.args.nodes.now c.args.pool.now c.loop-turn.nodes
+    c.loop-turn.pool c.args.c c.in-More.from c.in-More.written = list_open c.args.nodes.now c.args.pool.now
     (c.first_part-turn.ensures.entered square refl refl 0 c.args.left c.args.pool.now) in
-    let list_used : c.in-More.from.top ≤ length c.loop-turn.pool = used_within c.in-More.from (part_ready square c.args.c c.in-More.from c.requires.0 list_here) in
-    let list_read : Reads Gap.value c.in-More.from.begun c.args.left c.args.values c.args.doc.now c.loop-turn.nodes c.loop-turn.pool c.read_value-r.new.nodes c.read_value-r.new.pool 0 c.in-More.from (Done c.in-Done.to) = as_word (sym c.in-Done.is ∙ c.opened.ensures.told) c.read_value-r.ensures.read in
+    let list_used : c.in-More.from.top ≤ length c.loop-turn.pool =
+    used_within c.in-More.from (part_ready square c.args.c c.in-More.from c.requires.0 list_here) in
+    let list_read : Reads Gap.value c.in-More.from.begun c.args.left c.args.values c.args.doc.now c.loop-turn.nodes c.loop-turn.pool c.read_value-r.new.nodes
+    c.read_value-r.new.pool 0 c.in-More.from (Done c.in-Done.to) = as_word (sym c.in-Done.is ∙ c.opened.ensures.told) c.read_value-r.ensures.read in
     λ ns ps h.
     c.next_part-turn.ensures.gone.answer square refl refl 0 c.args.left c.args.values ns ps
     c.read_value-r.new.pool
@@ -145,12 +197,14 @@ read_list-loop-turn-preserved t c =
 
 pub read_list-returns-in-Stop : goal.read_list-returns-in-Stop
 read_list-returns-in-Stop t c =
-    record { read = subst (λ (u : Turn).
-    TurnAnswer square 0 c.args.left c.args.values c.args.doc.now c.args.nodes.now c.args.pool.now
-    c.loop-turn.nodes c.loop-turn.pool c.args.name c.args.c u)
-    c.in-Stop.is
-    (c.loop-turn.invariant c.args.nodes.now c.args.pool.now
-    (c.first_part-turn.ensures.entered square refl refl 0 c.args.left c.args.pool.now)) }
+    record {
+      read = subst (λ (u : Turn).
+          TurnAnswer square 0 c.args.left c.args.values c.args.doc.now c.args.nodes.now c.args.pool.now
+          c.loop-turn.nodes c.loop-turn.pool c.args.name c.args.c u)
+          c.in-Stop.is
+          (c.loop-turn.invariant c.args.nodes.now c.args.pool.now
+          (c.first_part-turn.ensures.entered square refl refl 0 c.args.left c.args.pool.now));
+    }
 
 pub read_record-first_part-turn-requires : goal.read_record-first_part-turn-requires
 read_record-first_part-turn-requires t c =
@@ -166,175 +220,269 @@ read_record-overflow_add-c t c =
 
 pub read_record-read_name-requires : goal.read_record-read_name-requires
 read_record-read_name-requires t c =
-    let record_open : (ns ps : List ℕ) →    TurnAnswer curly 0 c.args.left c.args.values c.args.doc.now ns ps c.first_part-turn.new.nodes c.args.pool.now c.args.name c.args.c c.first_part-turn.result → OpenParts curly c.loop-turn.seen (next_of curly) 1 c.args.left c.args.values c.args.doc.now ns ps c.loop-turn.nodes c.loop-turn.pool c.args.c c.in-More.from c.in-More.written = λ ns ps h. subst (λ (u : Turn).
+    let record_open : (ns ps : List ℕ)
+    → TurnAnswer curly 0 c.args.left c.args.values c.args.doc.now ns ps c.first_part-turn.new.nodes c.args.pool.now c.args.name c.args.c
+    c.first_part-turn.result
+    → OpenParts curly c.loop-turn.seen (next_of curly) 1 c.args.left c.args.values c.args.doc.now ns ps c.loop-turn.nodes c.loop-turn.pool c.args.c
+    c.in-More.from c.in-More.written = λ ns ps h. subst (λ (u : Turn).
     TurnAnswer curly c.loop-turn.seen c.args.left c.args.values c.args.doc.now ns ps
     c.loop-turn.nodes c.loop-turn.pool
     c.args.name c.args.c u)
     c.in-More.is
     (c.loop-turn.invariant ns ps h) in
-    let record_here : OpenParts curly c.loop-turn.seen (next_of curly) 1 c.args.left c.args.values c.args.doc.now c.args.nodes.now c.args.pool.now c.loop-turn.nodes c.loop-turn.pool c.args.c c.in-More.from c.in-More.written = record_open c.args.nodes.now c.args.pool.now
+    let record_here : OpenParts curly c.loop-turn.seen
+    (next_of curly) 1 c.args.left c.args.values c.args.doc.now c.args.nodes.now c.args.pool.now c.loop-turn.nodes c.loop-turn.pool c.args.c c.in-More.from
+    c.in-More.written = record_open c.args.nodes.now c.args.pool.now
     (c.first_part-turn.ensures.entered curly refl refl 0 c.args.left c.args.pool.now) in
-    let record_used : c.in-More.from.top ≤ length c.loop-turn.pool = used_within c.in-More.from (part_ready curly c.args.c c.in-More.from c.requires.0 record_here) in
+    let record_used : c.in-More.from.top ≤ length c.loop-turn.pool =
+    used_within c.in-More.from (part_ready curly c.args.c c.in-More.from c.requires.0 record_here) in
     let record_room : 3 * c.args.c.begun + 3 ≤ length c.loop-turn.nodes = omega (arith, c.requires.0.placed.rows, c.requires.1, record_here.nodes_kept) in
     name_ready c.args.c c.in-More.from record_room record_used
     record_here c.requires.0
 
 pub read_record-read_value-r-requires : goal.read_record-read_value-r-requires
 read_record-read_value-r-requires t c =
-    let record_open : (ns ps : List ℕ) →    TurnAnswer curly 0 c.args.left c.args.values c.args.doc.now ns ps c.first_part-turn.new.nodes c.args.pool.now c.args.name c.args.c c.first_part-turn.result → OpenParts curly c.loop-turn.seen (next_of curly) 1 c.args.left c.args.values c.args.doc.now ns ps c.loop-turn.nodes c.loop-turn.pool c.args.c c.in-More.from c.in-More.written = λ ns ps h. subst (λ (u : Turn).
+    let record_open : (ns ps : List ℕ)
+    → TurnAnswer curly 0 c.args.left c.args.values c.args.doc.now ns ps c.first_part-turn.new.nodes c.args.pool.now c.args.name c.args.c
+    c.first_part-turn.result
+    → OpenParts curly c.loop-turn.seen (next_of curly) 1 c.args.left c.args.values c.args.doc.now ns ps c.loop-turn.nodes c.loop-turn.pool c.args.c
+    c.in-More.from c.in-More.written = λ ns ps h. subst (λ (u : Turn).
     TurnAnswer curly c.loop-turn.seen c.args.left c.args.values c.args.doc.now ns ps
     c.loop-turn.nodes c.loop-turn.pool
     c.args.name c.args.c u)
     c.in-More.is
     (c.loop-turn.invariant ns ps h) in
-    let record_here : OpenParts curly c.loop-turn.seen (next_of curly) 1 c.args.left c.args.values c.args.doc.now c.args.nodes.now c.args.pool.now c.loop-turn.nodes c.loop-turn.pool c.args.c c.in-More.from c.in-More.written = record_open c.args.nodes.now c.args.pool.now
+    let record_here : OpenParts curly c.loop-turn.seen
+    (next_of curly) 1 c.args.left c.args.values c.args.doc.now c.args.nodes.now c.args.pool.now c.loop-turn.nodes c.loop-turn.pool c.args.c c.in-More.from
+    c.in-More.written = record_open c.args.nodes.now c.args.pool.now
     (c.first_part-turn.ensures.entered curly refl refl 0 c.args.left c.args.pool.now) in
-    let record_used : c.in-More.from.top ≤ length c.loop-turn.pool = used_within c.in-More.from (part_ready curly c.args.c c.in-More.from c.requires.0 record_here) in
+    let record_used : c.in-More.from.top ≤ length c.loop-turn.pool =
+    used_within c.in-More.from (part_ready curly c.args.c c.in-More.from c.requires.0 record_here) in
     let record_room : 3 * c.args.c.begun + 3 ≤ length c.loop-turn.nodes = omega (arith, c.requires.0.placed.rows, c.requires.1, record_here.nodes_kept) in
-    let name_here : ReadsName c.args.doc.now c.loop-turn.nodes c.loop-turn.pool c.read_name.new.pool (c.args.c.begun + 1) c.loop-turn.seen c.in-More.from (NameIs.Done c.in-Done.at c.in-Done.word c.in-Done.named c.in-Done.more) = subst (λ (z : NameRead).
+    let name_here : ReadsName c.args.doc.now c.loop-turn.nodes c.loop-turn.pool c.read_name.new.pool (c.args.c.begun + 1) c.loop-turn.seen c.in-More.from
+    (NameIs.Done c.in-Done.at c.in-Done.word c.in-Done.named c.in-Done.more) = subst (λ (z : NameRead).
     ReadsName c.args.doc.now c.loop-turn.nodes c.loop-turn.pool c.read_name.new.pool
     (c.args.c.begun + 1) c.loop-turn.seen c.in-More.from z)
     c.in-Done.is c.read_name.ensures.read in
-    let member_ready : Ready c.args.doc.now c.loop-turn.nodes c.read_name.new.pool c.args.values c.in-Done.at = value_ready c.args.c c.in-More.from record_room record_used
+    let member_ready : Ready c.args.doc.now c.loop-turn.nodes c.read_name.new.pool c.args.values c.in-Done.at =
+    value_ready c.args.c c.in-More.from record_room record_used
     record_here c.in-Done.at name_here c.requires.0 in
     (omega (arith, c.decreases), member_ready)
 
 pub read_record-returns-in_default : goal.read_record-returns-in_default
 read_record-returns-in_default t c =
-    let record_open : (ns ps : List ℕ) →    TurnAnswer curly 0 c.args.left c.args.values c.args.doc.now ns ps c.first_part-turn.new.nodes c.args.pool.now c.args.name c.args.c c.first_part-turn.result → OpenParts curly c.loop-turn.seen (next_of curly) 1 c.args.left c.args.values c.args.doc.now ns ps c.loop-turn.nodes c.loop-turn.pool c.args.c c.in-More.from c.in-More.written = λ ns ps h. subst (λ (u : Turn).
+    let record_open : (ns ps : List ℕ)
+    → TurnAnswer curly 0 c.args.left c.args.values c.args.doc.now ns ps c.first_part-turn.new.nodes c.args.pool.now c.args.name c.args.c
+    c.first_part-turn.result
+    → OpenParts curly c.loop-turn.seen (next_of curly) 1 c.args.left c.args.values c.args.doc.now ns ps c.loop-turn.nodes c.loop-turn.pool c.args.c
+    c.in-More.from c.in-More.written = λ ns ps h. subst (λ (u : Turn).
     TurnAnswer curly c.loop-turn.seen c.args.left c.args.values c.args.doc.now ns ps
     c.loop-turn.nodes c.loop-turn.pool
     c.args.name c.args.c u)
     c.in-More.is
     (c.loop-turn.invariant ns ps h) in
-    let record_here : OpenParts curly c.loop-turn.seen (next_of curly) 1 c.args.left c.args.values c.args.doc.now c.args.nodes.now c.args.pool.now c.loop-turn.nodes c.loop-turn.pool c.args.c c.in-More.from c.in-More.written = record_open c.args.nodes.now c.args.pool.now
+    let record_here : OpenParts curly c.loop-turn.seen
+    (next_of curly) 1 c.args.left c.args.values c.args.doc.now c.args.nodes.now c.args.pool.now c.loop-turn.nodes c.loop-turn.pool c.args.c c.in-More.from
+    c.in-More.written = record_open c.args.nodes.now c.args.pool.now
     (c.first_part-turn.ensures.entered curly refl refl 0 c.args.left c.args.pool.now) in
-    let record_used : c.in-More.from.top ≤ length c.loop-turn.pool = used_within c.in-More.from (part_ready curly c.args.c c.in-More.from c.requires.0 record_here) in
+    let record_used : c.in-More.from.top ≤ length c.loop-turn.pool =
+    used_within c.in-More.from (part_ready curly c.args.c c.in-More.from c.requires.0 record_here) in
     let record_room : 3 * c.args.c.begun + 3 ≤ length c.loop-turn.nodes = omega (arith, c.requires.0.placed.rows, c.requires.1, record_here.nodes_kept) in
-    let name_here : ReadsName c.args.doc.now c.loop-turn.nodes c.loop-turn.pool c.read_name.new.pool (c.args.c.begun + 1) c.loop-turn.seen c.in-More.from (NameIs.Done c.in-Done.at c.in-Done.word c.in-Done.named c.in-Done.more) = subst (λ (z : NameRead).
+    let name_here : ReadsName c.args.doc.now c.loop-turn.nodes c.loop-turn.pool c.read_name.new.pool (c.args.c.begun + 1) c.loop-turn.seen c.in-More.from
+    (NameIs.Done c.in-Done.at c.in-Done.word c.in-Done.named c.in-Done.more) = subst (λ (z : NameRead).
     ReadsName c.args.doc.now c.loop-turn.nodes c.loop-turn.pool c.read_name.new.pool
     (c.args.c.begun + 1) c.loop-turn.seen c.in-More.from z)
     c.in-Done.is c.read_name.ensures.read in
-    record { read = member_refused c.args.c c.in-More.from record_room record_used
-    record_here c.in-Done.at name_here
-    (sym c.opened.ensures.told ∙ c.in_default.is)
-    c.read_value-r.ensures.read }
+    record {
+      read = member_refused c.args.c c.in-More.from record_room record_used
+          record_here c.in-Done.at name_here
+          (sym c.opened.ensures.told ∙ c.in_default.is)
+          c.read_value-r.ensures.read;
+    }
 
 pub read_record-overflow_mul-at : goal.read_record-overflow_mul-at
 read_record-overflow_mul-at t c =
-    let record_open : (ns ps : List ℕ) →    TurnAnswer curly 0 c.args.left c.args.values c.args.doc.now ns ps c.first_part-turn.new.nodes c.args.pool.now c.args.name c.args.c c.first_part-turn.result → OpenParts curly c.loop-turn.seen (next_of curly) 1 c.args.left c.args.values c.args.doc.now ns ps c.loop-turn.nodes c.loop-turn.pool c.args.c c.in-More.from c.in-More.written = λ ns ps h. subst (λ (u : Turn).
+    let record_open : (ns ps : List ℕ)
+    → TurnAnswer curly 0 c.args.left c.args.values c.args.doc.now ns ps c.first_part-turn.new.nodes c.args.pool.now c.args.name c.args.c
+    c.first_part-turn.result
+    → OpenParts curly c.loop-turn.seen (next_of curly) 1 c.args.left c.args.values c.args.doc.now ns ps c.loop-turn.nodes c.loop-turn.pool c.args.c
+    c.in-More.from c.in-More.written = λ ns ps h. subst (λ (u : Turn).
     TurnAnswer curly c.loop-turn.seen c.args.left c.args.values c.args.doc.now ns ps
     c.loop-turn.nodes c.loop-turn.pool
     c.args.name c.args.c u)
     c.in-More.is
     (c.loop-turn.invariant ns ps h) in
-    let record_here : OpenParts curly c.loop-turn.seen (next_of curly) 1 c.args.left c.args.values c.args.doc.now c.args.nodes.now c.args.pool.now c.loop-turn.nodes c.loop-turn.pool c.args.c c.in-More.from c.in-More.written = record_open c.args.nodes.now c.args.pool.now
+    let record_here : OpenParts curly c.loop-turn.seen
+    (next_of curly) 1 c.args.left c.args.values c.args.doc.now c.args.nodes.now c.args.pool.now c.loop-turn.nodes c.loop-turn.pool c.args.c c.in-More.from
+    c.in-More.written = record_open c.args.nodes.now c.args.pool.now
     (c.first_part-turn.ensures.entered curly refl refl 0 c.args.left c.args.pool.now) in
-    let record_used : c.in-More.from.top ≤ length c.loop-turn.pool = used_within c.in-More.from (part_ready curly c.args.c c.in-More.from c.requires.0 record_here) in
+    let record_used : c.in-More.from.top ≤ length c.loop-turn.pool =
+    used_within c.in-More.from (part_ready curly c.args.c c.in-More.from c.requires.0 record_here) in
     let record_room : 3 * c.args.c.begun + 3 ≤ length c.loop-turn.nodes = omega (arith, c.requires.0.placed.rows, c.requires.1, record_here.nodes_kept) in
-    let name_here : ReadsName c.args.doc.now c.loop-turn.nodes c.loop-turn.pool c.read_name.new.pool (c.args.c.begun + 1) c.loop-turn.seen c.in-More.from (NameIs.Done c.in-Done.at c.in-Done.word c.in-Done.named c.in-Done.more) = subst (λ (z : NameRead).
+    let name_here : ReadsName c.args.doc.now c.loop-turn.nodes c.loop-turn.pool c.read_name.new.pool (c.args.c.begun + 1) c.loop-turn.seen c.in-More.from
+    (NameIs.Done c.in-Done.at c.in-Done.word c.in-Done.named c.in-Done.more) = subst (λ (z : NameRead).
     ReadsName c.args.doc.now c.loop-turn.nodes c.loop-turn.pool c.read_name.new.pool
     (c.args.c.begun + 1) c.loop-turn.seen c.in-More.from z)
     c.in-Done.is c.read_name.ensures.read in
-    let member_ready : Ready c.args.doc.now c.loop-turn.nodes c.read_name.new.pool c.args.values c.in-Done.at = value_ready c.args.c c.in-More.from record_room record_used
+    let member_ready : Ready c.args.doc.now c.loop-turn.nodes c.read_name.new.pool c.args.values c.in-Done.at =
+    value_ready c.args.c c.in-More.from record_room record_used
     record_here c.in-Done.at name_here c.requires.0 in
     let ready = member_ready.placed in omega (arith, ready.limit, ready.few)
 
 pub read_record-overflow_add-total : goal.read_record-overflow_add-total
 read_record-overflow_add-total t c =
-    let record_open : (ns ps : List ℕ) →    TurnAnswer curly 0 c.args.left c.args.values c.args.doc.now ns ps c.first_part-turn.new.nodes c.args.pool.now c.args.name c.args.c c.first_part-turn.result → OpenParts curly c.loop-turn.seen (next_of curly) 1 c.args.left c.args.values c.args.doc.now ns ps c.loop-turn.nodes c.loop-turn.pool c.args.c c.in-More.from c.in-More.written = λ ns ps h. subst (λ (u : Turn).
+    let record_open : (ns ps : List ℕ)
+    → TurnAnswer curly 0 c.args.left c.args.values c.args.doc.now ns ps c.first_part-turn.new.nodes c.args.pool.now c.args.name c.args.c
+    c.first_part-turn.result
+    → OpenParts curly c.loop-turn.seen (next_of curly) 1 c.args.left c.args.values c.args.doc.now ns ps c.loop-turn.nodes c.loop-turn.pool c.args.c
+    c.in-More.from c.in-More.written = λ ns ps h. subst (λ (u : Turn).
     TurnAnswer curly c.loop-turn.seen c.args.left c.args.values c.args.doc.now ns ps
     c.loop-turn.nodes c.loop-turn.pool
     c.args.name c.args.c u)
     c.in-More.is
     (c.loop-turn.invariant ns ps h) in
-    let record_here : OpenParts curly c.loop-turn.seen (next_of curly) 1 c.args.left c.args.values c.args.doc.now c.args.nodes.now c.args.pool.now c.loop-turn.nodes c.loop-turn.pool c.args.c c.in-More.from c.in-More.written = record_open c.args.nodes.now c.args.pool.now
+    let record_here : OpenParts curly c.loop-turn.seen
+    (next_of curly) 1 c.args.left c.args.values c.args.doc.now c.args.nodes.now c.args.pool.now c.loop-turn.nodes c.loop-turn.pool c.args.c c.in-More.from
+    c.in-More.written = record_open c.args.nodes.now c.args.pool.now
     (c.first_part-turn.ensures.entered curly refl refl 0 c.args.left c.args.pool.now) in
-    let record_used : c.in-More.from.top ≤ length c.loop-turn.pool = used_within c.in-More.from (part_ready curly c.args.c c.in-More.from c.requires.0 record_here) in
+    let record_used : c.in-More.from.top ≤ length c.loop-turn.pool =
+    used_within c.in-More.from (part_ready curly c.args.c c.in-More.from c.requires.0 record_here) in
     let record_room : 3 * c.args.c.begun + 3 ≤ length c.loop-turn.nodes = omega (arith, c.requires.0.placed.rows, c.requires.1, record_here.nodes_kept) in
-    let name_here : ReadsName c.args.doc.now c.loop-turn.nodes c.loop-turn.pool c.read_name.new.pool (c.args.c.begun + 1) c.loop-turn.seen c.in-More.from (NameIs.Done c.in-Done.at c.in-Done.word c.in-Done.named c.in-Done.more) = subst (λ (z : NameRead).
+    let name_here : ReadsName c.args.doc.now c.loop-turn.nodes c.loop-turn.pool c.read_name.new.pool (c.args.c.begun + 1) c.loop-turn.seen c.in-More.from
+    (NameIs.Done c.in-Done.at c.in-Done.word c.in-Done.named c.in-Done.more) = subst (λ (z : NameRead).
     ReadsName c.args.doc.now c.loop-turn.nodes c.loop-turn.pool c.read_name.new.pool
     (c.args.c.begun + 1) c.loop-turn.seen c.in-More.from z)
     c.in-Done.is c.read_name.ensures.read in
-    let member_ready : Ready c.args.doc.now c.loop-turn.nodes c.read_name.new.pool c.args.values c.in-Done.at = value_ready c.args.c c.in-More.from record_room record_used
+    let member_ready : Ready c.args.doc.now c.loop-turn.nodes c.read_name.new.pool c.args.values c.in-Done.at =
+    value_ready c.args.c c.in-More.from record_room record_used
     record_here c.in-Done.at name_here c.requires.0 in
-    let record_read : Reads Gap.value c.in-Done.at.begun c.args.left c.args.values c.args.doc.now c.loop-turn.nodes c.read_name.new.pool c.read_value-r.new.nodes c.read_value-r.new.pool c.in-Done.word c.in-Done.at (Done c.in-Done-opened.to) = as_word (sym c.in-Done-opened.is ∙ c.opened.ensures.told) c.read_value-r.ensures.read in
-    let record_behind : OpenParts curly c.in-Done.more (behind_of curly) 0 c.args.left c.args.values c.args.doc.now c.args.nodes.now c.args.pool.now c.read_value-r.new.nodes c.read_value-r.new.pool c.args.c c.in-Done-opened.to (c.in-More.written + c.in-Done.named + c.row_written-length.result + 2) = member_read c.args.c c.in-More.from record_room record_used
+    let record_read : Reads Gap.value c.in-Done.at.begun c.args.left c.args.values c.args.doc.now c.loop-turn.nodes c.read_name.new.pool
+    c.read_value-r.new.nodes c.read_value-r.new.pool c.in-Done.word c.in-Done.at (Done c.in-Done-opened.to) = as_word (sym c.in-Done-opened.is
+    ∙ c.opened.ensures.told) c.read_value-r.ensures.read in
+    let record_behind : OpenParts curly c.in-Done.more
+    (behind_of curly) 0 c.args.left c.args.values c.args.doc.now c.args.nodes.now c.args.pool.now c.read_value-r.new.nodes c.read_value-r.new.pool
+    c.args.c c.in-Done-opened.to (c.in-More.written + c.in-Done.named + c.row_written-length.result + 2) =
+    member_read c.args.c c.in-More.from record_room record_used
     record_here c.in-Done.at name_here
     (used_within c.in-Done.at member_ready) record_read c.row_written-length.ensures.read in
-    let record_small : c.in-More.written + c.in-Done.named + c.row_written-length.result + 2 ≤ 2 ^ 40 = total_small curly c.args.c c.in-Done-opened.to c.requires.0 record_behind in
+    let record_small : c.in-More.written + c.in-Done.named + c.row_written-length.result + 2 ≤ 2 ^ 40 =
+    total_small curly c.args.c c.in-Done-opened.to c.requires.0 record_behind in
     omega (arith, record_small)
 
 pub read_record-overflow_add-total-in-Done : goal.read_record-overflow_add-total-in-Done
 read_record-overflow_add-total-in-Done t c =
-    let record_open : (ns ps : List ℕ) →    TurnAnswer curly 0 c.args.left c.args.values c.args.doc.now ns ps c.first_part-turn.new.nodes c.args.pool.now c.args.name c.args.c c.first_part-turn.result → OpenParts curly c.loop-turn.seen (next_of curly) 1 c.args.left c.args.values c.args.doc.now ns ps c.loop-turn.nodes c.loop-turn.pool c.args.c c.in-More.from c.in-More.written = λ ns ps h. subst (λ (u : Turn).
+    let record_open : (ns ps : List ℕ)
+    → TurnAnswer curly 0 c.args.left c.args.values c.args.doc.now ns ps c.first_part-turn.new.nodes c.args.pool.now c.args.name c.args.c
+    c.first_part-turn.result
+    → OpenParts curly c.loop-turn.seen (next_of curly) 1 c.args.left c.args.values c.args.doc.now ns ps c.loop-turn.nodes c.loop-turn.pool c.args.c
+    c.in-More.from c.in-More.written = λ ns ps h. subst (λ (u : Turn).
     TurnAnswer curly c.loop-turn.seen c.args.left c.args.values c.args.doc.now ns ps
     c.loop-turn.nodes c.loop-turn.pool
     c.args.name c.args.c u)
     c.in-More.is
     (c.loop-turn.invariant ns ps h) in
-    let record_here : OpenParts curly c.loop-turn.seen (next_of curly) 1 c.args.left c.args.values c.args.doc.now c.args.nodes.now c.args.pool.now c.loop-turn.nodes c.loop-turn.pool c.args.c c.in-More.from c.in-More.written = record_open c.args.nodes.now c.args.pool.now
+    let record_here : OpenParts curly c.loop-turn.seen
+    (next_of curly) 1 c.args.left c.args.values c.args.doc.now c.args.nodes.now c.args.pool.now c.loop-turn.nodes c.loop-turn.pool c.args.c c.in-More.from
+    c.in-More.written = record_open c.args.nodes.now c.args.pool.now
     (c.first_part-turn.ensures.entered curly refl refl 0 c.args.left c.args.pool.now) in
-    let record_used : c.in-More.from.top ≤ length c.loop-turn.pool = used_within c.in-More.from (part_ready curly c.args.c c.in-More.from c.requires.0 record_here) in
+    let record_used : c.in-More.from.top ≤ length c.loop-turn.pool =
+    used_within c.in-More.from (part_ready curly c.args.c c.in-More.from c.requires.0 record_here) in
     let record_room : 3 * c.args.c.begun + 3 ≤ length c.loop-turn.nodes = omega (arith, c.requires.0.placed.rows, c.requires.1, record_here.nodes_kept) in
-    let name_here : ReadsName c.args.doc.now c.loop-turn.nodes c.loop-turn.pool c.read_name.new.pool (c.args.c.begun + 1) c.loop-turn.seen c.in-More.from (NameIs.Done c.in-Done.at c.in-Done.word c.in-Done.named c.in-Done.more) = subst (λ (z : NameRead).
+    let name_here : ReadsName c.args.doc.now c.loop-turn.nodes c.loop-turn.pool c.read_name.new.pool (c.args.c.begun + 1) c.loop-turn.seen c.in-More.from
+    (NameIs.Done c.in-Done.at c.in-Done.word c.in-Done.named c.in-Done.more) = subst (λ (z : NameRead).
     ReadsName c.args.doc.now c.loop-turn.nodes c.loop-turn.pool c.read_name.new.pool
     (c.args.c.begun + 1) c.loop-turn.seen c.in-More.from z)
     c.in-Done.is c.read_name.ensures.read in
-    let member_ready : Ready c.args.doc.now c.loop-turn.nodes c.read_name.new.pool c.args.values c.in-Done.at = value_ready c.args.c c.in-More.from record_room record_used
+    let member_ready : Ready c.args.doc.now c.loop-turn.nodes c.read_name.new.pool c.args.values c.in-Done.at =
+    value_ready c.args.c c.in-More.from record_room record_used
     record_here c.in-Done.at name_here c.requires.0 in
-    let record_read : Reads Gap.value c.in-Done.at.begun c.args.left c.args.values c.args.doc.now c.loop-turn.nodes c.read_name.new.pool c.read_value-r.new.nodes c.read_value-r.new.pool c.in-Done.word c.in-Done.at (Done c.in-Done-opened.to) = as_word (sym c.in-Done-opened.is ∙ c.opened.ensures.told) c.read_value-r.ensures.read in
-    let record_behind : OpenParts curly c.in-Done.more (behind_of curly) 0 c.args.left c.args.values c.args.doc.now c.args.nodes.now c.args.pool.now c.read_value-r.new.nodes c.read_value-r.new.pool c.args.c c.in-Done-opened.to (c.in-More.written + c.in-Done.named + c.row_written-length.result + 2) = member_read c.args.c c.in-More.from record_room record_used
+    let record_read : Reads Gap.value c.in-Done.at.begun c.args.left c.args.values c.args.doc.now c.loop-turn.nodes c.read_name.new.pool
+    c.read_value-r.new.nodes c.read_value-r.new.pool c.in-Done.word c.in-Done.at (Done c.in-Done-opened.to) = as_word (sym c.in-Done-opened.is
+    ∙ c.opened.ensures.told) c.read_value-r.ensures.read in
+    let record_behind : OpenParts curly c.in-Done.more
+    (behind_of curly) 0 c.args.left c.args.values c.args.doc.now c.args.nodes.now c.args.pool.now c.read_value-r.new.nodes c.read_value-r.new.pool
+    c.args.c c.in-Done-opened.to (c.in-More.written + c.in-Done.named + c.row_written-length.result + 2) =
+    member_read c.args.c c.in-More.from record_room record_used
     record_here c.in-Done.at name_here
     (used_within c.in-Done.at member_ready) record_read c.row_written-length.ensures.read in
-    let record_small : c.in-More.written + c.in-Done.named + c.row_written-length.result + 2 ≤ 2 ^ 40 = total_small curly c.args.c c.in-Done-opened.to c.requires.0 record_behind in
+    let record_small : c.in-More.written + c.in-Done.named + c.row_written-length.result + 2 ≤ 2 ^ 40 =
+    total_small curly c.args.c c.in-Done-opened.to c.requires.0 record_behind in
     omega (arith, record_small)
 
 pub read_record-overflow_add-total-in-Done-2 : goal.read_record-overflow_add-total-in-Done-2
 read_record-overflow_add-total-in-Done-2 t c =
-    let record_open : (ns ps : List ℕ) →    TurnAnswer curly 0 c.args.left c.args.values c.args.doc.now ns ps c.first_part-turn.new.nodes c.args.pool.now c.args.name c.args.c c.first_part-turn.result → OpenParts curly c.loop-turn.seen (next_of curly) 1 c.args.left c.args.values c.args.doc.now ns ps c.loop-turn.nodes c.loop-turn.pool c.args.c c.in-More.from c.in-More.written = λ ns ps h. subst (λ (u : Turn).
+    let record_open : (ns ps : List ℕ)
+    → TurnAnswer curly 0 c.args.left c.args.values c.args.doc.now ns ps c.first_part-turn.new.nodes c.args.pool.now c.args.name c.args.c
+    c.first_part-turn.result
+    → OpenParts curly c.loop-turn.seen (next_of curly) 1 c.args.left c.args.values c.args.doc.now ns ps c.loop-turn.nodes c.loop-turn.pool c.args.c
+    c.in-More.from c.in-More.written = λ ns ps h. subst (λ (u : Turn).
     TurnAnswer curly c.loop-turn.seen c.args.left c.args.values c.args.doc.now ns ps
     c.loop-turn.nodes c.loop-turn.pool
     c.args.name c.args.c u)
     c.in-More.is
     (c.loop-turn.invariant ns ps h) in
-    let record_here : OpenParts curly c.loop-turn.seen (next_of curly) 1 c.args.left c.args.values c.args.doc.now c.args.nodes.now c.args.pool.now c.loop-turn.nodes c.loop-turn.pool c.args.c c.in-More.from c.in-More.written = record_open c.args.nodes.now c.args.pool.now
+    let record_here : OpenParts curly c.loop-turn.seen
+    (next_of curly) 1 c.args.left c.args.values c.args.doc.now c.args.nodes.now c.args.pool.now c.loop-turn.nodes c.loop-turn.pool c.args.c c.in-More.from
+    c.in-More.written = record_open c.args.nodes.now c.args.pool.now
     (c.first_part-turn.ensures.entered curly refl refl 0 c.args.left c.args.pool.now) in
-    let record_used : c.in-More.from.top ≤ length c.loop-turn.pool = used_within c.in-More.from (part_ready curly c.args.c c.in-More.from c.requires.0 record_here) in
+    let record_used : c.in-More.from.top ≤ length c.loop-turn.pool =
+    used_within c.in-More.from (part_ready curly c.args.c c.in-More.from c.requires.0 record_here) in
     let record_room : 3 * c.args.c.begun + 3 ≤ length c.loop-turn.nodes = omega (arith, c.requires.0.placed.rows, c.requires.1, record_here.nodes_kept) in
-    let name_here : ReadsName c.args.doc.now c.loop-turn.nodes c.loop-turn.pool c.read_name.new.pool (c.args.c.begun + 1) c.loop-turn.seen c.in-More.from (NameIs.Done c.in-Done.at c.in-Done.word c.in-Done.named c.in-Done.more) = subst (λ (z : NameRead).
+    let name_here : ReadsName c.args.doc.now c.loop-turn.nodes c.loop-turn.pool c.read_name.new.pool (c.args.c.begun + 1) c.loop-turn.seen c.in-More.from
+    (NameIs.Done c.in-Done.at c.in-Done.word c.in-Done.named c.in-Done.more) = subst (λ (z : NameRead).
     ReadsName c.args.doc.now c.loop-turn.nodes c.loop-turn.pool c.read_name.new.pool
     (c.args.c.begun + 1) c.loop-turn.seen c.in-More.from z)
     c.in-Done.is c.read_name.ensures.read in
-    let member_ready : Ready c.args.doc.now c.loop-turn.nodes c.read_name.new.pool c.args.values c.in-Done.at = value_ready c.args.c c.in-More.from record_room record_used
+    let member_ready : Ready c.args.doc.now c.loop-turn.nodes c.read_name.new.pool c.args.values c.in-Done.at =
+    value_ready c.args.c c.in-More.from record_room record_used
     record_here c.in-Done.at name_here c.requires.0 in
-    let record_read : Reads Gap.value c.in-Done.at.begun c.args.left c.args.values c.args.doc.now c.loop-turn.nodes c.read_name.new.pool c.read_value-r.new.nodes c.read_value-r.new.pool c.in-Done.word c.in-Done.at (Done c.in-Done-opened.to) = as_word (sym c.in-Done-opened.is ∙ c.opened.ensures.told) c.read_value-r.ensures.read in
-    let record_behind : OpenParts curly c.in-Done.more (behind_of curly) 0 c.args.left c.args.values c.args.doc.now c.args.nodes.now c.args.pool.now c.read_value-r.new.nodes c.read_value-r.new.pool c.args.c c.in-Done-opened.to (c.in-More.written + c.in-Done.named + c.row_written-length.result + 2) = member_read c.args.c c.in-More.from record_room record_used
+    let record_read : Reads Gap.value c.in-Done.at.begun c.args.left c.args.values c.args.doc.now c.loop-turn.nodes c.read_name.new.pool
+    c.read_value-r.new.nodes c.read_value-r.new.pool c.in-Done.word c.in-Done.at (Done c.in-Done-opened.to) = as_word (sym c.in-Done-opened.is
+    ∙ c.opened.ensures.told) c.read_value-r.ensures.read in
+    let record_behind : OpenParts curly c.in-Done.more
+    (behind_of curly) 0 c.args.left c.args.values c.args.doc.now c.args.nodes.now c.args.pool.now c.read_value-r.new.nodes c.read_value-r.new.pool
+    c.args.c c.in-Done-opened.to (c.in-More.written + c.in-Done.named + c.row_written-length.result + 2) =
+    member_read c.args.c c.in-More.from record_room record_used
     record_here c.in-Done.at name_here
     (used_within c.in-Done.at member_ready) record_read c.row_written-length.ensures.read in
-    let record_small : c.in-More.written + c.in-Done.named + c.row_written-length.result + 2 ≤ 2 ^ 40 = total_small curly c.args.c c.in-Done-opened.to c.requires.0 record_behind in
+    let record_small : c.in-More.written + c.in-Done.named + c.row_written-length.result + 2 ≤ 2 ^ 40 =
+    total_small curly c.args.c c.in-Done-opened.to c.requires.0 record_behind in
     omega (arith, record_small)
 
 pub read_record-next_part-turn-requires : goal.read_record-next_part-turn-requires
 read_record-next_part-turn-requires t c =
-    let record_open : (ns ps : List ℕ) →    TurnAnswer curly 0 c.args.left c.args.values c.args.doc.now ns ps c.first_part-turn.new.nodes c.args.pool.now c.args.name c.args.c c.first_part-turn.result → OpenParts curly c.loop-turn.seen (next_of curly) 1 c.args.left c.args.values c.args.doc.now ns ps c.loop-turn.nodes c.loop-turn.pool c.args.c c.in-More.from c.in-More.written = λ ns ps h. subst (λ (u : Turn).
+    let record_open : (ns ps : List ℕ)
+    → TurnAnswer curly 0 c.args.left c.args.values c.args.doc.now ns ps c.first_part-turn.new.nodes c.args.pool.now c.args.name c.args.c
+    c.first_part-turn.result
+    → OpenParts curly c.loop-turn.seen (next_of curly) 1 c.args.left c.args.values c.args.doc.now ns ps c.loop-turn.nodes c.loop-turn.pool c.args.c
+    c.in-More.from c.in-More.written = λ ns ps h. subst (λ (u : Turn).
     TurnAnswer curly c.loop-turn.seen c.args.left c.args.values c.args.doc.now ns ps
     c.loop-turn.nodes c.loop-turn.pool
     c.args.name c.args.c u)
     c.in-More.is
     (c.loop-turn.invariant ns ps h) in
-    let record_here : OpenParts curly c.loop-turn.seen (next_of curly) 1 c.args.left c.args.values c.args.doc.now c.args.nodes.now c.args.pool.now c.loop-turn.nodes c.loop-turn.pool c.args.c c.in-More.from c.in-More.written = record_open c.args.nodes.now c.args.pool.now
+    let record_here : OpenParts curly c.loop-turn.seen
+    (next_of curly) 1 c.args.left c.args.values c.args.doc.now c.args.nodes.now c.args.pool.now c.loop-turn.nodes c.loop-turn.pool c.args.c c.in-More.from
+    c.in-More.written = record_open c.args.nodes.now c.args.pool.now
     (c.first_part-turn.ensures.entered curly refl refl 0 c.args.left c.args.pool.now) in
-    let record_used : c.in-More.from.top ≤ length c.loop-turn.pool = used_within c.in-More.from (part_ready curly c.args.c c.in-More.from c.requires.0 record_here) in
+    let record_used : c.in-More.from.top ≤ length c.loop-turn.pool =
+    used_within c.in-More.from (part_ready curly c.args.c c.in-More.from c.requires.0 record_here) in
     let record_room : 3 * c.args.c.begun + 3 ≤ length c.loop-turn.nodes = omega (arith, c.requires.0.placed.rows, c.requires.1, record_here.nodes_kept) in
-    let name_here : ReadsName c.args.doc.now c.loop-turn.nodes c.loop-turn.pool c.read_name.new.pool (c.args.c.begun + 1) c.loop-turn.seen c.in-More.from (NameIs.Done c.in-Done.at c.in-Done.word c.in-Done.named c.in-Done.more) = subst (λ (z : NameRead).
+    let name_here : ReadsName c.args.doc.now c.loop-turn.nodes c.loop-turn.pool c.read_name.new.pool (c.args.c.begun + 1) c.loop-turn.seen c.in-More.from
+    (NameIs.Done c.in-Done.at c.in-Done.word c.in-Done.named c.in-Done.more) = subst (λ (z : NameRead).
     ReadsName c.args.doc.now c.loop-turn.nodes c.loop-turn.pool c.read_name.new.pool
     (c.args.c.begun + 1) c.loop-turn.seen c.in-More.from z)
     c.in-Done.is c.read_name.ensures.read in
-    let member_ready : Ready c.args.doc.now c.loop-turn.nodes c.read_name.new.pool c.args.values c.in-Done.at = value_ready c.args.c c.in-More.from record_room record_used
+    let member_ready : Ready c.args.doc.now c.loop-turn.nodes c.read_name.new.pool c.args.values c.in-Done.at =
+    value_ready c.args.c c.in-More.from record_room record_used
     record_here c.in-Done.at name_here c.requires.0 in
-    let record_read : Reads Gap.value c.in-Done.at.begun c.args.left c.args.values c.args.doc.now c.loop-turn.nodes c.read_name.new.pool c.read_value-r.new.nodes c.read_value-r.new.pool c.in-Done.word c.in-Done.at (Done c.in-Done-opened.to) = as_word (sym c.in-Done-opened.is ∙ c.opened.ensures.told) c.read_value-r.ensures.read in
-    let record_behind : OpenParts curly c.in-Done.more (behind_of curly) 0 c.args.left c.args.values c.args.doc.now c.args.nodes.now c.args.pool.now c.read_value-r.new.nodes c.read_value-r.new.pool c.args.c c.in-Done-opened.to (c.in-More.written + c.in-Done.named + c.row_written-length.result + 2) = member_read c.args.c c.in-More.from record_room record_used
+    let record_read : Reads Gap.value c.in-Done.at.begun c.args.left c.args.values c.args.doc.now c.loop-turn.nodes c.read_name.new.pool
+    c.read_value-r.new.nodes c.read_value-r.new.pool c.in-Done.word c.in-Done.at (Done c.in-Done-opened.to) = as_word (sym c.in-Done-opened.is
+    ∙ c.opened.ensures.told) c.read_value-r.ensures.read in
+    let record_behind : OpenParts curly c.in-Done.more
+    (behind_of curly) 0 c.args.left c.args.values c.args.doc.now c.args.nodes.now c.args.pool.now c.read_value-r.new.nodes c.read_value-r.new.pool
+    c.args.c c.in-Done-opened.to (c.in-More.written + c.in-Done.named + c.row_written-length.result + 2) =
+    member_read c.args.c c.in-More.from record_room record_used
     record_here c.in-Done.at name_here
     (used_within c.in-Done.at member_ready) record_read c.row_written-length.ensures.read in
     behind_ready curly c.args.c c.in-Done.at c.in-Done-opened.to c.requires.0
@@ -345,11 +493,14 @@ read_record-next_part-turn-requires t c =
 
 pub read_record-loop-turn-smaller : goal.read_record-loop-turn-smaller
 read_record-loop-turn-smaller t c =
-    let name_here : ReadsName c.args.doc.now c.loop-turn.nodes c.loop-turn.pool c.read_name.new.pool (c.args.c.begun + 1) c.loop-turn.seen c.in-More.from (NameIs.Done c.in-Done.at c.in-Done.word c.in-Done.named c.in-Done.more) = subst (λ (z : NameRead).
+    let name_here : ReadsName c.args.doc.now c.loop-turn.nodes c.loop-turn.pool c.read_name.new.pool (c.args.c.begun + 1) c.loop-turn.seen c.in-More.from
+    (NameIs.Done c.in-Done.at c.in-Done.word c.in-Done.named c.in-Done.more) = subst (λ (z : NameRead).
     ReadsName c.args.doc.now c.loop-turn.nodes c.loop-turn.pool c.read_name.new.pool
     (c.args.c.begun + 1) c.loop-turn.seen c.in-More.from z)
     c.in-Done.is c.read_name.ensures.read in
-    let record_read : Reads Gap.value c.in-Done.at.begun c.args.left c.args.values c.args.doc.now c.loop-turn.nodes c.read_name.new.pool c.read_value-r.new.nodes c.read_value-r.new.pool c.in-Done.word c.in-Done.at (Done c.in-Done-opened.to) = as_word (sym c.in-Done-opened.is ∙ c.opened.ensures.told) c.read_value-r.ensures.read in
+    let record_read : Reads Gap.value c.in-Done.at.begun c.args.left c.args.values c.args.doc.now c.loop-turn.nodes c.read_name.new.pool
+    c.read_value-r.new.nodes c.read_value-r.new.pool c.in-Done.word c.in-Done.at (Done c.in-Done-opened.to) = as_word (sym c.in-Done-opened.is
+    ∙ c.opened.ensures.told) c.read_value-r.ensures.read in
     subst (λ (u : Turn). to_read c.args.doc.now c.next_part-turn.result < to_read c.args.doc.now u)
     (sym c.in-More.is)
     (let m = record_read.answer.moves in
@@ -360,23 +511,34 @@ read_record-loop-turn-smaller t c =
 
 pub read_record-loop-turn-preserved : goal.read_record-loop-turn-preserved
 read_record-loop-turn-preserved t c =
-    let record_open : (ns ps : List ℕ) →    TurnAnswer curly 0 c.args.left c.args.values c.args.doc.now ns ps c.first_part-turn.new.nodes c.args.pool.now c.args.name c.args.c c.first_part-turn.result → OpenParts curly c.loop-turn.seen (next_of curly) 1 c.args.left c.args.values c.args.doc.now ns ps c.loop-turn.nodes c.loop-turn.pool c.args.c c.in-More.from c.in-More.written = λ ns ps h. subst (λ (u : Turn).
+    let record_open : (ns ps : List ℕ)
+    → TurnAnswer curly 0 c.args.left c.args.values c.args.doc.now ns ps c.first_part-turn.new.nodes c.args.pool.now c.args.name c.args.c
+    c.first_part-turn.result
+    → OpenParts curly c.loop-turn.seen (next_of curly) 1 c.args.left c.args.values c.args.doc.now ns ps c.loop-turn.nodes c.loop-turn.pool c.args.c
+    c.in-More.from c.in-More.written = λ ns ps h. subst (λ (u : Turn).
     TurnAnswer curly c.loop-turn.seen c.args.left c.args.values c.args.doc.now ns ps
     c.loop-turn.nodes c.loop-turn.pool
     c.args.name c.args.c u)
     c.in-More.is
     (c.loop-turn.invariant ns ps h) in
-    let record_here : OpenParts curly c.loop-turn.seen (next_of curly) 1 c.args.left c.args.values c.args.doc.now c.args.nodes.now c.args.pool.now c.loop-turn.nodes c.loop-turn.pool c.args.c c.in-More.from c.in-More.written = record_open c.args.nodes.now c.args.pool.now
+    let record_here : OpenParts curly c.loop-turn.seen
+    (next_of curly) 1 c.args.left c.args.values c.args.doc.now c.args.nodes.now c.args.pool.now c.loop-turn.nodes c.loop-turn.pool c.args.c c.in-More.from
+    c.in-More.written = record_open c.args.nodes.now c.args.pool.now
     (c.first_part-turn.ensures.entered curly refl refl 0 c.args.left c.args.pool.now) in
-    let record_used : c.in-More.from.top ≤ length c.loop-turn.pool = used_within c.in-More.from (part_ready curly c.args.c c.in-More.from c.requires.0 record_here) in
+    let record_used : c.in-More.from.top ≤ length c.loop-turn.pool =
+    used_within c.in-More.from (part_ready curly c.args.c c.in-More.from c.requires.0 record_here) in
     let record_room : 3 * c.args.c.begun + 3 ≤ length c.loop-turn.nodes = omega (arith, c.requires.0.placed.rows, c.requires.1, record_here.nodes_kept) in
-    let name_here : ReadsName c.args.doc.now c.loop-turn.nodes c.loop-turn.pool c.read_name.new.pool (c.args.c.begun + 1) c.loop-turn.seen c.in-More.from (NameIs.Done c.in-Done.at c.in-Done.word c.in-Done.named c.in-Done.more) = subst (λ (z : NameRead).
+    let name_here : ReadsName c.args.doc.now c.loop-turn.nodes c.loop-turn.pool c.read_name.new.pool (c.args.c.begun + 1) c.loop-turn.seen c.in-More.from
+    (NameIs.Done c.in-Done.at c.in-Done.word c.in-Done.named c.in-Done.more) = subst (λ (z : NameRead).
     ReadsName c.args.doc.now c.loop-turn.nodes c.loop-turn.pool c.read_name.new.pool
     (c.args.c.begun + 1) c.loop-turn.seen c.in-More.from z)
     c.in-Done.is c.read_name.ensures.read in
-    let member_ready : Ready c.args.doc.now c.loop-turn.nodes c.read_name.new.pool c.args.values c.in-Done.at = value_ready c.args.c c.in-More.from record_room record_used
+    let member_ready : Ready c.args.doc.now c.loop-turn.nodes c.read_name.new.pool c.args.values c.in-Done.at =
+    value_ready c.args.c c.in-More.from record_room record_used
     record_here c.in-Done.at name_here c.requires.0 in
-    let record_read : Reads Gap.value c.in-Done.at.begun c.args.left c.args.values c.args.doc.now c.loop-turn.nodes c.read_name.new.pool c.read_value-r.new.nodes c.read_value-r.new.pool c.in-Done.word c.in-Done.at (Done c.in-Done-opened.to) = as_word (sym c.in-Done-opened.is ∙ c.opened.ensures.told) c.read_value-r.ensures.read in
+    let record_read : Reads Gap.value c.in-Done.at.begun c.args.left c.args.values c.args.doc.now c.loop-turn.nodes c.read_name.new.pool
+    c.read_value-r.new.nodes c.read_value-r.new.pool c.in-Done.word c.in-Done.at (Done c.in-Done-opened.to) = as_word (sym c.in-Done-opened.is
+    ∙ c.opened.ensures.told) c.read_value-r.ensures.read in
     λ ns ps h.
     c.next_part-turn.ensures.gone.answer curly refl refl c.in-Done.more
     c.args.left c.args.values ns ps
@@ -388,7 +550,8 @@ read_record-loop-turn-preserved t c =
 
 pub read_record-refused-requires : goal.read_record-refused-requires
 read_record-refused-requires t c =
-    let name_wrong : ReadsName c.args.doc.now c.loop-turn.nodes c.loop-turn.pool c.read_name.new.pool (c.args.c.begun + 1) c.loop-turn.seen c.in-More.from (NameIs.Refused c.in-Refused.number c.in-Refused.place) = subst (λ (z : NameRead).
+    let name_wrong : ReadsName c.args.doc.now c.loop-turn.nodes c.loop-turn.pool c.read_name.new.pool (c.args.c.begun + 1) c.loop-turn.seen c.in-More.from
+    (NameIs.Refused c.in-Refused.number c.in-Refused.place) = subst (λ (z : NameRead).
     ReadsName c.args.doc.now c.loop-turn.nodes c.loop-turn.pool c.read_name.new.pool
     (c.args.c.begun + 1) c.loop-turn.seen c.in-More.from z)
     c.in-Refused.is c.read_name.ensures.read in
@@ -396,41 +559,55 @@ read_record-refused-requires t c =
 
 pub read_record-returns-in-Refused : goal.read_record-returns-in-Refused
 read_record-returns-in-Refused t c =
-    let record_open : (ns ps : List ℕ) →    TurnAnswer curly 0 c.args.left c.args.values c.args.doc.now ns ps c.first_part-turn.new.nodes c.args.pool.now c.args.name c.args.c c.first_part-turn.result → OpenParts curly c.loop-turn.seen (next_of curly) 1 c.args.left c.args.values c.args.doc.now ns ps c.loop-turn.nodes c.loop-turn.pool c.args.c c.in-More.from c.in-More.written = λ ns ps h. subst (λ (u : Turn).
+    let record_open : (ns ps : List ℕ)
+    → TurnAnswer curly 0 c.args.left c.args.values c.args.doc.now ns ps c.first_part-turn.new.nodes c.args.pool.now c.args.name c.args.c
+    c.first_part-turn.result
+    → OpenParts curly c.loop-turn.seen (next_of curly) 1 c.args.left c.args.values c.args.doc.now ns ps c.loop-turn.nodes c.loop-turn.pool c.args.c
+    c.in-More.from c.in-More.written = λ ns ps h. subst (λ (u : Turn).
     TurnAnswer curly c.loop-turn.seen c.args.left c.args.values c.args.doc.now ns ps
     c.loop-turn.nodes c.loop-turn.pool
     c.args.name c.args.c u)
     c.in-More.is
     (c.loop-turn.invariant ns ps h) in
-    let record_here : OpenParts curly c.loop-turn.seen (next_of curly) 1 c.args.left c.args.values c.args.doc.now c.args.nodes.now c.args.pool.now c.loop-turn.nodes c.loop-turn.pool c.args.c c.in-More.from c.in-More.written = record_open c.args.nodes.now c.args.pool.now
+    let record_here : OpenParts curly c.loop-turn.seen
+    (next_of curly) 1 c.args.left c.args.values c.args.doc.now c.args.nodes.now c.args.pool.now c.loop-turn.nodes c.loop-turn.pool c.args.c c.in-More.from
+    c.in-More.written = record_open c.args.nodes.now c.args.pool.now
     (c.first_part-turn.ensures.entered curly refl refl 0 c.args.left c.args.pool.now) in
-    let record_used : c.in-More.from.top ≤ length c.loop-turn.pool = used_within c.in-More.from (part_ready curly c.args.c c.in-More.from c.requires.0 record_here) in
+    let record_used : c.in-More.from.top ≤ length c.loop-turn.pool =
+    used_within c.in-More.from (part_ready curly c.args.c c.in-More.from c.requires.0 record_here) in
     let record_room : 3 * c.args.c.begun + 3 ≤ length c.loop-turn.nodes = omega (arith, c.requires.0.placed.rows, c.requires.1, record_here.nodes_kept) in
-    let name_wrong : ReadsName c.args.doc.now c.loop-turn.nodes c.loop-turn.pool c.read_name.new.pool (c.args.c.begun + 1) c.loop-turn.seen c.in-More.from (NameIs.Refused c.in-Refused.number c.in-Refused.place) = subst (λ (z : NameRead).
+    let name_wrong : ReadsName c.args.doc.now c.loop-turn.nodes c.loop-turn.pool c.read_name.new.pool (c.args.c.begun + 1) c.loop-turn.seen c.in-More.from
+    (NameIs.Refused c.in-Refused.number c.in-Refused.place) = subst (λ (z : NameRead).
     ReadsName c.args.doc.now c.loop-turn.nodes c.loop-turn.pool c.read_name.new.pool
     (c.args.c.begun + 1) c.loop-turn.seen c.in-More.from z)
     c.in-Refused.is c.read_name.ensures.read in
-    record { read = as_word c.refused.ensures.packed
-    (name_refused c.args.c c.in-More.from record_room record_used
-    record_here name_wrong) }
+    record {
+      read = as_word c.refused.ensures.packed
+          (name_refused c.args.c c.in-More.from record_room record_used
+          record_here name_wrong);
+    }
 
 pub read_record-returns-in-Stop : goal.read_record-returns-in-Stop
 read_record-returns-in-Stop t c =
-    record { read = subst (λ (u : Turn).
-    TurnAnswer curly c.loop-turn.seen c.args.left c.args.values c.args.doc.now
-    c.args.nodes.now c.args.pool.now
-    c.loop-turn.nodes c.loop-turn.pool c.args.name c.args.c u)
-    c.in-Stop.is
-    (c.loop-turn.invariant c.args.nodes.now c.args.pool.now
-    (c.first_part-turn.ensures.entered curly refl refl 0 c.args.left c.args.pool.now)) }
+    record {
+      read = subst (λ (u : Turn).
+          TurnAnswer curly c.loop-turn.seen c.args.left c.args.values c.args.doc.now
+          c.args.nodes.now c.args.pool.now
+          c.loop-turn.nodes c.loop-turn.pool c.args.name c.args.c u)
+          c.in-Stop.is
+          (c.loop-turn.invariant c.args.nodes.now c.args.pool.now
+          (c.first_part-turn.ensures.entered curly refl refl 0 c.args.left c.args.pool.now));
+    }
 
 pub read_value-returns-then-is_full : goal.read_value-returns-then-is_full
 read_value-returns-then-is_full t c =
-    record { read = as_word c.refused.ensures.packed
-    (bracket_full c.args.c c.requires c.skip_white-at.ensures.skipped square
-    (sym c.peek-b.ensures.read ∙ c.if-b-eq91.true)
-    (subst (λ (b : Bool). JudgesFull c.args.values c.args.left c.args.c.begun b) c.if-is_full.true
-    c.is_full.ensures.judged)) }
+    record {
+      read = as_word c.refused.ensures.packed
+          (bracket_full c.args.c c.requires c.skip_white-at.ensures.skipped square
+          (sym c.peek-b.ensures.read ∙ c.if-b-eq91.true)
+          (subst (λ (b : Bool). JudgesFull c.args.values c.args.left c.args.c.begun b) c.if-is_full.true
+          c.is_full.ensures.judged));
+    }
 
 pub read_value-overflow_sub-left : goal.read_value-overflow_sub-left
 read_value-overflow_sub-left t c =
@@ -449,19 +626,23 @@ read_value-read_list-requires t c =
 
 pub read_value-returns-then-b-eq91 : goal.read_value-returns-then-b-eq91
 read_value-returns-then-b-eq91 t c =
-    record { read = bracket_value c.args.c c.requires c.skip_white-at.ensures.skipped square
-    (sym c.peek-b.ensures.read ∙ c.if-b-eq91.true)
-    (subst (λ (b : Bool). JudgesFull c.args.values c.args.left c.args.c.begun b)
-    c.if-is_full.false c.is_full.ensures.judged)
-    c.read_list.ensures.read }
+    record {
+      read = bracket_value c.args.c c.requires c.skip_white-at.ensures.skipped square
+          (sym c.peek-b.ensures.read ∙ c.if-b-eq91.true)
+          (subst (λ (b : Bool). JudgesFull c.args.values c.args.left c.args.c.begun b)
+          c.if-is_full.false c.is_full.ensures.judged)
+          c.read_list.ensures.read;
+    }
 
 pub read_value-returns-then-is_full-2 : goal.read_value-returns-then-is_full-2
 read_value-returns-then-is_full-2 t c =
-    record { read = as_word c.refused-then-is_full-2.ensures.packed
-    (bracket_full c.args.c c.requires c.skip_white-at.ensures.skipped curly
-    (sym c.peek-b.ensures.read ∙ c.if-b-eq123.true)
-    (subst (λ (b : Bool). JudgesFull c.args.values c.args.left c.args.c.begun b) c.if-is_full-2.true
-    c.is_full-then-b-eq123.ensures.judged)) }
+    record {
+      read = as_word c.refused-then-is_full-2.ensures.packed
+          (bracket_full c.args.c c.requires c.skip_white-at.ensures.skipped curly
+          (sym c.peek-b.ensures.read ∙ c.if-b-eq123.true)
+          (subst (λ (b : Bool). JudgesFull c.args.values c.args.left c.args.c.begun b) c.if-is_full-2.true
+          c.is_full-then-b-eq123.ensures.judged));
+    }
 
 pub read_value-overflow_sub-left-then-b-eq123 : goal.read_value-overflow_sub-left-then-b-eq123
 read_value-overflow_sub-left-then-b-eq123 t c =
@@ -480,19 +661,20 @@ read_value-read_record-requires t c =
 
 pub read_value-returns-then-b-eq123 : goal.read_value-returns-then-b-eq123
 read_value-returns-then-b-eq123 t c =
-    record { read = bracket_value c.args.c c.requires c.skip_white-at.ensures.skipped curly
-    (sym c.peek-b.ensures.read ∙ c.if-b-eq123.true)
-    (subst (λ (b : Bool). JudgesFull c.args.values c.args.left c.args.c.begun b)
-    c.if-is_full-2.false c.is_full-then-b-eq123.ensures.judged)
-    c.read_record.ensures.read }
+    record {
+      read = bracket_value c.args.c c.requires c.skip_white-at.ensures.skipped curly
+          (sym c.peek-b.ensures.read ∙ c.if-b-eq123.true)
+          (subst (λ (b : Bool). JudgesFull c.args.values c.args.left c.args.c.begun b)
+          c.if-is_full-2.false c.is_full-then-b-eq123.ensures.judged)
+          c.read_record.ensures.read;
+    }
 
 pub read_value-read_scalar-requires : goal.read_value-read_scalar-requires
-read_value-read_scalar-requires t c =
-    (
-      scalar_ready c.args.c c.requires c.skip_white-at.ensures.skipped,
-      scalar_byte c.args.c c.requires c.skip_white-at.ensures.skipped c.peek-b.ensures.read
-          c.if-b-eq91.false c.if-b-eq123.false,
-    )
+read_value-read_scalar-requires t c = (
+  scalar_ready c.args.c c.requires c.skip_white-at.ensures.skipped,
+  scalar_byte c.args.c c.requires c.skip_white-at.ensures.skipped c.peek-b.ensures.read
+      c.if-b-eq91.false c.if-b-eq123.false,
+)
 
 pub read_value-returns : goal.read_value-returns
 read_value-returns t c =

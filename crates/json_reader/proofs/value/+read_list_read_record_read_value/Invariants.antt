@@ -1,7 +1,6 @@
 -- The measures and invariants of the cycle of calls. Assumes nothing.
 use Prim.Native.Nat.{ℕ, ◌+◌, ◌*◌}
 use mathlib.Core.List.{List}
-use Rattle.json_reader.specs.declared.name.NameRead.TheVariants as NameIs
 use Rattle.json_reader.specs.JsonParts.{square, curly, TurnAnswer}
 use Rattle.json_reader.proofs.Loops.{to_read}
 use Rattle.json_reader.proofs.value.+read_list_read_record_read_value.Given as goal

@@ -1,5 +1,4 @@
 -- `number::digits::digits_end` meets its contract. The loop's invariant is what it ensures, up to here. Assumes nothing.
-use Prim.Native.Nat.{◌-◌}
 use native.Mathlib.Omega.{arith}
 use lib.Count.{leading_le}
 use Rattle.number.proofs.DigitRuns.{no_digit, digits_join}

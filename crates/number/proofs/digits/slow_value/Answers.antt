@@ -1,5 +1,4 @@
 -- `number::digits::slow_value` meets its contract. The loop's invariant is what it ensures, up to here. Assumes nothing.
-use Prim.Native.Nat.{◌-◌}
 use native.Mathlib.Nat.{le_refl}
 use native.Mathlib.Omega.{arith}
 use Rattle.number.proofs.DigitRuns.{digit_of}
@@ -25,12 +24,11 @@ pub loop-i-smaller : goal.loop-i-smaller
 loop-i-smaller c = omega (arith, c.loop-i-test.true)
 
 pub loop-i-preserved : goal.loop-i-preserved
-loop-i-preserved c =
-     (
-      omega (arith, c.loop-i.invariant.0),
-      omega (arith, c.loop-i-test.true),
-      taken_next c.loop-i.invariant.0 c.loop-i.invariant.2 c.shifted_on-coefficient.ensures,
-    )
+loop-i-preserved c = (
+  omega (arith, c.loop-i.invariant.0),
+  omega (arith, c.loop-i-test.true),
+  taken_next c.loop-i.invariant.0 c.loop-i.invariant.2 c.shifted_on-coefficient.ensures,
+)
 
 pub returns : goal.returns
 returns c = taken_up_to c.loop-i.invariant.1 c.loop-i-test.false c.loop-i.invariant.2

@@ -1,5 +1,4 @@
 -- The invariants of `number::places::write_rest` and what falls in its loops. Assumes nothing.
-use Prim.Native.Nat.{◌-◌}
 use Rattle.number.proofs.Writing.{Placing}
 use Rattle.number.proofs.places.write_rest.Given as goal
 

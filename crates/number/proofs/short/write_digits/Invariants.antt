@@ -1,5 +1,4 @@
 -- The invariants of `number::short::write_digits` and what falls in its loops. Assumes nothing.
-use Prim.Native.Nat.{◌-◌}
 use Rattle.number.proofs.Writing.{Falling}
 use Rattle.number.proofs.short.write_digits.Given as goal
 

@@ -1,7 +1,7 @@
 -- `number::write::write_number` meets its contract: the fraction, the integer part before it and the minus before that are the
 -- number. Assumes nothing.
 use native.Mathlib.Omega.{arith}
-use Rattle.definitions.specs.Number.{Number, most_coefficient, most_scale}
+use Rattle.definitions.specs.Number.{most_coefficient, most_scale}
 use Rattle.number.specs.NumberWrite.{as_number}
 use Rattle.number.specs.DecimalLaws.{length_plain, length_quotient, length_most}
 use Rattle.number.proofs.Writing.{length_fraction_any, number_written}
@@ -19,7 +19,8 @@ pub write_unsigned-requires : goal.write_unsigned-requires
 unfolding most_coefficient most_scale
 write_unsigned-requires c =
     let a = c.args in
-    let bounds = c.requires.bounded in record { few = (
+    let bounds = c.requires.bounded in record {
+      few = (
         omega (arith, bounds.coefficient),
         omega (arith, bounds.scale),
         omega (
@@ -29,7 +30,14 @@ write_unsigned-requires c =
           length_quotient a.scale a.coefficient,
           length_most 17 a.coefficient (omega (arith, bounds.coefficient)),
         ),
-      ); room = omega (arith, length_plain (as_number c.args.negative c.args.coefficient c.args.scale), c.requires.room, length_fraction_any a.scale 0 a.coefficient) }
+      );
+      room = omega (
+        arith,
+        length_plain (as_number c.args.negative c.args.coefficient c.args.scale),
+        c.requires.room,
+        length_fraction_any a.scale 0 a.coefficient,
+      );
+    }
 
 pub write_minus-requires : goal.write_minus-requires
 write_minus-requires c =

@@ -12,5 +12,7 @@ join_element-requires c =
 
 pub returns : goal.returns
 returns c =
-    record { kept = λ p t name s j. elements_some j c.requires.tables c.join_element.new.shapes c.join_element.result
-    c.has.ensures.told (ap not c.if-not-has.false) c.join_element.ensures.joined }
+    record {
+      kept = λ p t name s j. elements_some j c.requires.tables c.join_element.new.shapes c.join_element.result
+          c.has.ensures.told (ap not c.if-not-has.false) c.join_element.ensures.joined;
+    }

@@ -12,5 +12,7 @@ join_record-requires c =
 
 pub returns : goal.returns
 returns c =
-    record { kept = λ p t name s j. members_some j c.requires.tables c.join_record.new.shapes c.join_record.result
-    c.has.ensures.told (ap not c.if-not-has.false) c.join_record.ensures.joined }
+    record {
+      kept = λ p t name s j. members_some j c.requires.tables c.join_record.new.shapes c.join_record.result
+          c.has.ensures.told (ap not c.if-not-has.false) c.join_record.ensures.joined;
+    }

@@ -1,5 +1,4 @@
 -- `result_shape::lacked::null_lacked` meets its contract. The loop's invariant is `NullsLoop`. Assumes nothing.
-use Prim.Native.Nat.{◌-◌}
 use native.Mathlib.Omega.{arith}
 use Rattle.growing.specs.NullLaws.{loop_begins, loop_listed, loop_step, loop_on, loop_ends}
 use Rattle.result_shape.proofs.lacked.null_lacked.Goals as goal
@@ -9,10 +8,13 @@ loop-row-init c = loop_begins _ _ _ _ _ _ c.requires.room.enough
 
 pub null_member-requires : goal.null_member-requires
 null_member-requires c =
-      record { listed_held = loop_listed c.loop-row.invariant c.loop-row-test.true c.requires.nullable; room = record {
+    record {
+      listed_held = loop_listed c.loop-row.invariant c.loop-row-test.true c.requires.nullable;
+      room = record {
         enough = omega (arith, c.requires.room.enough, c.loop-row.invariant.same);
         small = omega (arith, c.requires.room.small, c.loop-row.invariant.same);
-      } }
+      };
+    }
 
 pub overflow_add-row : goal.overflow_add-row
 overflow_add-row c =

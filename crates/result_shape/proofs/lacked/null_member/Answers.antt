@@ -9,15 +9,19 @@ has_name-requires c =
 
 pub returns-then-has_name : goal.returns-then-has_name
 returns-then-has_name c =
-    record { nulled = λ p n k s there m tells. null_kept m (there_told c.name-name.ensures.read c.text_word-word.ensures.split c.text_bytes.ensures.split
-    c.has_name.ensures.found m tells) c.if-has_name.true c.requires.room.enough }
+    record {
+      nulled = λ p n k s there m tells. null_kept m (there_told c.name-name.ensures.read c.text_word-word.ensures.split c.text_bytes.ensures.split
+          c.has_name.ensures.found m tells) c.if-has_name.true c.requires.room.enough;
+    }
 
 pub raise-requires : goal.raise-requires
 raise-requires c = let facts = null_fits c.requires.listed_held.meets c.requires.room in record { row_in_bounds = facts.0; fits = facts.1 }
 
 pub returns : goal.returns
 returns c =
-    record { nulled = λ p n k s there m tells. null_put m (there_told c.name-name.ensures.read c.text_word-word.ensures.split
-    c.text_bytes.ensures.split c.has_name.ensures.found m tells) c.if-has_name.false
-    c.requires.room.enough
-    c.raise.auto.shapes c.raise.ensures.raised }
+    record {
+      nulled = λ p n k s there m tells. null_put m (there_told c.name-name.ensures.read c.text_word-word.ensures.split
+          c.text_bytes.ensures.split c.has_name.ensures.found m tells) c.if-has_name.false
+          c.requires.room.enough
+          c.raise.auto.shapes c.raise.ensures.raised;
+    }

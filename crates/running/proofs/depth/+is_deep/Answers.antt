@@ -1,6 +1,5 @@
 -- The proof of `is_deep`, which calls itself with less nesting left. The loop's invariant: the value is deep where what is left of its parts is.
 -- Assumes nothing.
-use Prim.Native.Nat.{◌-◌}
 use native.Mathlib.Omega.{arith}
 use Rattle.running.proofs.Depths.{no_nesting_left, single_flat, value_bounds, value_some, looking, part_value, part_deep, part_flat, all_flat}
 use Rattle.running.proofs.depth.+is_deep.Goals as goal
@@ -30,18 +29,19 @@ overflow_sub-left t c =
     omega (arith, c.if-left-eq0.false)
 
 pub is_deep-requires : goal.is_deep-requires
-is_deep-requires t c =
-    (
-      omega (arith, c.decreases, c.if-left-eq0.false),
-      part_value c.args.nodes.now c.args.at c.args.left c.loop-i.invariant c.requires
-          (omega (arith, c.loop-i-test.true, c.row_size.ensures.sized)),
-    )
+is_deep-requires t c = (
+  omega (arith, c.decreases, c.if-left-eq0.false),
+  part_value c.args.nodes.now c.args.at c.args.left c.loop-i.invariant c.requires
+      (omega (arith, c.loop-i-test.true, c.row_size.ensures.sized)),
+)
 
 pub returns-then-is_deep : goal.returns-then-is_deep
 returns-then-is_deep t c =
-    record { told = part_deep c.args.nodes.now c.args.at c.args.left c.loop-i.invariant c.is_deep.ensures.told
-    (omega (arith, c.loop-i-test.true, c.row_size.ensures.sized)) c.if-is_deep.true
-    c.if-left-eq0.false }
+    record {
+      told = part_deep c.args.nodes.now c.args.at c.args.left c.loop-i.invariant c.is_deep.ensures.told
+          (omega (arith, c.loop-i-test.true, c.row_size.ensures.sized)) c.if-is_deep.true
+          c.if-left-eq0.false;
+    }
 
 pub overflow_add-i-in-loop-i : goal.overflow_add-i-in-loop-i
 overflow_add-i-in-loop-i t c =
@@ -70,5 +70,7 @@ loop-i-preserved t c =
 
 pub returns : goal.returns
 returns t c =
-    record { told = all_flat c.args.nodes.now c.args.at c.args.left c.loop-i.invariant
-    (omega (arith, c.loop-i-test.false, c.row_size.ensures.sized)) c.if-left-eq0.false }
+    record {
+      told = all_flat c.args.nodes.now c.args.at c.args.left c.loop-i.invariant
+          (omega (arith, c.loop-i-test.false, c.row_size.ensures.sized)) c.if-left-eq0.false;
+    }

@@ -9,4 +9,7 @@ pub returns-then-kind-eq-NULL : goal.returns-then-kind-eq-NULL
 returns-then-kind-eq-NULL c = record { told = λ p v b. says_null v (sym (c.row_kind-kind.ensures.read ∙ bound_kind b) ∙ c.if-kind-eq-NULL.true) }
 
 pub returns : goal.returns
-returns c = record { told = λ p v b. ap (λ t. eqb t 5) (c.row_kind-kind.ensures.read ∙ bound_kind b) ∙ says_list v (λ f. c.if-kind-eq-NULL.false (c.row_kind-kind.ensures.read ∙ bound_kind b ∙ f)) }
+returns c = record {
+  told = λ p v b. ap (λ t. eqb t 5) (c.row_kind-kind.ensures.read ∙ bound_kind b)
+      ∙ says_list v (λ f. c.if-kind-eq-NULL.false (c.row_kind-kind.ensures.read ∙ bound_kind b ∙ f));
+}

@@ -1,5 +1,4 @@
 -- The proof of `run_place`, which calls itself at the row behind: the measure is what is left of the table. Assumes nothing.
-use Prim.Native.Nat.{◌-◌}
 use native.Mathlib.Omega.{arith}
 use mathlib.Core.Path.{sym, ◌∙◌, subst}
 use Rattle.running.specs.Walk.{SeesPlace}
@@ -35,39 +34,46 @@ seen_at-requires t c =
 
 pub returns-then-code-eq-IT : goal.returns-then-code-eq-IT
 returns-then-code-eq-IT t c =
-    record { seen = subst (SeesPlace _ _ _ _ _ _ _) (sym c.seen_at.ensures.packed)
-    (it_seen (sym c.code.ensures.read ∙ c.if-code-eq-IT.true) c.if-limit-steps.false
-    c.payload-payload.ensures.read) }
+    record {
+      seen = subst (SeesPlace _ _ _ _ _ _ _) (sym c.seen_at.ensures.packed)
+          (it_seen (sym c.code.ensures.read ∙ c.if-code-eq-IT.true) c.if-limit-steps.false
+          c.payload-payload.ensures.read);
+    }
 
 pub overflow_add-row : goal.overflow_add-row
 overflow_add-row t c =
     omega (arith, c.well_formed, inner_within (λ e. c.if-code-eq-IT.false (c.code.ensures.read ∙ e)) c.requires)
 
 pub run_place-inner-requires : goal.run_place-inner-requires
-run_place-inner-requires t c =
-    (
-      omega (arith, c.decreases, inner_within (λ e. c.if-code-eq-IT.false (c.code.ensures.read ∙ e)) c.requires),
-      inner_ready (λ e. c.if-code-eq-IT.false (c.code.ensures.read ∙ e)) c.requires,
-    )
+run_place-inner-requires t c = (
+  omega (arith, c.decreases, inner_within (λ e. c.if-code-eq-IT.false (c.code.ensures.read ∙ e)) c.requires),
+  inner_ready (λ e. c.if-code-eq-IT.false (c.code.ensures.read ∙ e)) c.requires,
+)
 
 pub returns-in_default : goal.returns-in_default
 returns-in_default t c =
-    record { seen = inner_refused (λ e. c.if-code-eq-IT.false (c.code.ensures.read ∙ e)) c.if-limit-steps.false
-    c.run_place-inner.ensures.seen (sym c.looked.ensures.told ∙ c.in_default.is) }
+    record {
+      seen = inner_refused (λ e. c.if-code-eq-IT.false (c.code.ensures.read ∙ e)) c.if-limit-steps.false
+          c.run_place-inner.ensures.seen (sym c.looked.ensures.told ∙ c.in_default.is);
+    }
 
 pub returns-then-kind-eq-NULL : goal.returns-then-kind-eq-NULL
 returns-then-kind-eq-NULL t c =
-    record { seen = subst (SeesPlace _ _ _ _ _ _ _) (sym (sym c.looked.ensures.told ∙ c.in-At.is))
-    (through (λ e. c.if-code-eq-IT.false (c.code.ensures.read ∙ e)) c.if-limit-steps.false
-    c.run_place-inner.ensures.seen (sym c.looked.ensures.told ∙ c.in-At.is) c.row_kind-kind.ensures.read c.if-kind-eq-NULL.true) }
+    record {
+      seen = subst (SeesPlace _ _ _ _ _ _ _) (sym (sym c.looked.ensures.told ∙ c.in-At.is))
+          (through (λ e. c.if-code-eq-IT.false (c.code.ensures.read ∙ e)) c.if-limit-steps.false
+          c.run_place-inner.ensures.seen (sym c.looked.ensures.told ∙ c.in-At.is) c.row_kind-kind.ensures.read c.if-kind-eq-NULL.true);
+    }
 
 pub returns-then-kind-ne-RECORD : goal.returns-then-kind-ne-RECORD
 returns-then-kind-ne-RECORD t c =
-    record { seen = subst (SeesPlace _ _ _ _ _ _ _) (sym c.refused-then-kind-ne-RECORD.ensures.packed.1)
-    (stuck (λ e. c.if-code-eq-IT.false (c.code.ensures.read ∙ e)) c.if-limit-steps.false
-    c.run_place-inner.ensures.seen (sym c.looked.ensures.told ∙ c.in-At.is)
-    c.row_kind-kind.ensures.read
-    c.if-kind-eq-NULL.false c.if-kind-ne-RECORD.true c.place-place-then-kind-ne-RECORD.ensures.read) }
+    record {
+      seen = subst (SeesPlace _ _ _ _ _ _ _) (sym c.refused-then-kind-ne-RECORD.ensures.packed.1)
+          (stuck (λ e. c.if-code-eq-IT.false (c.code.ensures.read ∙ e)) c.if-limit-steps.false
+          c.run_place-inner.ensures.seen (sym c.looked.ensures.told ∙ c.in-At.is)
+          c.row_kind-kind.ensures.read
+          c.if-kind-eq-NULL.false c.if-kind-ne-RECORD.true c.place-place-then-kind-ne-RECORD.ensures.read);
+    }
 
 pub find_member-found-requires : goal.find_member-found-requires
 find_member-found-requires t c =
@@ -85,9 +91,11 @@ seen_at-requires-2 t c =
 
 pub returns : goal.returns
 returns t c =
-    record { seen = subst (SeesPlace _ _ _ _ _ _ _) (sym c.seen_at-2.ensures.packed)
-    (found (λ e. c.if-code-eq-IT.false (c.code.ensures.read ∙ e)) c.if-limit-steps.false
-    c.run_place-inner.ensures.seen (sym c.looked.ensures.told ∙ c.in-At.is)
-    c.row_kind-kind.ensures.read c.if-kind-ne-RECORD.false
-    c.payload-payload.ensures.read
-    c.find_member-found.ensures.found) }
+    record {
+      seen = subst (SeesPlace _ _ _ _ _ _ _) (sym c.seen_at-2.ensures.packed)
+          (found (λ e. c.if-code-eq-IT.false (c.code.ensures.read ∙ e)) c.if-limit-steps.false
+          c.run_place-inner.ensures.seen (sym c.looked.ensures.told ∙ c.in-At.is)
+          c.row_kind-kind.ensures.read c.if-kind-ne-RECORD.false
+          c.payload-payload.ensures.read
+          c.find_member-found.ensures.found);
+    }

@@ -1,5 +1,4 @@
 -- `running::places::find_member` meets its contract. Assumes nothing.
-use Prim.Native.Nat.{◌-◌}
 use mathlib.Core.Path.{refl}
 use native.Mathlib.Omega.{arith}
 use Rattle.pool.specs.PoolLaws.{length_held}
@@ -53,12 +52,14 @@ same_held-requires c =
 
 pub returns-then-same_held : goal.returns-then-same_held
 returns-then-same_held c =
-    record { found = let a = c.args in
-    found_Here a.nodes.now a.pool.now a.at a.name c.loop-i.invariant refl
-    (compared_parts a.pool.now a.name _ c.text_word-w.ensures.split c.text_bytes.ensures.split
-    c.held-n.ensures.counted c.text_word.ensures.split
-    c.text_bytes-in-loop-i.ensures.split c.same_held.ensures.compared)
-    (omega (arith, c.loop-i-test.true, c.row_size.ensures.sized)) c.if-same_held.true }
+    record {
+      found = let a = c.args in
+          found_Here a.nodes.now a.pool.now a.at a.name c.loop-i.invariant refl
+          (compared_parts a.pool.now a.name _ c.text_word-w.ensures.split c.text_bytes.ensures.split
+          c.held-n.ensures.counted c.text_word.ensures.split
+          c.text_bytes-in-loop-i.ensures.split c.same_held.ensures.compared)
+          (omega (arith, c.loop-i-test.true, c.row_size.ensures.sized)) c.if-same_held.true;
+    }
 
 pub row_size_in-i-requires : goal.row_size_in-i-requires
 row_size_in-i-requires c =
@@ -93,5 +94,7 @@ loop-i-preserved c =
 
 pub returns : goal.returns
 returns c =
-    record { found = let a = c.args in
-    ends a.nodes.now a.pool.now a.at a.name c.loop-i.invariant (omega (arith, c.loop-i-test.false, c.row_size.ensures.sized)) }
+    record {
+      found = let a = c.args in
+          ends a.nodes.now a.pool.now a.at a.name c.loop-i.invariant (omega (arith, c.loop-i-test.false, c.row_size.ensures.sized));
+    }

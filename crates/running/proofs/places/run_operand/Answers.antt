@@ -18,14 +18,18 @@ returns-in_default c = record { seen = place_refused c.requires.placed c.run_pla
 
 pub returns-then-is_wanted : goal.returns-then-is_wanted
 returns-then-is_wanted c =
-    record { seen = subst (SeesOperand _ _ _ _ _ _ _ _) (sym (sym c.looked.ensures.told ∙ c.in-At.is))
-    (judged_at c.requires.placed c.run_place-found.ensures.seen (sym c.looked.ensures.told ∙ c.in-At.is)
-    c.code.ensures.read
-    c.is_wanted.ensures.told c.if-is_wanted.true) }
+    record {
+      seen = subst (SeesOperand _ _ _ _ _ _ _ _) (sym (sym c.looked.ensures.told ∙ c.in-At.is))
+          (judged_at c.requires.placed c.run_place-found.ensures.seen (sym c.looked.ensures.told ∙ c.in-At.is)
+          c.code.ensures.read
+          c.is_wanted.ensures.told c.if-is_wanted.true);
+    }
 
 pub returns : goal.returns
 returns c =
-    record { seen = subst (SeesOperand _ _ _ _ _ _ _ _) (sym c.refused.ensures.packed.1)
-    (stuck c.requires.placed c.run_place-found.ensures.seen (sym c.looked.ensures.told ∙ c.in-At.is)
-    c.code.ensures.read
-    c.is_wanted.ensures.told c.if-is_wanted.false c.place-place.ensures.read) }
+    record {
+      seen = subst (SeesOperand _ _ _ _ _ _ _ _) (sym c.refused.ensures.packed.1)
+          (stuck c.requires.placed c.run_place-found.ensures.seen (sym c.looked.ensures.told ∙ c.in-At.is)
+          c.code.ensures.read
+          c.is_wanted.ensures.told c.if-is_wanted.false c.place-place.ensures.read);
+    }

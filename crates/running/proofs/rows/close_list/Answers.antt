@@ -33,9 +33,11 @@ put_row-requires c =
 
 pub returns : goal.returns
 returns c =
-    record { closed = list_closed c.args.results.now c.args.begun c.args.to c.args.name c.requires.later c.if-results-to.false
-    c.items_length.ensures.measured c.bracketed-written.ensures.made
-    c.head_word-head.ensures.made refl c.put_row.ensures.put }
+    record {
+      closed = list_closed c.args.results.now c.args.begun c.args.to c.args.name c.requires.later c.if-results-to.false
+          c.items_length.ensures.measured c.bracketed-written.ensures.made
+          c.head_word-head.ensures.made refl c.put_row.ensures.put;
+    }
 
 pub overflow_mul-to : goal.overflow_mul-to
 overflow_mul-to c = omega (arith, c.requires.few)

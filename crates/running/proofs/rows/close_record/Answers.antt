@@ -41,6 +41,8 @@ put_row-requires c =
 
 pub returns : goal.returns
 returns c =
-    record { closed = record_closed c.args.results.now c.args.pool.now c.args.begun c.args.to c.args.name
-    c.requires.later c.if-results-to.false c.members_length.ensures.measured c.bracketed-written.ensures.made
-    c.head_word-head.ensures.made refl c.put_row.ensures.put }
+    record {
+      closed = record_closed c.args.results.now c.args.pool.now c.args.begun c.args.to c.args.name
+          c.requires.later c.if-results-to.false c.members_length.ensures.measured c.bracketed-written.ensures.made
+          c.head_word-head.ensures.made refl c.put_row.ensures.put;
+    }

@@ -1,5 +1,4 @@
 -- `running::rows::copy_words` meets its contract. Assumes nothing.
-use Prim.Native.Nat.{◌-◌}
 use Rattle.running.proofs.PutRows.{copies, copies_on, copied}
 use Rattle.running.proofs.rows.copy_words.Goals as goal
 

@@ -1,5 +1,4 @@
 -- `running::rows::count_items` meets its contract. Assumes nothing.
-use Prim.Native.Nat.{◌-◌}
 use native.Mathlib.Omega.{arith}
 use Rattle.running.specs.BindingsLaws.{bound_within}
 use Rattle.running.proofs.Elements.{counting, count_step, count_on, count_ends}

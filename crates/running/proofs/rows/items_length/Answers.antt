@@ -1,5 +1,4 @@
 -- `running::rows::items_length` meets its contract. Assumes nothing.
-use Prim.Native.Nat.{◌-◌}
 use native.Mathlib.Omega.{arith}
 use Rattle.running.proofs.Elements.{measuring, item_bounds, measure_on, measured}
 use Rattle.running.proofs.rows.items_length.Goals as goal

@@ -10,8 +10,10 @@ put-requires c =
 
 pub returns-then-row_kind-eq-NULL : goal.returns-then-row_kind-eq-NULL
 returns-then-row_kind-eq-NULL c =
-    record { kept = null_kept c.args.nodes.now c.args.at c.args.results.now c.args.begun c.args.name
-    c.row_kind.ensures.read c.if-row_kind-eq-NULL.true c.head_word.ensures.made c.put.ensures.put }
+    record {
+      kept = null_kept c.args.nodes.now c.args.at c.args.results.now c.args.begun c.args.name
+          c.row_kind.ensures.read c.if-row_kind-eq-NULL.true c.head_word.ensures.made c.put.ensures.put;
+    }
 
 pub overflow_add-to : goal.overflow_add-to
 overflow_add-to c =
@@ -31,8 +33,10 @@ overflow_add-begun c =
 
 pub returns-then-results-begun : goal.returns-then-results-begun
 returns-then-results-begun c =
-    record { kept = copy_left c.args.nodes.now c.args.at c.args.results.now c.args.begun c.args.name
-    c.row_kind.ensures.read c.if-row_kind-eq-NULL.false c.row_size-size.ensures.sized c.if-results-begun.true }
+    record {
+      kept = copy_left c.args.nodes.now c.args.at c.args.results.now c.args.begun c.args.name
+          c.row_kind.ensures.read c.if-row_kind-eq-NULL.false c.row_size-size.ensures.sized c.if-results-begun.true;
+    }
 
 pub copy_words-requires : goal.copy_words-requires
 copy_words-requires c =
@@ -57,6 +61,8 @@ shape_of-results c = simp length-set c.copy_words.auto.results
 
 pub returns : goal.returns
 returns c =
-    record { kept = copy_kept c.args.nodes.now c.args.at c.args.results.now c.args.begun c.args.name
-    c.row_kind.ensures.read c.if-row_kind-eq-NULL.false c.row_size-size.ensures.sized c.if-results-begun.false
-    c.copy_words.ensures.copied }
+    record {
+      kept = copy_kept c.args.nodes.now c.args.at c.args.results.now c.args.begun c.args.name
+          c.row_kind.ensures.read c.if-row_kind-eq-NULL.false c.row_size-size.ensures.sized c.if-results-begun.false
+          c.copy_words.ensures.copied;
+    }

@@ -1,5 +1,4 @@
 -- `running::rows::members_length` meets its contract. Assumes nothing.
-use Prim.Native.Nat.{◌-◌}
 use native.Mathlib.Omega.{arith}
 use mathlib.Core.Path.{refl}
 use Rattle.running.proofs.Named.{measuring, some_name, member_bounds, measure_on, measured}

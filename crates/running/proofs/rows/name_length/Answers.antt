@@ -10,5 +10,7 @@ text_length-requires c =
 
 pub returns : goal.returns
 returns c =
-    record { measured = λ p n h. c.text_length.ensures.counted
-    ∙ ap length (name_plain c.row_name-k.ensures.read c.text_word.ensures.split c.text_bytes.ensures.split p n h) }
+    record {
+      measured = λ p n h. c.text_length.ensures.counted
+          ∙ ap length (name_plain c.row_name-k.ensures.read c.text_word.ensures.split c.text_bytes.ensures.split p n h);
+    }

@@ -7,5 +7,7 @@ returns-then-results-begun c = record { put = row_left c.args.results.now c.args
 
 pub returns : goal.returns
 returns c =
-    record { put = row_put_here c.args.results.now c.args.begun c.args.head c.args.payload c.args.name
-    c.if-results-begun.false c.put_row.ensures.put }
+    record {
+      put = row_put_here c.args.results.now c.args.begun c.args.head c.args.payload c.args.name
+          c.if-results-begun.false c.put_row.ensures.put;
+    }

@@ -23,6 +23,8 @@ done-requires c =
 
 pub returns : goal.returns
 returns c =
-    record { given = subst (Gives _ _ _ _ _ _) (sym c.done.ensures.packed)
-    (count_given c.requires.giving c.requires.there c.count_items-n.ensures.counted c.number_head.ensures.made
-    c.put-begun.ensures.put (count_few c.requires.there c.count_items-n.ensures.counted)) }
+    record {
+      given = subst (Gives _ _ _ _ _ _) (sym c.done.ensures.packed)
+          (count_given c.requires.giving c.requires.there c.count_items-n.ensures.counted c.number_head.ensures.made
+          c.put-begun.ensures.put (count_few c.requires.there c.count_items-n.ensures.counted));
+    }

@@ -31,9 +31,11 @@ done-requires c =
 
 pub returns : goal.returns
 returns c =
-    record { given = subst (Gives _ _ _ _ _ _) (sym c.done.ensures.packed)
-    (whole_given c.row_scale-scale.ensures.read c.if-scale-eq0.false
-    c.row_payload.ensures.read
-    c.whole_part-n.ensures c.row_negative.ensures.read
-    c.number_bits-bits.ensures.made c.requires.giving
-    c.number_head.ensures.made c.put-begun.ensures.put) }
+    record {
+      given = subst (Gives _ _ _ _ _ _) (sym c.done.ensures.packed)
+          (whole_given c.row_scale-scale.ensures.read c.if-scale-eq0.false
+          c.row_payload.ensures.read
+          c.whole_part-n.ensures c.row_negative.ensures.read
+          c.number_bits-bits.ensures.made c.requires.giving
+          c.number_head.ensures.made c.put-begun.ensures.put);
+    }

@@ -26,5 +26,7 @@ done-requires c =
 
 pub returns : goal.returns
 returns c =
-    record { given = subst (Gives _ _ _ _ _ _) (sym c.done.ensures.packed)
-    (value_given c.requires.giving c.requires.there c.row_kind-kind.ensures.read c.keep-begun.ensures.kept) }
+    record {
+      given = subst (Gives _ _ _ _ _ _) (sym c.done.ensures.packed)
+          (value_given c.requires.giving c.requires.there c.row_kind-kind.ensures.read c.keep-begun.ensures.kept);
+    }

@@ -22,6 +22,8 @@ done-requires c =
 
 pub returns : goal.returns
 returns c =
-    record { given = subst (Gives _ _ _ _ _ _) (sym c.done.ensures.packed)
-    (literal_given_here c.requires.giving c.literal_head-head.ensures.made c.payload-payload.ensures.read
-    c.put-begun.ensures.put) }
+    record {
+      given = subst (Gives _ _ _ _ _ _) (sym c.done.ensures.packed)
+          (literal_given_here c.requires.giving c.literal_head-head.ensures.made c.payload-payload.ensures.read
+          c.put-begun.ensures.put);
+    }

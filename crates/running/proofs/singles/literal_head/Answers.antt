@@ -12,9 +12,11 @@ number_head-requires c =
 
 pub returns-then-code-eq-NUM : goal.returns-then-code-eq-NUM
 returns-then-code-eq-NUM c =
-    record { made = λ p v h. let x = literal_number c.code-code.ensures.read c.if-code-eq-NUM.true c.operand.ensures.read
-    c.payload-payload.ensures.read p v h in
-    c.number_head.ensures.made x.0 x.2 ∙ ap head_word (sym x.1) }
+    record {
+      made = λ p v h. let x = literal_number c.code-code.ensures.read c.if-code-eq-NUM.true c.operand.ensures.read
+          c.payload-payload.ensures.read p v h in
+          c.number_head.ensures.made x.0 x.2 ∙ ap head_word (sym x.1);
+    }
 
 pub text_length-written-requires : goal.text_length-written-requires
 text_length-written-requires c =
@@ -30,9 +32,11 @@ head_word-requires c =
 
 pub returns-then-code-eq-STR : goal.returns-then-code-eq-STR
 returns-then-code-eq-STR c =
-    record { made = λ p v h. text_made c.text_word.ensures.split c.text_bytes.ensures.split c.text_length-written.ensures.counted
-    c.head_word.ensures.made v h.pooled
-    (literal_text c.code-code.ensures.read c.if-code-eq-STR.true c.payload-payload.ensures.read p v h) }
+    record {
+      made = λ p v h. text_made c.text_word.ensures.split c.text_bytes.ensures.split c.text_length-written.ensures.counted
+          c.head_word.ensures.made v h.pooled
+          (literal_text c.code-code.ensures.read c.if-code-eq-STR.true c.payload-payload.ensures.read p v h);
+    }
 
 pub returns-then-code-eq-YES : goal.returns-then-code-eq-YES
 returns-then-code-eq-YES c = record { made = literal_yes c.code-code.ensures.read c.if-code-eq-YES.true c.head_word-then-code-eq-YES.ensures.made }
@@ -42,5 +46,7 @@ returns-then-code-eq-NO c = record { made = literal_no c.code-code.ensures.read 
 
 pub returns : goal.returns
 returns c =
-    record { made = literal_none c.code-code.ensures.read c.if-code-eq-NUM.false c.if-code-eq-STR.false c.if-code-eq-YES.false
-    c.if-code-eq-NO.false c.head_word-2.ensures.made }
+    record {
+      made = literal_none c.code-code.ensures.read c.if-code-eq-NUM.false c.if-code-eq-STR.false c.if-code-eq-YES.false
+          c.if-code-eq-NO.false c.head_word-2.ensures.made;
+    }

@@ -1,7 +1,7 @@
 -- The proof of the cycle of calls {run_each, run_form, run_if, run_on, run_pack, run_when}. A form's parts stand at later rows: the measures are
 -- three times what is left of the table from the form's row on, two more for `run_form` and one more for `run_on`, which go on at the same row.
 -- The loops' invariants are `EachLoop` and `PackLoop`. Assumes nothing.
-use Prim.Native.Nat.{◌+◌, ◌-◌}
+use Prim.Native.Nat.{◌+◌}
 use native.Mathlib.Omega.{arith}
 use mathlib.Core.Path.{refl, sym, ap, ◌∙◌, subst}
 use lib.ListN.{length-set}
@@ -52,12 +52,11 @@ run_each-overflow_add-part t c =
     omega (arith, (each.each_within c.requires).1, c.well_formed)
 
 pub run_each-run_form-r-requires : goal.run_each-run_form-r-requires
-run_each-run_form-r-requires t c =
-    (
-      omega (arith, c.decreases, c.size.ensures.read, (each.each_within c.requires).0),
-      each.part_ready c.requires c.loop-i.invariant c.loop-i-test.true
-          (row_behind c.args.forms.now (c.args.c.row + 3) c.size.result c.size.ensures.read),
-    )
+run_each-run_form-r-requires t c = (
+  omega (arith, c.decreases, c.size.ensures.read, (each.each_within c.requires).0),
+  each.part_ready c.requires c.loop-i.invariant c.loop-i-test.true
+      (row_behind c.args.forms.now (c.args.c.row + 3) c.size.result c.size.ensures.read),
+)
 
 pub run_each-shape_of-bindings-in_default : goal.run_each-shape_of-bindings-in_default
 run_each-shape_of-bindings-in_default t c =
@@ -70,9 +69,11 @@ run_each-shape_of-results-in_default t c =
 
 pub run_each-returns-in_default : goal.run_each-returns-in_default
 run_each-returns-in_default t c =
-    record { ran = each.part_refused c.requires c.loop-i.invariant c.loop-i-test.true
-    (row_behind c.args.forms.now (c.args.c.row + 3) c.size.result c.size.ensures.read)
-    c.run_form-r.ensures.ran (sym c.opened.ensures.told ∙ c.in_default.is) }
+    record {
+      ran = each.part_refused c.requires c.loop-i.invariant c.loop-i-test.true
+          (row_behind c.args.forms.now (c.args.c.row + 3) c.size.result c.size.ensures.read)
+          c.run_form-r.ensures.ran (sym c.opened.ensures.told ∙ c.in_default.is);
+    }
 
 pub run_each-overflow_add-i-in-loop-i : goal.run_each-overflow_add-i-in-loop-i
 run_each-overflow_add-i-in-loop-i t c =
@@ -114,31 +115,33 @@ run_each-shape_of-results t c =
 
 pub run_each-returns : goal.run_each-returns
 run_each-returns t c =
-    record { ran = subst (Follows _ _ _ _ _ _ _ _ _ _ _) (sym c.done.ensures.packed)
-    (each.each_ends c.requires c.loop-i.invariant c.loop-i-test.false c.close_list.ensures.closed) }
+    record {
+      ran = subst (Follows _ _ _ _ _ _ _ _ _ _ _) (sym c.done.ensures.packed)
+          (each.each_ends c.requires c.loop-i.invariant c.loop-i-test.false c.close_list.ensures.closed);
+    }
 
 pub run_form-returns-then-limit-c : goal.run_form-returns-then-limit-c
 run_form-returns-then-limit-c t c =
-    record { ran = subst (Runs _ _ _ _ _ _ _ _ _) (sym c.refused.ensures.packed.0)
-    (stopped c.if-limit-c.true c.place-place.ensures.read) }
+    record {
+      ran = subst (Runs _ _ _ _ _ _ _ _ _) (sym c.refused.ensures.packed.0)
+          (stopped c.if-limit-c.true c.place-place.ensures.read);
+    }
 
 pub run_form-run_pack-requires : goal.run_form-run_pack-requires
-run_form-run_pack-requires t c =
-    (
-      omega (arith, c.decreases),
-      record { ready = c.requires; left = c.if-limit-c.false; coded = sym c.code-code.ensures.read ∙ c.if-code-eq-PACK.true },
-    )
+run_form-run_pack-requires t c = (
+  omega (arith, c.decreases),
+  record { ready = c.requires; left = c.if-limit-c.false; coded = sym c.code-code.ensures.read ∙ c.if-code-eq-PACK.true },
+)
 
 pub run_form-returns-then-code-eq-PACK : goal.run_form-returns-then-code-eq-PACK
 run_form-returns-then-code-eq-PACK t c =
     record { ran = c.run_pack.ensures.ran }
 
 pub run_form-run_if-requires : goal.run_form-run_if-requires
-run_form-run_if-requires t c =
-    (
-      omega (arith, c.decreases),
-      record { ready = c.requires; left = c.if-limit-c.false; coded = sym c.code-code.ensures.read ∙ c.if-code-eq-IF.true },
-    )
+run_form-run_if-requires t c = (
+  omega (arith, c.decreases),
+  record { ready = c.requires; left = c.if-limit-c.false; coded = sym c.code-code.ensures.read ∙ c.if-code-eq-IF.true },
+)
 
 pub run_form-returns-then-code-eq-IF : goal.run_form-returns-then-code-eq-IF
 run_form-returns-then-code-eq-IF t c =
@@ -146,12 +149,17 @@ run_form-returns-then-code-eq-IF t c =
 
 pub run_form-give_literal-requires : goal.run_form-give_literal-requires
 run_form-give_literal-requires t c =
-    record { giving = giving c.requires (omega arith) (omega (arith, c.if-limit-c.false)); there = some_literal c.code-code.ensures.read c.if-code-gt-IF.true c.if-code-eq-PACK.false c.requires }
+    record {
+      giving = giving c.requires (omega arith) (omega (arith, c.if-limit-c.false));
+      there = some_literal c.code-code.ensures.read c.if-code-gt-IF.true c.if-code-eq-PACK.false c.requires;
+    }
 
 pub run_form-returns-then-code-gt-IF : goal.run_form-returns-then-code-gt-IF
 run_form-returns-then-code-gt-IF t c =
-    record { ran = literal_ran c.code-code.ensures.read c.if-code-gt-IF.true c.if-code-eq-PACK.false c.if-limit-c.false
-    c.give_literal.ensures.given }
+    record {
+      ran = literal_ran c.code-code.ensures.read c.if-code-gt-IF.true c.if-code-eq-PACK.false c.if-limit-c.false
+          c.give_literal.ensures.given;
+    }
 
 pub run_form-overflow_add-c : goal.run_form-overflow_add-c
 run_form-overflow_add-c t c =
@@ -163,24 +171,27 @@ run_form-run_operand-r-requires t c =
 
 pub run_form-returns-in_default : goal.run_form-returns-in_default
 run_form-returns-in_default t c =
-    record { ran = subst (Runs _ _ _ _ _ _ _ _ _) (sym (refused_same _ (sym c.looked.ensures.told ∙ c.in_default.is)))
-    (operand_refused c.code-code.ensures.read c.if-code-gt-IF.false c.if-code-eq-IF.false
-    c.run_operand-r.ensures.seen c.if-limit-c.false (sym c.looked.ensures.told ∙ c.in_default.is)) }
+    record {
+      ran = subst (Runs _ _ _ _ _ _ _ _ _) (sym (refused_same _ (sym c.looked.ensures.told ∙ c.in_default.is)))
+          (operand_refused c.code-code.ensures.read c.if-code-gt-IF.false c.if-code-eq-IF.false
+          c.run_operand-r.ensures.seen c.if-limit-c.false (sym c.looked.ensures.told ∙ c.in_default.is));
+    }
 
 pub run_form-run_on-requires : goal.run_form-run_on-requires
-run_form-run_on-requires t c =
-    (
-      omega (arith, c.decreases),
-      following c.code-code.ensures.read c.if-code-gt-IF.false c.if-code-eq-IF.false
-          c.run_operand-r.ensures.seen c.if-limit-c.false
-          (sym c.looked.ensures.told ∙ c.in-At.is) c.requires,
-    )
+run_form-run_on-requires t c = (
+  omega (arith, c.decreases),
+  following c.code-code.ensures.read c.if-code-gt-IF.false c.if-code-eq-IF.false
+      c.run_operand-r.ensures.seen c.if-limit-c.false
+      (sym c.looked.ensures.told ∙ c.in-At.is) c.requires,
+)
 
 pub run_form-returns : goal.run_form-returns
 run_form-returns t c =
-    record { ran = followed c.code-code.ensures.read c.if-code-gt-IF.false c.if-code-eq-IF.false
-    c.run_operand-r.ensures.seen
-    c.if-limit-c.false (sym c.looked.ensures.told ∙ c.in-At.is) c.run_on.ensures.ran }
+    record {
+      ran = followed c.code-code.ensures.read c.if-code-gt-IF.false c.if-code-eq-IF.false
+          c.run_operand-r.ensures.seen
+          c.if-limit-c.false (sym c.looked.ensures.told ∙ c.in-At.is) c.run_on.ensures.ran;
+    }
 
 pub run_if-overflow_add-first : goal.run_if-overflow_add-first
 run_if-overflow_add-first t c =
@@ -196,28 +207,31 @@ run_if-run_form-r-requires t c =
 
 pub run_if-returns-in_default : goal.run_if-returns-in_default
 run_if-returns-in_default t c =
-    record { ran = test_refused c.requires c.run_form-r.ensures.ran c.run_form-r.auto.bindings
-    c.run_form-r.auto.results (sym c.opened.ensures.told ∙ c.in_default.is) }
+    record {
+      ran = test_refused c.requires c.run_form-r.ensures.ran c.run_form-r.auto.bindings
+          c.run_form-r.auto.results (sym c.opened.ensures.told ∙ c.in_default.is);
+    }
 
 pub run_if-overflow_add-second : goal.run_if-overflow_add-second
 run_if-overflow_add-second t c =
     omega (arith, c.size.ensures.read, (choose_within c.requires).1, c.well_formed)
 
 pub run_if-run_form-requires : goal.run_if-run_form-requires
-run_if-run_form-requires t c =
-    (
-      omega (arith, c.decreases, ap (λ x. x.row) c.branch-part.ensures.made, c.size.ensures.read, (choose_within c.requires).1),
-      ready_as c.branch-part.ensures.made (yes_ready c.requires c.run_form-r.ensures.ran c.run_form-r.auto.bindings
-          c.run_form-r.auto.results (sym c.opened.ensures.told ∙ c.in-Done.is)
-          (row_behind c.args.forms.now (c.args.c.row + 3) c.size.result c.size.ensures.read)),
-    )
+run_if-run_form-requires t c = (
+  omega (arith, c.decreases, ap (λ x. x.row) c.branch-part.ensures.made, c.size.ensures.read, (choose_within c.requires).1),
+  ready_as c.branch-part.ensures.made (yes_ready c.requires c.run_form-r.ensures.ran c.run_form-r.auto.bindings
+      c.run_form-r.auto.results (sym c.opened.ensures.told ∙ c.in-Done.is)
+      (row_behind c.args.forms.now (c.args.c.row + 3) c.size.result c.size.ensures.read)),
+)
 
 pub run_if-returns-then-kind-eq-TRUE : goal.run_if-returns-then-kind-eq-TRUE
 run_if-returns-then-kind-eq-TRUE t c =
-    record { ran = chose_yes c.requires c.run_form-r.ensures.ran c.run_form-r.auto.bindings
-    c.run_form-r.auto.results (sym c.opened.ensures.told ∙ c.in-Done.is)
-    (runs_as c.branch-part.ensures.made c.run_form.ensures.ran) c.if-kind-eq-TRUE.true
-    (row_behind c.args.forms.now (c.args.c.row + 3) c.size.result c.size.ensures.read) }
+    record {
+      ran = chose_yes c.requires c.run_form-r.ensures.ran c.run_form-r.auto.bindings
+          c.run_form-r.auto.results (sym c.opened.ensures.told ∙ c.in-Done.is)
+          (runs_as c.branch-part.ensures.made c.run_form.ensures.ran) c.if-kind-eq-TRUE.true
+          (row_behind c.args.forms.now (c.args.c.row + 3) c.size.result c.size.ensures.read);
+    }
 
 pub run_if-overflow_add-second-then-kind-eq-FALSE : goal.run_if-overflow_add-second-then-kind-eq-FALSE
 run_if-overflow_add-second-then-kind-eq-FALSE t c =
@@ -230,62 +244,63 @@ run_if-overflow_add-second-then-kind-eq-FALSE t c =
     )
 
 pub run_if-run_form-requires-then-kind-eq-FALSE : goal.run_if-run_form-requires-then-kind-eq-FALSE
-run_if-run_form-requires-then-kind-eq-FALSE t c =
-    (
-      omega (
-        arith,
-        c.decreases,
-        ap (λ x. x.row) c.branch-part-then-kind-eq-FALSE.ensures.made,
-        (row_third c.args.forms.now (c.args.c.row + 3) (c.args.c.row + 3 + c.size.result)
-            c.size-then-kind-eq-FALSE.result
-            (row_behind c.args.forms.now (c.args.c.row + 3) c.size.result c.size.ensures.read)
-            c.size-then-kind-eq-FALSE.ensures.read),
-        (row_behind c.args.forms.now (c.args.c.row + 3) c.size.result c.size.ensures.read),
-        (choose_within c.requires).2,
-      ),
-      ready_as c.branch-part-then-kind-eq-FALSE.ensures.made
-          (no_ready c.requires c.run_form-r.ensures.ran c.run_form-r.auto.bindings
-          c.run_form-r.auto.results (sym c.opened.ensures.told ∙ c.in-Done.is)
-          (row_third c.args.forms.now (c.args.c.row + 3) (c.args.c.row + 3 + c.size.result)
-          c.size-then-kind-eq-FALSE.result
-          (row_behind c.args.forms.now (c.args.c.row + 3) c.size.result c.size.ensures.read)
-          c.size-then-kind-eq-FALSE.ensures.read)),
-    )
+run_if-run_form-requires-then-kind-eq-FALSE t c = (
+  omega (
+    arith,
+    c.decreases,
+    ap (λ x. x.row) c.branch-part-then-kind-eq-FALSE.ensures.made,
+    (row_third c.args.forms.now (c.args.c.row + 3) (c.args.c.row + 3 + c.size.result)
+        c.size-then-kind-eq-FALSE.result
+        (row_behind c.args.forms.now (c.args.c.row + 3) c.size.result c.size.ensures.read)
+        c.size-then-kind-eq-FALSE.ensures.read),
+    (row_behind c.args.forms.now (c.args.c.row + 3) c.size.result c.size.ensures.read),
+    (choose_within c.requires).2,
+  ),
+  ready_as c.branch-part-then-kind-eq-FALSE.ensures.made
+      (no_ready c.requires c.run_form-r.ensures.ran c.run_form-r.auto.bindings
+      c.run_form-r.auto.results (sym c.opened.ensures.told ∙ c.in-Done.is)
+      (row_third c.args.forms.now (c.args.c.row + 3) (c.args.c.row + 3 + c.size.result)
+      c.size-then-kind-eq-FALSE.result
+      (row_behind c.args.forms.now (c.args.c.row + 3) c.size.result c.size.ensures.read)
+      c.size-then-kind-eq-FALSE.ensures.read)),
+)
 
 pub run_if-returns-then-kind-eq-FALSE : goal.run_if-returns-then-kind-eq-FALSE
 run_if-returns-then-kind-eq-FALSE t c =
-    record { ran = chose_no c.requires c.run_form-r.ensures.ran c.run_form-r.auto.bindings c.run_form-r.auto.results
-    (sym c.opened.ensures.told ∙ c.in-Done.is)
-    (runs_as c.branch-part-then-kind-eq-FALSE.ensures.made c.run_form-then-kind-eq-FALSE.ensures.ran)
-    c.if-kind-eq-FALSE.true (row_third c.args.forms.now (c.args.c.row + 3)
-    (c.args.c.row + 3 + c.size.result) c.size-then-kind-eq-FALSE.result
-    (row_behind c.args.forms.now (c.args.c.row + 3) c.size.result c.size.ensures.read)
-    c.size-then-kind-eq-FALSE.ensures.read) }
+    record {
+      ran = chose_no c.requires c.run_form-r.ensures.ran c.run_form-r.auto.bindings c.run_form-r.auto.results
+          (sym c.opened.ensures.told ∙ c.in-Done.is)
+          (runs_as c.branch-part-then-kind-eq-FALSE.ensures.made c.run_form-then-kind-eq-FALSE.ensures.ran)
+          c.if-kind-eq-FALSE.true (row_third c.args.forms.now (c.args.c.row + 3)
+          (c.args.c.row + 3 + c.size.result) c.size-then-kind-eq-FALSE.result
+          (row_behind c.args.forms.now (c.args.c.row + 3) c.size.result c.size.ensures.read)
+          c.size-then-kind-eq-FALSE.ensures.read);
+    }
 
 pub run_if-returns : goal.run_if-returns
 run_if-returns t c =
-    record { ran = subst (Runs _ _ _ _ _ _ _ _ _) (sym c.refused.ensures.packed.0)
-    (choose_stuck c.requires c.run_form-r.ensures.ran c.run_form-r.auto.bindings
-    c.run_form-r.auto.results (sym c.opened.ensures.told ∙ c.in-Done.is)
-    c.if-kind-eq-TRUE.false c.if-kind-eq-FALSE.false c.place-place.ensures.read) }
+    record {
+      ran = subst (Runs _ _ _ _ _ _ _ _ _) (sym c.refused.ensures.packed.0)
+          (choose_stuck c.requires c.run_form-r.ensures.ran c.run_form-r.auto.bindings
+          c.run_form-r.auto.results (sym c.opened.ensures.told ∙ c.in-Done.is)
+          c.if-kind-eq-TRUE.false c.if-kind-eq-FALSE.false c.place-place.ensures.read);
+    }
 
 pub run_on-run_when-requires : goal.run_on-run_when-requires
-run_on-run_when-requires t c =
-    (
-      omega (arith, c.decreases),
-      narrowed c.requires c.code-code.ensures.read (omega (arith, c.if-code-eq-WHEN.true)) (omega (arith, c.if-code-eq-WHEN.true)),
-    )
+run_on-run_when-requires t c = (
+  omega (arith, c.decreases),
+  narrowed c.requires c.code-code.ensures.read (omega (arith, c.if-code-eq-WHEN.true)) (omega (arith, c.if-code-eq-WHEN.true)),
+)
 
 pub run_on-returns-then-code-eq-WHEN : goal.run_on-returns-then-code-eq-WHEN
 run_on-returns-then-code-eq-WHEN t c =
     record { ran = c.run_when.ensures.ran }
 
 pub run_on-run_each-requires : goal.run_on-run_each-requires
-run_on-run_each-requires t c =
-    (
-      omega (arith, c.decreases),
-      narrowed c.requires c.code-code.ensures.read (omega (arith, c.if-code-eq-EACH.true)) (omega (arith, c.if-code-eq-EACH.true)),
-    )
+run_on-run_each-requires t c = (
+  omega (arith, c.decreases),
+  narrowed c.requires c.code-code.ensures.read (omega (arith, c.if-code-eq-EACH.true)) (omega (arith, c.if-code-eq-EACH.true)),
+)
 
 pub run_on-returns-then-code-eq-EACH : goal.run_on-returns-then-code-eq-EACH
 run_on-returns-then-code-eq-EACH t c =
@@ -305,9 +320,11 @@ run_on-give_value-requires t c =
 
 pub run_on-returns : goal.run_on-returns
 run_on-returns t c =
-    record { ran = value_followed c.requires c.code-code.ensures.read
-    (omega (arith, c.requires.early, c.code-code.ensures.read, c.if-code-eq-WHEN.false, c.if-code-eq-EACH.false, c.if-code-eq-COUNT.false))
-    c.give_value.ensures.given }
+    record {
+      ran = value_followed c.requires c.code-code.ensures.read
+          (omega (arith, c.requires.early, c.code-code.ensures.read, c.if-code-eq-WHEN.false, c.if-code-eq-EACH.false, c.if-code-eq-COUNT.false))
+          c.give_value.ensures.given;
+    }
 
 pub run_pack-overflow_add-end : goal.run_pack-overflow_add-end
 run_pack-overflow_add-end t c =
@@ -330,11 +347,10 @@ run_pack-loop-row-init t c =
     pack.pack_begins c.requires (ap (λ n. c.args.c.row + n) c.size.ensures.read)
 
 pub run_pack-run_form-r-requires : goal.run_pack-run_form-r-requires
-run_pack-run_form-r-requires t c =
-    (
-      omega (arith, c.decreases, c.loop-row.invariant.later, pack.pair_within c.requires c.loop-row.invariant c.loop-row-test.true),
-      pack.part_ready c.requires c.loop-row.invariant c.loop-row-test.true c.name-name.ensures.read,
-    )
+run_pack-run_form-r-requires t c = (
+  omega (arith, c.decreases, c.loop-row.invariant.later, pack.pair_within c.requires c.loop-row.invariant c.loop-row-test.true),
+  pack.part_ready c.requires c.loop-row.invariant c.loop-row-test.true c.name-name.ensures.read,
+)
 
 pub run_pack-shape_of-bindings-in_default : goal.run_pack-shape_of-bindings-in_default
 run_pack-shape_of-bindings-in_default t c =
@@ -346,8 +362,10 @@ run_pack-shape_of-results-in_default t c =
 
 pub run_pack-returns-in_default : goal.run_pack-returns-in_default
 run_pack-returns-in_default t c =
-    record { ran = pack.part_refused c.requires c.loop-row.invariant c.loop-row-test.true c.name-name.ensures.read
-    c.run_form-r.ensures.ran (sym c.opened.ensures.told ∙ c.in_default.is) }
+    record {
+      ran = pack.part_refused c.requires c.loop-row.invariant c.loop-row-test.true c.name-name.ensures.read
+          c.run_form-r.ensures.ran (sym c.opened.ensures.told ∙ c.in_default.is);
+    }
 
 pub run_pack-overflow_add-row-in-loop-row : goal.run_pack-overflow_add-row-in-loop-row
 run_pack-overflow_add-row-in-loop-row t c =
@@ -382,8 +400,10 @@ run_pack-shape_of-results t c =
 
 pub run_pack-returns : goal.run_pack-returns
 run_pack-returns t c =
-    record { ran = subst (Runs _ _ _ _ _ _ _ _ _) (sym c.done.ensures.packed)
-    (pack.pack_ends c.requires c.loop-row.invariant c.loop-row-test.false c.close_record.ensures.closed) }
+    record {
+      ran = subst (Runs _ _ _ _ _ _ _ _ _) (sym c.done.ensures.packed)
+          (pack.pack_ends c.requires c.loop-row.invariant c.loop-row-test.false c.close_record.ensures.closed);
+    }
 
 pub run_when-offset_bounds-bindings-bound : goal.run_when-offset_bounds-bindings-bound
 run_when-offset_bounds-bindings-bound t c =
@@ -406,13 +426,12 @@ run_when-overflow_add-bound t c =
     omega (arith, when_room c.requires, c.well_formed)
 
 pub run_when-run_form-requires : goal.run_when-run_form-requires
-run_when-run_form-requires t c =
-    (
-      omega (arith, c.decreases, ap (λ x. x.row) c.branch-part.ensures.made, c.size.ensures.read, (when_within c.requires).0),
-      ready_as c.branch-part.ensures.made (when_yes_ready
-          (row_behind c.args.forms.now (c.args.c.row + 3) c.size.result c.size.ensures.read)
-          refl c.requires),
-    )
+run_when-run_form-requires t c = (
+  omega (arith, c.decreases, ap (λ x. x.row) c.branch-part.ensures.made, c.size.ensures.read, (when_within c.requires).0),
+  ready_as c.branch-part.ensures.made (when_yes_ready
+      (row_behind c.args.forms.now (c.args.c.row + 3) c.size.result c.size.ensures.read)
+      refl c.requires),
+)
 
 pub run_when-shape_of-bindings-then-is_kind : goal.run_when-shape_of-bindings-then-is_kind
 run_when-shape_of-bindings-then-is_kind t c =
@@ -420,9 +439,11 @@ run_when-shape_of-bindings-then-is_kind t c =
 
 pub run_when-returns-then-is_kind : goal.run_when-returns-then-is_kind
 run_when-returns-then-is_kind t c =
-    record { ran = when_yes (row_behind c.args.forms.now (c.args.c.row + 3) c.size.result c.size.ensures.read) refl
-    c.operand.ensures.read c.is_kind.ensures.told c.requires c.if-is_kind.true
-    (runs_as c.branch-part.ensures.made c.run_form.ensures.ran) }
+    record {
+      ran = when_yes (row_behind c.args.forms.now (c.args.c.row + 3) c.size.result c.size.ensures.read) refl
+          c.operand.ensures.read c.is_kind.ensures.told c.requires c.if-is_kind.true
+          (runs_as c.branch-part.ensures.made c.run_form.ensures.ran);
+    }
 
 pub run_when-overflow_add-first-2 : goal.run_when-overflow_add-first-2
 run_when-overflow_add-first-2 t c =
@@ -439,25 +460,24 @@ run_when-overflow_add-bound-2 t c =
     omega (arith, when_room c.requires, c.well_formed)
 
 pub run_when-run_form-requires-2 : goal.run_when-run_form-requires-2
-run_when-run_form-requires-2 t c =
-    (
-      omega (
-        arith,
-        c.decreases,
-        ap (λ x. x.row) c.branch-part-2.ensures.made,
-        (row_third c.args.forms.now (c.args.c.row + 3) (c.args.c.row + 3 + c.size.result)
-            c.size-2.result
-            (row_behind c.args.forms.now (c.args.c.row + 3) c.size.result c.size.ensures.read)
-            c.size-2.ensures.read),
-        (row_behind c.args.forms.now (c.args.c.row + 3) c.size.result c.size.ensures.read),
-        (when_within c.requires).1,
-      ),
-      ready_as c.branch-part-2.ensures.made
-          (when_no_ready (row_behind c.args.forms.now (c.args.c.row + 3) c.size.result c.size.ensures.read)
-          (row_behind c.args.forms.now (c.args.c.row + 3 + c.size.result) c.size-2.result
-          c.size-2.ensures.read)
-          c.requires),
-    )
+run_when-run_form-requires-2 t c = (
+  omega (
+    arith,
+    c.decreases,
+    ap (λ x. x.row) c.branch-part-2.ensures.made,
+    (row_third c.args.forms.now (c.args.c.row + 3) (c.args.c.row + 3 + c.size.result)
+        c.size-2.result
+        (row_behind c.args.forms.now (c.args.c.row + 3) c.size.result c.size.ensures.read)
+        c.size-2.ensures.read),
+    (row_behind c.args.forms.now (c.args.c.row + 3) c.size.result c.size.ensures.read),
+    (when_within c.requires).1,
+  ),
+  ready_as c.branch-part-2.ensures.made
+      (when_no_ready (row_behind c.args.forms.now (c.args.c.row + 3) c.size.result c.size.ensures.read)
+      (row_behind c.args.forms.now (c.args.c.row + 3 + c.size.result) c.size-2.result
+      c.size-2.ensures.read)
+      c.requires),
+)
 
 pub run_when-shape_of-bindings : goal.run_when-shape_of-bindings
 run_when-shape_of-bindings t c =
@@ -465,9 +485,11 @@ run_when-shape_of-bindings t c =
 
 pub run_when-returns : goal.run_when-returns
 run_when-returns t c =
-    record { ran = when_no (row_behind c.args.forms.now (c.args.c.row + 3) c.size.result c.size.ensures.read)
-    (row_behind c.args.forms.now (c.args.c.row + 3 + c.size.result) c.size-2.result
-    c.size-2.ensures.read)
-    c.operand.ensures.read c.is_kind.ensures.told c.requires
-    c.if-is_kind.false
-    (runs_as c.branch-part-2.ensures.made c.run_form-2.ensures.ran) }
+    record {
+      ran = when_no (row_behind c.args.forms.now (c.args.c.row + 3) c.size.result c.size.ensures.read)
+          (row_behind c.args.forms.now (c.args.c.row + 3 + c.size.result) c.size-2.result
+          c.size-2.ensures.read)
+          c.operand.ensures.read c.is_kind.ensures.told c.requires
+          c.if-is_kind.false
+          (runs_as c.branch-part-2.ensures.made c.run_form-2.ensures.ran);
+    }

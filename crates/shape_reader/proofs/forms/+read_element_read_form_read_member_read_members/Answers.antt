@@ -1,7 +1,6 @@
 -- The proof of the cycle of calls {read_element, read_form, read_member, read_members}. The nesting left falls: a shape's measure is three
 -- times what is left, that of a member's shape one more, and its parts', whose shapes have one less, lies between. The loop's invariant says
 -- what has been read of the members: `MembersSoFar`. Assumes nothing.
-use Prim.Native.Nat.{◌-◌}
 use native.Mathlib.Omega.{arith}
 use Rattle.shape_reader.proofs.ElementForms.{element_read, element_none}
 use Rattle.shape_reader.proofs.LeafForms.{leaf_bounds, leaf_read}
@@ -51,20 +50,21 @@ read_form-overflow_sub-left t c =
     )
 
 pub read_form-read_element-e-requires : goal.read_form-read_element-e-requires
-read_form-read_element-e-requires t c =
-    (
-      omega (
-        arith,
-        c.decreases,
-        (opens c.args.name c.args.c c.requires c.open_form.ensures.read c.in-Form.is).nested,
-      ),
-      inner_ready c.args.name c.args.c c.requires c.open_form.ensures.read c.in-Form.is,
-    )
+read_form-read_element-e-requires t c = (
+  omega (
+    arith,
+    c.decreases,
+    (opens c.args.name c.args.c c.requires c.open_form.ensures.read c.in-Form.is).nested,
+  ),
+  inner_ready c.args.name c.args.c c.requires c.open_form.ensures.read c.in-Form.is,
+)
 
 pub read_form-returns-in_default : goal.read_form-returns-in_default
 read_form-returns-in_default t c =
-    record { read = element_refused c.args.name c.args.c c.requires c.open_form.ensures.read c.in-Form.is
-    c.read_element-e.ensures.read c.in_default.is }
+    record {
+      read = element_refused c.args.name c.args.c c.requires c.open_form.ensures.read c.in-Form.is
+          c.read_element-e.ensures.read c.in_default.is;
+    }
 
 pub read_form-shape_of-shapes-in_default : goal.read_form-shape_of-shapes-in_default
 read_form-shape_of-shapes-in_default t c =
@@ -82,21 +82,22 @@ read_form-overflow_sub-left-in-Form t c =
     )
 
 pub read_form-read_members-m-requires : goal.read_form-read_members-m-requires
-read_form-read_members-m-requires t c =
-    (
-      omega (
-        arith,
-        c.decreases,
-        (opens c.args.name c.args.c c.requires c.open_form.ensures.read c.in-Form.is).nested,
-      ),
-      members_ready c.args.name c.args.c c.requires c.open_form.ensures.read c.in-Form.is
-          c.read_element-e.ensures.read c.in-Done.is,
-    )
+read_form-read_members-m-requires t c = (
+  omega (
+    arith,
+    c.decreases,
+    (opens c.args.name c.args.c c.requires c.open_form.ensures.read c.in-Form.is).nested,
+  ),
+  members_ready c.args.name c.args.c c.requires c.open_form.ensures.read c.in-Form.is
+      c.read_element-e.ensures.read c.in-Done.is,
+)
 
 pub read_form-returns-in_default-m : goal.read_form-returns-in_default-m
 read_form-returns-in_default-m t c =
-    record { read = members_refused c.args.name c.args.c c.requires c.open_form.ensures.read c.in-Form.is
-    c.read_element-e.ensures.read c.in-Done.is c.read_members-m.ensures.read c.in_default-m.is }
+    record {
+      read = members_refused c.args.name c.args.c c.requires c.open_form.ensures.read c.in-Form.is
+          c.read_element-e.ensures.read c.in-Done.is c.read_members-m.ensures.read c.in_default-m.is;
+    }
 
 pub read_form-shape_of-shapes-in_default-m : goal.read_form-shape_of-shapes-in_default-m
 read_form-shape_of-shapes-in_default-m t c =
@@ -136,20 +137,25 @@ read_form-overflow_mul-to t c =
 
 pub read_form-put_row-requires : goal.read_form-put_row-requires
 read_form-put_row-requires t c =
-    record { row_in_bounds = (row_bounds c.args.name c.args.c c.requires c.open_form.ensures.read c.in-Form.is
-          c.read_element-e.ensures.read c.in-Done.is c.read_members-m.ensures.read c.in-Done-m.is).3; fits = omega (
+    record {
+      row_in_bounds = (row_bounds c.args.name c.args.c c.requires c.open_form.ensures.read c.in-Form.is
+          c.read_element-e.ensures.read c.in-Done.is c.read_members-m.ensures.read c.in-Done-m.is).3;
+      fits = omega (
         arith,
         (row_bounds c.args.name c.args.c c.requires c.open_form.ensures.read c.in-Form.is
             c.read_element-e.ensures.read c.in-Done.is c.read_members-m.ensures.read c.in-Done-m.is).1,
         (row_bounds c.args.name c.args.c c.requires c.open_form.ensures.read c.in-Form.is
             c.read_element-e.ensures.read c.in-Done.is c.read_members-m.ensures.read c.in-Done-m.is).2,
-      ) }
+      );
+    }
 
 pub read_form-returns-in-Done-m : goal.read_form-returns-in-Done-m
 read_form-returns-in-Done-m t c =
-    record { read = form_read c.args.name c.args.c c.requires c.open_form.ensures.read c.in-Form.is
-    c.read_element-e.ensures.read c.in-Done.is c.read_members-m.ensures.read c.in-Done-m.is
-    c.put_row.ensures.put }
+    record {
+      read = form_read c.args.name c.args.c c.requires c.open_form.ensures.read c.in-Form.is
+          c.read_element-e.ensures.read c.in-Done.is c.read_members-m.ensures.read c.in-Done-m.is
+          c.put_row.ensures.put;
+    }
 
 pub read_form-shape_of-shapes : goal.read_form-shape_of-shapes
 read_form-shape_of-shapes t c =
@@ -177,10 +183,13 @@ read_member-overflow_mul-c t c =
 
 pub read_member-put_row-requires : goal.read_member-put_row-requires
 read_member-put_row-requires t c =
-    record { row_in_bounds = (leaf_bounds c.args.name c.args.c c.requires c.find_leaf.ensures.found c.in-Of.is).3; fits = omega (
+    record {
+      row_in_bounds = (leaf_bounds c.args.name c.args.c c.requires c.find_leaf.ensures.found c.in-Of.is).3;
+      fits = omega (
         arith,
         (leaf_bounds c.args.name c.args.c c.requires c.find_leaf.ensures.found c.in-Of.is).2,
-      ) }
+      );
+    }
 
 pub read_member-overflow_add-to : goal.read_member-overflow_add-to
 read_member-overflow_add-to t c =
@@ -196,8 +205,10 @@ read_member-read_form-requires t c =
 
 pub read_member-returns-in-Of : goal.read_member-returns-in-Of
 read_member-returns-in-Of t c =
-    record { read = leaf_read c.args.name c.args.c c.requires c.find_leaf.ensures.found c.in-Of.is
-    c.put_row.ensures.put }
+    record {
+      read = leaf_read c.args.name c.args.c c.requires c.find_leaf.ensures.found c.in-Of.is
+          c.put_row.ensures.put;
+    }
 
 pub read_member-shape_of-shapes-in-Of : goal.read_member-shape_of-shapes-in-Of
 read_member-shape_of-shapes-in-Of t c =
@@ -224,19 +235,20 @@ read_members-next_member-requires t c =
     (turn_ready c.args.c c.loop-from.here c.loop-from.invariant c.requires).placed
 
 pub read_members-read_member-r-requires : goal.read_members-read_member-r-requires
-read_members-read_member-r-requires t c =
-    (
-      omega (arith, c.decreases),
-      member_ready c.args.c c.in-More.from
-          (member_turn c.args.c c.loop-from.here c.loop-from.invariant c.next_member.ensures.read c.in-More.is)
-          c.requires,
-    )
+read_members-read_member-r-requires t c = (
+  omega (arith, c.decreases),
+  member_ready c.args.c c.in-More.from
+      (member_turn c.args.c c.loop-from.here c.loop-from.invariant c.next_member.ensures.read c.in-More.is)
+      c.requires,
+)
 
 pub read_members-returns-in_default : goal.read_members-returns-in_default
 read_members-returns-in_default t c =
-    record { read = member_refused c.args.c c.in-More.from
-    (member_turn c.args.c c.loop-from.here c.loop-from.invariant c.next_member.ensures.read c.in-More.is)
-    c.read_member-r.ensures.read c.in_default.is }
+    record {
+      read = member_refused c.args.c c.in-More.from
+          (member_turn c.args.c c.loop-from.here c.loop-from.invariant c.next_member.ensures.read c.in-More.is)
+          c.read_member-r.ensures.read c.in_default.is;
+    }
 
 pub read_members-shape_of-shapes-in_default : goal.read_members-shape_of-shapes-in_default
 read_members-shape_of-shapes-in_default t c =
@@ -254,9 +266,11 @@ read_members-close_member-e-requires t c =
 
 pub read_members-returns-in_default-e : goal.read_members-returns-in_default-e
 read_members-returns-in_default-e t c =
-    record { read = member_open_still c.args.c c.in-More.from
-    (member_turn c.args.c c.loop-from.here c.loop-from.invariant c.next_member.ensures.read c.in-More.is)
-    c.read_member-r.ensures.read c.in-Done.is c.close_member-e.ensures.read c.in_default-e.is }
+    record {
+      read = member_open_still c.args.c c.in-More.from
+          (member_turn c.args.c c.loop-from.here c.loop-from.invariant c.next_member.ensures.read c.in-More.is)
+          c.read_member-r.ensures.read c.in-Done.is c.close_member-e.ensures.read c.in_default-e.is;
+    }
 
 pub read_members-shape_of-shapes-in_default-e : goal.read_members-shape_of-shapes-in_default-e
 read_members-shape_of-shapes-in_default-e t c =

@@ -41,14 +41,16 @@ returns-in-1919247107 c = record { told = kind_told c.word_value.ensures.told (k
 pub returns-in_default : goal.returns-in_default
 unfolding kind_words all_kinds kind_name bytes kind_bit word_value joined fits
 returns-in_default c =
-    record { told = let t = c.word_value.ensures.told in
-    let r = c.in_default.in_default-own.rest in
-    kind_missed {rows = kind_words}
-    (misses_one (t.other (kind_name Kind.null) refl r.0.0.0.0.0.0.1)
-    (misses_one (t.other (kind_name Kind.bool) refl r.0.0.0.0.0.1)
-    (misses_one (t.other (kind_name Kind.int) refl r.0.0.0.0.1)
-    (misses_one (t.other (kind_name Kind.dec) refl r.0.0.0.1)
-    (misses_one (t.other (kind_name Kind.text) refl r.0.0.1)
-    (misses_one (t.other (kind_name Kind.list) refl r.0.1)
-    (misses_one (t.other (kind_name Kind.rec) refl r.1)
-    misses_none))))))) }
+    record {
+      told = let t = c.word_value.ensures.told in
+          let r = c.in_default.in_default-own.rest in
+          kind_missed {rows = kind_words}
+          (misses_one (t.other (kind_name Kind.null) refl r.0.0.0.0.0.0.1)
+          (misses_one (t.other (kind_name Kind.bool) refl r.0.0.0.0.0.1)
+          (misses_one (t.other (kind_name Kind.int) refl r.0.0.0.0.1)
+          (misses_one (t.other (kind_name Kind.dec) refl r.0.0.0.1)
+          (misses_one (t.other (kind_name Kind.text) refl r.0.0.1)
+          (misses_one (t.other (kind_name Kind.list) refl r.0.1)
+          (misses_one (t.other (kind_name Kind.rec) refl r.1)
+          misses_none)))))));
+    }

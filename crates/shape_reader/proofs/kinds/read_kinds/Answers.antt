@@ -1,5 +1,4 @@
 -- `shape_reader::kinds::read_kinds` meets its contract. Assumes nothing.
-use Prim.Native.Nat.{◌-◌}
 use mathlib.Core.Path.{subst}
 use mathlib.Core.Bool.{Bool}
 use native.Mathlib.Omega.{arith}
@@ -19,11 +18,13 @@ next_word-w-requires c = c.loop-place.invariant.within
 
 pub returns-in_default : goal.returns-in_default
 returns-in_default c =
-    record { read = record {
-      answer =
-          kinds_end c.loop-place.invariant (subst (λ (r : Spelled). WordAnswer c.args.text.now c.loop-place.i r)
-          c.in_default.is c.next_word-w.ensures.read.answer);
-    } }
+    record {
+      read = record {
+        answer =
+            kinds_end c.loop-place.invariant (subst (λ (r : Spelled). WordAnswer c.args.text.now c.loop-place.i r)
+            c.in_default.is c.next_word-w.ensures.read.answer);
+      };
+    }
 
 pub kind_of-kind-requires : goal.kind_of-kind-requires
 kind_of-kind-requires c = let f = found_word c.next_word-w.ensures.read c.in-At.is in (omega (arith, f.ahead), f.within)
@@ -51,10 +52,12 @@ loop-place-preserved c =
 
 pub returns-else-may_come : goal.returns-else-may_come
 returns-else-may_come c =
-    record { read = record {
-      answer =
-          no_kind_word c.loop-place.invariant (found_word c.next_word-w.ensures.read c.in-At.is)
-          c.kind_of-kind.ensures.told
-          (subst (λ (b : Bool). Follows c.loop-place.kinds.kinds c.kind_of-kind.result.kinds b) c.if-may_come.false
-          c.may_come.ensures.told);
-    } }
+    record {
+      read = record {
+        answer =
+            no_kind_word c.loop-place.invariant (found_word c.next_word-w.ensures.read c.in-At.is)
+            c.kind_of-kind.ensures.told
+            (subst (λ (b : Bool). Follows c.loop-place.kinds.kinds c.kind_of-kind.result.kinds b) c.if-may_come.false
+            c.may_come.ensures.told);
+      };
+    }

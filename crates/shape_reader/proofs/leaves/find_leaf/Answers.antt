@@ -7,7 +7,9 @@ use Rattle.shape_reader.proofs.leaves.find_leaf.Goals as goal
 
 pub returns : goal.returns
 returns c =
-    record { found = leaf_finds c.args.values c.args.left c.args.c
-    (subst (λ (b : Bool). JudgesFull c.args.values c.args.left c.args.c.begun b) c.if-is_full.false
-    c.is_full.ensures.judged)
-    c.skip_space.ensures.skipped c.leaf_at.ensures.told }
+    record {
+      found = leaf_finds c.args.values c.args.left c.args.c
+          (subst (λ (b : Bool). JudgesFull c.args.values c.args.left c.args.c.begun b) c.if-is_full.false
+          c.is_full.ensures.judged)
+          c.skip_space.ensures.skipped c.leaf_at.ensures.told;
+    }

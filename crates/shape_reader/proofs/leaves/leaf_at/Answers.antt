@@ -4,16 +4,19 @@ use Rattle.shape_reader.proofs.LeafForms.{shape_stands, null_stands, others_smal
 use Rattle.shape_reader.proofs.leaves.leaf_at.Goals as goal
 
 pub returns-then-x-ne465676103200 : goal.returns-then-x-ne465676103200
-returns-then-x-ne465676103200 c = record { told = others_leaf (shape_stands c.eight_at.ensures.told c.if-eight_at-ne111533344977704.false) c.other_kinds.ensures.told }
+returns-then-x-ne465676103200 c =
+    record { told = others_leaf (shape_stands c.eight_at.ensures.told c.if-eight_at-ne111533344977704.false) c.other_kinds.ensures.told }
 
 pub returns-then-x-eq45545652842016 : goal.returns-then-x-eq45545652842016
 returns-then-x-eq45545652842016 c =
-    record { told = record {
-      answer = (
-        shape_stands c.eight_at.ensures.told c.if-eight_at-ne111533344977704.false,
-        null_stands c.eight_at-x.ensures.told c.if-x-eq45545652842016.true (omega arith),
-      );
-    } }
+    record {
+      told = record {
+        answer = (
+          shape_stands c.eight_at.ensures.told c.if-eight_at-ne111533344977704.false,
+          null_stands c.eight_at-x.ensures.told c.if-x-eq45545652842016.true (omega arith),
+        );
+      };
+    }
 
 pub overflow_add-all : goal.overflow_add-all
 overflow_add-all c =
@@ -21,10 +24,12 @@ overflow_add-all c =
 
 pub returns-in-Of : goal.returns-in-Of
 returns-in-Of c =
-    record { told = record {
-      answer = (
-        shape_stands c.eight_at.ensures.told c.if-eight_at-ne111533344977704.false,
-        null_others c.args.at c.eight_at-x.ensures.told c.if-x-ne465676103200.false
-            c.other_kinds-2.ensures.told c.in-Of.is,
-      );
-    } }
+    record {
+      told = record {
+        answer = (
+          shape_stands c.eight_at.ensures.told c.if-eight_at-ne111533344977704.false,
+          null_others c.args.at c.eight_at-x.ensures.told c.if-x-ne465676103200.false
+              c.other_kinds-2.ensures.told c.in-Of.is,
+        );
+      };
+    }

@@ -8,8 +8,10 @@ returns-then-x-eq178047052064 c = record { told = record { answer = int_stands c
 
 pub returns-then-text-at-eq41 : goal.returns-then-text-at-eq41
 returns-then-text-at-eq41 c =
-    record { told = record {
-      answer =
-          dec_stands c.eight_at-x.ensures.told c.if-x-eq7162240872957765920.true (omega (arith, c.if-text-at-lt9.false, c.requires))
-          c.if-text-at-eq41.true;
-    } }
+    record {
+      told = record {
+        answer =
+            dec_stands c.eight_at-x.ensures.told c.if-x-eq7162240872957765920.true (omega (arith, c.if-text-at-lt9.false, c.requires))
+            c.if-text-at-eq41.true;
+      };
+    }

@@ -10,23 +10,29 @@ returns-then-first c = record { told = λ fs h. first_fits (text_in c.args.pool.
 pub returns-in-Less : goal.returns-in-Less
 unfolding ordering_of
 returns-in-Less c =
-    record { told = λ fs h. ap is_less (sym (ap ordering_of c.in-Less.is))
-    ∙ compared_fits c.args.pool.now c.args.w c.args.n c.compare.result c.requires.0 c.requires.1
-    c.if-first.false c.text_word.ensures.split c.text_bytes.ensures.split
-    c.compare.ensures.compared fs h }
+    record {
+      told = λ fs h. ap is_less (sym (ap ordering_of c.in-Less.is))
+          ∙ compared_fits c.args.pool.now c.args.w c.args.n c.compare.result c.requires.0 c.requires.1
+          c.if-first.false c.text_word.ensures.split c.text_bytes.ensures.split
+          c.compare.ensures.compared fs h;
+    }
 
 pub returns-in-Equal : goal.returns-in-Equal
 unfolding ordering_of
 returns-in-Equal c =
-    record { told = λ fs h. ap is_less (sym (ap ordering_of c.in-Equal.is))
-    ∙ compared_fits c.args.pool.now c.args.w c.args.n c.compare.result c.requires.0 c.requires.1
-    c.if-first.false c.text_word.ensures.split c.text_bytes.ensures.split
-    c.compare.ensures.compared fs h }
+    record {
+      told = λ fs h. ap is_less (sym (ap ordering_of c.in-Equal.is))
+          ∙ compared_fits c.args.pool.now c.args.w c.args.n c.compare.result c.requires.0 c.requires.1
+          c.if-first.false c.text_word.ensures.split c.text_bytes.ensures.split
+          c.compare.ensures.compared fs h;
+    }
 
 pub returns-in-Greater : goal.returns-in-Greater
 unfolding ordering_of
 returns-in-Greater c =
-    record { told = λ fs h. ap is_less (sym (ap ordering_of c.in-Greater.is))
-    ∙ compared_fits c.args.pool.now c.args.w c.args.n c.compare.result c.requires.0 c.requires.1
-    c.if-first.false c.text_word.ensures.split c.text_bytes.ensures.split
-    c.compare.ensures.compared fs h }
+    record {
+      told = λ fs h. ap is_less (sym (ap ordering_of c.in-Greater.is))
+          ∙ compared_fits c.args.pool.now c.args.w c.args.n c.compare.result c.requires.0 c.requires.1
+          c.if-first.false c.text_word.ensures.split c.text_bytes.ensures.split
+          c.compare.ensures.compared fs h;
+    }

@@ -43,15 +43,21 @@ text_reference-name-requires c =
 
 pub returns-then-ascends : goal.returns-then-ascends
 returns-then-ascends c =
-    record { read = name_taken c.args.first c.args.latest c.args.c c.requires c.read_name.ensures.read
-    c.in-Name.is c.ascends.ensures.told c.if-ascends.true c.text_reference-name.ensures.made }
+    record {
+      read = name_taken c.args.first c.args.latest c.args.c c.requires c.read_name.ensures.read
+          c.in-Name.is c.ascends.ensures.told c.if-ascends.true c.text_reference-name.ensures.made;
+    }
 
 pub returns-else-ascends : goal.returns-else-ascends
 returns-else-ascends c =
-    record { read = name_late c.args.first c.args.latest c.args.c c.requires c.read_name.ensures.read
-    c.in-Name.is c.ascends.ensures.told c.if-ascends.false c.refuse.ensures.made }
+    record {
+      read = name_late c.args.first c.args.latest c.args.c c.requires c.read_name.ensures.read
+          c.in-Name.is c.ascends.ensures.told c.if-ascends.false c.refuse.ensures.made;
+    }
 
 pub returns-in-Refused : goal.returns-in-Refused
 returns-in-Refused c =
-    record { read = name_refused c.args.first c.args.latest c.args.c c.requires c.read_name.ensures.read
-    c.in-Refused.is c.refuse-in-Refused.ensures.made }
+    record {
+      read = name_refused c.args.first c.args.latest c.args.c c.requires c.read_name.ensures.read
+          c.in-Refused.is c.refuse-in-Refused.ensures.made;
+    }

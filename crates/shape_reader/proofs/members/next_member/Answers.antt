@@ -28,22 +28,30 @@ overflow_add-to c =
 
 pub returns-then-has : goal.returns-then-has
 returns-then-has c =
-    record { read = member_opened c.args.first c.args.latest c.args.pool.now c.args.kinds.kinds c.args.c
-    c.next_bracket.ensures.read c.in-Opening.is c.has.ensures.told c.if-has.true
-    c.member_shape.ensures.read }
+    record {
+      read = member_opened c.args.first c.args.latest c.args.pool.now c.args.kinds.kinds c.args.c
+          c.next_bracket.ensures.read c.in-Opening.is c.has.ensures.told c.if-has.true
+          c.member_shape.ensures.read;
+    }
 
 pub returns-else-has : goal.returns-else-has
 returns-else-has c =
-    record { read = no_record c.args.first c.args.latest c.args.pool.now c.args.kinds.kinds c.args.c
-    c.next_bracket.ensures.read c.in-Opening.is c.has.ensures.told
-    c.if-has.false c.refuse.ensures.made }
+    record {
+      read = no_record c.args.first c.args.latest c.args.pool.now c.args.kinds.kinds c.args.c
+          c.next_bracket.ensures.read c.in-Opening.is c.has.ensures.told
+          c.if-has.false c.refuse.ensures.made;
+    }
 
 pub returns-in-Closing : goal.returns-in-Closing
 returns-in-Closing c =
-    record { read = shape_closed c.args.first c.args.latest c.args.pool.now c.args.kinds.kinds c.args.c
-    c.next_bracket.ensures.read c.in-Closing.is }
+    record {
+      read = shape_closed c.args.first c.args.latest c.args.pool.now c.args.kinds.kinds c.args.c
+          c.next_bracket.ensures.read c.in-Closing.is;
+    }
 
 pub returns-in-Missing : goal.returns-in-Missing
 returns-in-Missing c =
-    record { read = neither_bracket c.args.first c.args.latest c.args.pool.now c.args.kinds.kinds c.args.c
-    c.next_bracket.ensures.read c.in-Missing.is c.refuse-in-Missing.ensures.made }
+    record {
+      read = neither_bracket c.args.first c.args.latest c.args.pool.now c.args.kinds.kinds c.args.c
+          c.next_bracket.ensures.read c.in-Missing.is c.refuse-in-Missing.ensures.made;
+    }

@@ -10,13 +10,17 @@ next_text-requires c =
 
 pub returns-in-At-next_text : goal.returns-in-At-next_text
 returns-in-At-next_text c =
-    record { read = a_name c.member_word.ensures.read c.in-At.is
-    c.next_text.ensures.read c.in-At-next_text.is }
+    record {
+      read = a_name c.member_word.ensures.read c.in-At.is
+          c.next_text.ensures.read c.in-At-next_text.is;
+    }
 
 pub returns-in-Missing-next_text : goal.returns-in-Missing-next_text
 returns-in-Missing-next_text c =
-    record { read = no_name c.member_word.ensures.read c.in-At.is
-    c.next_text.ensures.read c.in-Missing-next_text.is }
+    record {
+      read = no_name c.member_word.ensures.read c.in-At.is
+          c.next_text.ensures.read c.in-Missing-next_text.is;
+    }
 
 pub returns-in-Missing : goal.returns-in-Missing
 returns-in-Missing c = record { read = no_member_word c.member_word.ensures.read c.in-Missing.is }

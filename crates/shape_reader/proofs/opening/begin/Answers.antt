@@ -8,10 +8,12 @@ use Rattle.shape_reader.proofs.opening.begin.Goals as goal
 
 pub returns-then-is_full : goal.returns-then-is_full
 returns-then-is_full c =
-    record { read = bracket_full c.args.values c.args.left c.args.c c.next_opening.ensures.read
-    c.in-At.is
-    (subst (λ (b : Bool). JudgesFull c.args.values c.args.left c.args.c.begun b) c.if-is_full.true
-    c.is_full.ensures.judged) }
+    record {
+      read = bracket_full c.args.values c.args.left c.args.c c.next_opening.ensures.read
+          c.in-At.is
+          (subst (λ (b : Bool). JudgesFull c.args.values c.args.left c.args.c.begun b) c.if-is_full.true
+          c.is_full.ensures.judged);
+    }
 
 pub overflow_add-place : goal.overflow_add-place
 overflow_add-place c =
@@ -29,21 +31,27 @@ shape_word-requires c =
 
 pub returns-in-At-shape_word : goal.returns-in-At-shape_word
 returns-in-At-shape_word c =
-    record { read = shape_begun c.args.values c.args.left c.args.c c.next_opening.ensures.read
-    c.in-At.is
-    (subst (λ (b : Bool). JudgesFull c.args.values c.args.left c.args.c.begun b) c.if-is_full.false
-    c.is_full.ensures.judged)
-    c.shape_word.ensures.read c.in-At-shape_word.is }
+    record {
+      read = shape_begun c.args.values c.args.left c.args.c c.next_opening.ensures.read
+          c.in-At.is
+          (subst (λ (b : Bool). JudgesFull c.args.values c.args.left c.args.c.begun b) c.if-is_full.false
+          c.is_full.ensures.judged)
+          c.shape_word.ensures.read c.in-At-shape_word.is;
+    }
 
 pub returns-in-Missing-shape_word : goal.returns-in-Missing-shape_word
 returns-in-Missing-shape_word c =
-    record { read = shape_missing c.args.values c.args.left c.args.c c.next_opening.ensures.read
-    c.in-At.is
-    (subst (λ (b : Bool). JudgesFull c.args.values c.args.left c.args.c.begun b) c.if-is_full.false
-    c.is_full.ensures.judged)
-    c.shape_word.ensures.read c.in-Missing-shape_word.is }
+    record {
+      read = shape_missing c.args.values c.args.left c.args.c c.next_opening.ensures.read
+          c.in-At.is
+          (subst (λ (b : Bool). JudgesFull c.args.values c.args.left c.args.c.begun b) c.if-is_full.false
+          c.is_full.ensures.judged)
+          c.shape_word.ensures.read c.in-Missing-shape_word.is;
+    }
 
 pub returns-in-Missing : goal.returns-in-Missing
 returns-in-Missing c =
-    record { read = bracket_missing c.args.values c.args.left c.args.c c.next_opening.ensures.read
-    c.in-Missing.is }
+    record {
+      read = bracket_missing c.args.values c.args.left c.args.c c.next_opening.ensures.read
+          c.in-Missing.is;
+    }

@@ -11,15 +11,19 @@ word_value-requires c =
 
 pub returns-then-word_value-word : goal.returns-then-word_value-word
 returns-then-word_value-word c =
-    record { read = λ w f e.
-    word_there c.next_word.ensures.read w c.in-At.is
-    (c.word_value.ensures.told.is w f (c.if-word_value-word.true ∙ e)) }
+    record {
+      read = λ w f e.
+          word_there c.next_word.ensures.read w c.in-At.is
+          (c.word_value.ensures.told.is w f (c.if-word_value-word.true ∙ e));
+    }
 
 pub returns-else-word_value-word : goal.returns-else-word_value-word
 returns-else-word_value-word c =
-    record { read = λ w f e.
-    word_other c.next_word.ensures.read w c.in-At.is
-    (c.word_value.ensures.told.other w f (λ i. c.if-word_value-word.false (i ∙ sym e))) }
+    record {
+      read = λ w f e.
+          word_other c.next_word.ensures.read w c.in-At.is
+          (c.word_value.ensures.told.other w f (λ i. c.if-word_value-word.false (i ∙ sym e)));
+    }
 
 pub returns-in-Missing : goal.returns-in-Missing
 returns-in-Missing c = record { read = λ w f e. word_missing c.next_word.ensures.read w c.in-Missing.is }

@@ -9,13 +9,15 @@ use Rattle.shape_reader.proofs.opening.member_word.Goals as goal
 pub returns-then-stands : goal.returns-then-stands
 unfolding low_value fits high
 returns-then-stands c =
-    record { read = record {
-      answer = (
-        c.args.at,
-        c.stands.ensures.told.found member_bytes refl (high_word _ _ refl) refl refl refl c.if-stands.true,
-        refl,
-      );
-    } }
+    record {
+      read = record {
+        answer = (
+          c.args.at,
+          c.stands.ensures.told.found member_bytes refl (high_word _ _ refl) refl refl refl c.if-stands.true,
+          refl,
+        );
+      };
+    }
 
 pub returns : goal.returns
 unfolding word_value joined fits

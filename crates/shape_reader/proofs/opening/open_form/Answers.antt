@@ -8,13 +8,17 @@ read_kinds-requires c =
 
 pub returns-in-Read : goal.returns-in-Read
 returns-in-Read c =
-    record { read = form_open c.args.c c.begin.ensures.read c.in-Behind.is c.read_kinds.ensures.read
-    c.in-Read.is }
+    record {
+      read = form_open c.args.c c.begin.ensures.read c.in-Behind.is c.read_kinds.ensures.read
+          c.in-Read.is;
+    }
 
 pub returns-in-Refused-read_kinds : goal.returns-in-Refused-read_kinds
 returns-in-Refused-read_kinds c =
-    record { read = kinds_refused c.args.c c.begin.ensures.read c.in-Behind.is c.read_kinds.ensures.read
-    c.in-Refused-read_kinds.is }
+    record {
+      read = kinds_refused c.args.c c.begin.ensures.read c.in-Behind.is c.read_kinds.ensures.read
+          c.in-Refused-read_kinds.is;
+    }
 
 pub returns-in-Refused : goal.returns-in-Refused
 returns-in-Refused c = record { read = form_refused c.args.c c.begin.ensures.read c.in-Refused.is }

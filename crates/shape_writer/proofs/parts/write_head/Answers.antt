@@ -138,14 +138,16 @@ shape_of-out c =
 pub returns : goal.returns
 unfolding bytes
 returns c =
-    record { written = writes_head
-    c.args.kinds.kinds
-    (omega (arith, c.requires))
-    c.write_bytes-j.ensures.written
-    (word_to 1 (bytes " null") c.write_word-j.ensures.written refl refl)
-    (word_to 2 (bytes " bool") c.write_word-j-2.ensures.written refl refl)
-    (word_to 4 (bytes " int") c.write_word-j-3.ensures.written refl refl)
-    (word_to 8 (bytes " dec") c.write_word-j-4.ensures.written refl refl)
-    (word_to 16 (bytes " text") c.write_word-j-5.ensures.written refl refl)
-    (word_to 32 (bytes " list") c.write_word-j-6.ensures.written refl refl)
-    (word_to 64 (bytes " rec") c.write_word.ensures.written refl refl) }
+    record {
+      written = writes_head
+          c.args.kinds.kinds
+          (omega (arith, c.requires))
+          c.write_bytes-j.ensures.written
+          (word_to 1 (bytes " null") c.write_word-j.ensures.written refl refl)
+          (word_to 2 (bytes " bool") c.write_word-j-2.ensures.written refl refl)
+          (word_to 4 (bytes " int") c.write_word-j-3.ensures.written refl refl)
+          (word_to 8 (bytes " dec") c.write_word-j-4.ensures.written refl refl)
+          (word_to 16 (bytes " text") c.write_word-j-5.ensures.written refl refl)
+          (word_to 32 (bytes " list") c.write_word-j-6.ensures.written refl refl)
+          (word_to 64 (bytes " rec") c.write_word.ensures.written refl refl);
+    }

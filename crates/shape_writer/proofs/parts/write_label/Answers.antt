@@ -28,21 +28,20 @@ write_bytes-j-requires c =
     )
 
 pub write_text-j-requires : goal.write_text-j-requires
-write_text-j-requires c =
-     (
-      name_within c.requires.holds c.text_word.ensures.split c.text_bytes.ensures.split,
-      omega (
-        arith,
-        c.requires.room,
-        length_label c.requires.text c.args.around,
-        length_new_line c.args.around,
-        c.write_line-j.ensures.written.end,
-        c.write_line-j.auto.out,
-        c.write_bytes-j.ensures.written.end,
-        c.write_bytes-j.auto.out,
-        ap length (name_plain c.requires.holds c.text_word.ensures.split c.text_bytes.ensures.split),
-      ),
-    )
+write_text-j-requires c = (
+  name_within c.requires.holds c.text_word.ensures.split c.text_bytes.ensures.split,
+  omega (
+    arith,
+    c.requires.room,
+    length_label c.requires.text c.args.around,
+    length_new_line c.args.around,
+    c.write_line-j.ensures.written.end,
+    c.write_line-j.auto.out,
+    c.write_bytes-j.ensures.written.end,
+    c.write_bytes-j.auto.out,
+    ap length (name_plain c.requires.holds c.text_word.ensures.split c.text_bytes.ensures.split),
+  ),
+)
 
 pub overflow_add-around : goal.overflow_add-around
 overflow_add-around c =
@@ -68,9 +67,11 @@ write_line-requires c =
 pub returns : goal.returns
 unfolding label_text bytes
 returns c =
-    record { written = λ t h. writes_then (omega (arith, c.requires.room))
-    (writes_then (omega (arith, c.requires.room))
-    (writes_then (omega (arith, c.requires.room)) c.write_line-j.ensures.written c.write_bytes-j.ensures.written)
-    (writes_as (name_plain h c.text_word.ensures.split c.text_bytes.ensures.split)
-    c.write_text-j.ensures.written))
-    (writes_as (ap new_line (add-one c.args.around)) c.write_line.ensures.written) }
+    record {
+      written = λ t h. writes_then (omega (arith, c.requires.room))
+          (writes_then (omega (arith, c.requires.room))
+          (writes_then (omega (arith, c.requires.room)) c.write_line-j.ensures.written c.write_bytes-j.ensures.written)
+          (writes_as (name_plain h c.text_word.ensures.split c.text_bytes.ensures.split)
+          c.write_text-j.ensures.written))
+          (writes_as (ap new_line (add-one c.args.around)) c.write_line.ensures.written);
+    }

@@ -60,5 +60,7 @@ shape_of-out c =
 
 pub returns : goal.returns
 returns c =
-    record { written = spaced c.loop-left.invariant c.requires 0
-    (omega (arith, c.loop-left-test.false, c.if-left-eq1.false, c.if-left-eq2.false, c.if-left-eq3.false)) (writes_none _ _) }
+    record {
+      written = spaced c.loop-left.invariant c.requires 0
+          (omega (arith, c.loop-left-test.false, c.if-left-eq1.false, c.if-left-eq2.false, c.if-left-eq3.false)) (writes_none _ _);
+    }

@@ -18,18 +18,22 @@ write_bytes-requires c =
 
 pub returns-then-has : goal.returns-then-has
 returns-then-has c =
-    record { written = record {
-      written = writes_as
-          (word_there (has_bit c.args.kinds.kinds c.args.kind.kinds) c.args.word.now
-          (sym c.has.ensures.told ∙ c.if-has.true))
-          c.write_bytes.ensures.written;
-    } }
+    record {
+      written = record {
+        written = writes_as
+            (word_there (has_bit c.args.kinds.kinds c.args.kind.kinds) c.args.word.now
+            (sym c.has.ensures.told ∙ c.if-has.true))
+            c.write_bytes.ensures.written;
+      };
+    }
 
 pub returns : goal.returns
 returns c =
-    record { written = record {
-      written = writes_as
-          (word_gone (has_bit c.args.kinds.kinds c.args.kind.kinds) c.args.word.now
-          (sym c.has.ensures.told ∙ c.if-has.false))
-          (writes_none _ _);
-    } }
+    record {
+      written = record {
+        written = writes_as
+            (word_gone (has_bit c.args.kinds.kinds c.args.kind.kinds) c.args.word.now
+            (sym c.has.ensures.told ∙ c.if-has.false))
+            (writes_none _ _);
+      };
+    }

@@ -17,10 +17,12 @@ bounds-pool-k c =
 
 pub returns-then-r-eq0 : goal.returns-then-r-eq0
 returns-then-r-eq0 c =
-    record { put = let a = c.args in
-    puts_word a.pool.now a.w a.n a.x a.m (take a.m (unpacked a.x)) c.if-r-eq0.true
-    (room_word a.w a.n c.requires.1) c.requires.0
-    (front_size a.x a.m c.requires.0) c.requires.2 }
+    record {
+      put = let a = c.args in
+          puts_word a.pool.now a.w a.n a.x a.m (take a.m (unpacked a.x)) c.if-r-eq0.true
+          (room_word a.w a.n c.requires.1) c.requires.0
+          (front_size a.x a.m c.requires.0) c.requires.2;
+    }
 
 pub offset_bounds-pool-k-2 : goal.offset_bounds-pool-k-2
 offset_bounds-pool-k-2 c =
@@ -48,12 +50,14 @@ bounds-pool-k-4 c =
 
 pub returns : goal.returns
 returns c =
-    record { put = let a = c.args in
-    let k = a.w + a.n / 8 in
-    let r = a.n % 8 in
-    puts_part a.pool.now a.w a.n a.x a.m (bit_or c.front.result (a.x / 2 ^ (8 * r))) _ (take a.m (unpacked a.x))
-    (room_words a.w a.n c.requires.1 c.if-r-eq0.false) c.requires.0
-    (front_size a.x a.m c.requires.0) c.requires.2
-    (word_joined c.front.result a.x r (take r (unpacked (get_or a.pool.now k 0))) (omega arith) (omega arith)
-    (front_size (get_or a.pool.now k 0) r (omega arith)) c.front.ensures.cut)
-    (word_behind a.x r (omega arith)) }
+    record {
+      put = let a = c.args in
+          let k = a.w + a.n / 8 in
+          let r = a.n % 8 in
+          puts_part a.pool.now a.w a.n a.x a.m (bit_or c.front.result (a.x / 2 ^ (8 * r))) _ (take a.m (unpacked a.x))
+          (room_words a.w a.n c.requires.1 c.if-r-eq0.false) c.requires.0
+          (front_size a.x a.m c.requires.0) c.requires.2
+          (word_joined c.front.result a.x r (take r (unpacked (get_or a.pool.now k 0))) (omega arith) (omega arith)
+          (front_size (get_or a.pool.now k 0) r (omega arith)) c.front.ensures.cut)
+          (word_behind a.x r (omega arith));
+    }

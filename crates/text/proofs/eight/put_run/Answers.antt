@@ -26,13 +26,15 @@ shape_of-pool-then-n-eq0 c = c.put_standing.ensures.put.puts.keeps.kept
 
 pub returns-then-n-eq0 : goal.returns-then-n-eq0
 returns-then-n-eq0 c =
-    record { put = let s = c.put_standing.ensures.put in
     record {
-      stands = s.stands;
-      puts = puts_behind c.if-n-eq0.true s.puts;
-      ahead = s.ahead;
-      within = s.within;
-    } }
+      put = let s = c.put_standing.ensures.put in
+          record {
+            stands = s.stands;
+            puts = puts_behind c.if-n-eq0.true s.puts;
+            ahead = s.ahead;
+            within = s.within;
+          };
+    }
 
 pub loop-i-init : goal.loop-i-init
 loop-i-init c = let a = c.args in stood_start a.doc.now a.at a.pool.now a.w a.n c.requires.0
@@ -81,12 +83,14 @@ shape_of-pool-then-m-lt5 c =
 
 pub returns-then-m-lt5 : goal.returns-then-m-lt5
 returns-then-m-lt5 c =
-    record { put = let a = c.args in
-    let l = c.loop-i in
-    let b : l.i + 8 ≤ length a.doc.now = omega (arith, l.invariant.within, c.loop-i-test.true) in
-    stood_word a.doc.now c.word_at-x.result c.front.result c.past_wides-m.result l.invariant
-    c.word_at-x.ensures.packed b c.past_wides-m.ensures.found
-    c.front.ensures.cut c.put_part.ensures.put }
+    record {
+      put = let a = c.args in
+          let l = c.loop-i in
+          let b : l.i + 8 ≤ length a.doc.now = omega (arith, l.invariant.within, c.loop-i-test.true) in
+          stood_word a.doc.now c.word_at-x.result c.front.result c.past_wides-m.result l.invariant
+          c.word_at-x.ensures.packed b c.past_wides-m.ensures.found
+          c.front.ensures.cut c.put_part.ensures.put;
+    }
 
 pub loop-i-smaller-else-m-lt5 : goal.loop-i-smaller-else-m-lt5
 loop-i-smaller-else-m-lt5 c =

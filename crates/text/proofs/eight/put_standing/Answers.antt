@@ -1,5 +1,5 @@
 -- `text::eight::put_standing` meets its contract. Assumes nothing.
-use Prim.Native.Nat.{◌+◌, ◌-◌, ◌≤◌}
+use Prim.Native.Nat.{◌+◌, ◌≤◌}
 use lib.ListN.{length, length-set}
 use Rattle.text.proofs.Odd.{all_stand, front_stands}
 use Rattle.text.proofs.EightBytes.{by_words_start, by_words_room, by_words_last, by_words_next}
@@ -51,13 +51,15 @@ shape_of-pool-then-marks-ne0 c =
 
 pub returns-then-marks-ne0 : goal.returns-then-marks-ne0
 returns-then-marks-ne0 c =
-    record { put = let a = c.args in
-    let l = c.loop-i in
-    let b : l.i + 8 ≤ length a.doc.now = omega (arith, l.invariant.stood.within, c.loop-i-test.true) in
-    by_words_last a.doc.now a.at a.pool.now a.w l.pool l.i l.k l.invariant c.requires.1 b
-    c.word_at-x.result c.front.result
-    c.first-m.result c.word_at-x.ensures.packed
-    (front_stands c.odd-marks.ensures.marked (omega arith) c.if-marks-ne0.true c.first-m.ensures.counted) c.front.ensures.cut }
+    record {
+      put = let a = c.args in
+          let l = c.loop-i in
+          let b : l.i + 8 ≤ length a.doc.now = omega (arith, l.invariant.stood.within, c.loop-i-test.true) in
+          by_words_last a.doc.now a.at a.pool.now a.w l.pool l.i l.k l.invariant c.requires.1 b
+          c.word_at-x.result c.front.result
+          c.first-m.result c.word_at-x.ensures.packed
+          (front_stands c.odd-marks.ensures.marked (omega arith) c.if-marks-ne0.true c.first-m.ensures.counted) c.front.ensures.cut;
+    }
 
 pub offset_bounds-pool-k-in-loop-i : goal.offset_bounds-pool-k-in-loop-i
 offset_bounds-pool-k-in-loop-i c =

@@ -12,8 +12,11 @@ returns-then-short_form-ne0 c = record { counted = sym (ap length (escaped_short
 
 pub returns-then-b-lt32 : goal.returns-then-b-lt32
 returns-then-b-lt32 c =
-    record { counted = sym (ap length (escaped_hex _ c.short_form.result c.short_form.ensures.found c.if-short_form-ne0.false c.if-b-lt32.true)
-    ∙ length_hex_escape _) }
+    record {
+      counted = sym (ap length (escaped_hex _ c.short_form.result c.short_form.ensures.found c.if-short_form-ne0.false c.if-b-lt32.true)
+          ∙ length_hex_escape _);
+    }
 
 pub returns-else-b-lt32 : goal.returns-else-b-lt32
-returns-else-b-lt32 c = record { counted = sym (ap length (escaped_itself _ c.short_form.result c.short_form.ensures.found c.if-short_form-ne0.false c.if-b-lt32.false)) }
+returns-else-b-lt32 c =
+    record { counted = sym (ap length (escaped_itself _ c.short_form.result c.short_form.ensures.found c.if-short_form-ne0.false c.if-b-lt32.false)) }

@@ -45,14 +45,16 @@ returns-in-9 c = record { found = value_at short_form _ _ _ c.in-9.is refl }
 pub returns-in_default : goal.returns-in_default
 unfolding short_escapes
 returns-in_default c =
-    record { found = let r = c.in_default.in_default-own.rest in
-    short_misses c.args.b (
-      λ i. r.0.0.0.0.0.0.1 (in_one i),
-      (
-        λ i. r.0.0.0.0.0.1 (in_one i),
-        (
-          λ i. r.0.0.0.0.1 (in_one i),
-          (λ i. r.0.0.0.1 (in_one i), (λ i. r.0.0.1 (in_one i), (λ i. r.0.1 (in_one i), (λ i. r.1 (in_one i), tt)))),
-        ),
-      ),
-    ) }
+    record {
+      found = let r = c.in_default.in_default-own.rest in
+          short_misses c.args.b (
+            λ i. r.0.0.0.0.0.0.1 (in_one i),
+            (
+              λ i. r.0.0.0.0.0.1 (in_one i),
+              (
+                λ i. r.0.0.0.0.1 (in_one i),
+                (λ i. r.0.0.0.1 (in_one i), (λ i. r.0.0.1 (in_one i), (λ i. r.0.1 (in_one i), (λ i. r.1 (in_one i), tt)))),
+              ),
+            ),
+          );
+    }

@@ -11,8 +11,10 @@ bounds-out-at c = omega (arith, ap length (c.needs_no_escape.ensures.told c.if-n
 
 pub returns-then-needs_no_escape : goal.returns-then-needs_no_escape
 returns-then-needs_no_escape c =
-    record { written = let a = c.args in
-    let e = c.needs_no_escape.ensures.told c.if-needs_no_escape.true in
-    let s = ap length e in
-    let l = c.requires in
-    writes_same (escaped a.b) _ (writes_next a.at a.b (writes_none a.out.now a.at) refl (omega arith)) (sym e) refl }
+    record {
+      written = let a = c.args in
+          let e = c.needs_no_escape.ensures.told c.if-needs_no_escape.true in
+          let s = ap length e in
+          let l = c.requires in
+          writes_same (escaped a.b) _ (writes_next a.at a.b (writes_none a.out.now a.at) refl (omega arith)) (sym e) refl;
+    }

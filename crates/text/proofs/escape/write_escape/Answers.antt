@@ -25,14 +25,16 @@ shape_of-out-then-c-ne0 c = simp length-set
 
 pub returns-then-c-ne0 : goal.returns-then-c-ne0
 returns-then-c-ne0 c =
-    record { written = let a = c.args in
-    let e = (escaped_short _ c.short_form-c.result c.short_form-c.ensures.found c.if-c-ne0.true) in
-    let s = ap length e in
-    let l = c.requires in
-    writes_same (escaped a.b) (a.at + 2)
-    (writes_next (a.at + 1) c.short_form-c.result
-    (writes_next a.at 0x5C (writes_none a.out.now a.at) refl (omega arith)) refl (omega arith))
-    (sym e) (omega arith) }
+    record {
+      written = let a = c.args in
+          let e = (escaped_short _ c.short_form-c.result c.short_form-c.ensures.found c.if-c-ne0.true) in
+          let s = ap length e in
+          let l = c.requires in
+          writes_same (escaped a.b) (a.at + 2)
+          (writes_next (a.at + 1) c.short_form-c.result
+          (writes_next a.at 0x5C (writes_none a.out.now a.at) refl (omega arith)) refl (omega arith))
+          (sym e) (omega arith);
+    }
 
 pub write_hex-requires : goal.write_hex-requires
 write_hex-requires c =
@@ -42,11 +44,13 @@ write_hex-requires c =
 
 pub returns-then-b-lt32 : goal.returns-then-b-lt32
 returns-then-b-lt32 c =
-    record { written = let a = c.args in
-    writes_same (escaped a.b) c.write_hex.result c.write_hex.ensures.written
-    (sym (escaped_hex _ c.short_form-c.result c.short_form-c.ensures.found c.if-c-ne0.false
-    c.if-b-lt32.true))
-    refl }
+    record {
+      written = let a = c.args in
+          writes_same (escaped a.b) c.write_hex.result c.write_hex.ensures.written
+          (sym (escaped_hex _ c.short_form-c.result c.short_form-c.ensures.found c.if-c-ne0.false
+          c.if-b-lt32.true))
+          refl;
+    }
 
 pub bounds-out-at-2 : goal.bounds-out-at-2
 bounds-out-at-2 c =
@@ -58,8 +62,10 @@ bounds-out-at-2 c =
 
 pub returns : goal.returns
 returns c =
-    record { written = let a = c.args in
-    let e = (escaped_itself _ c.short_form-c.result c.short_form-c.ensures.found c.if-c-ne0.false c.if-b-lt32.false) in
-    let s = ap length e in
-    let l = c.requires in
-    writes_same (escaped a.b) (a.at + 1) (writes_next a.at a.b (writes_none a.out.now a.at) refl (omega arith)) (sym e) refl }
+    record {
+      written = let a = c.args in
+          let e = (escaped_itself _ c.short_form-c.result c.short_form-c.ensures.found c.if-c-ne0.false c.if-b-lt32.false) in
+          let s = ap length e in
+          let l = c.requires in
+          writes_same (escaped a.b) (a.at + 1) (writes_next a.at a.b (writes_none a.out.now a.at) refl (omega arith)) (sym e) refl;
+    }

@@ -1,10 +1,8 @@
 -- `text::pieces::copy` meets its contract. The loop's invariant: the bytes up to place i are put (`Copied`). The measure is how many are left.
 -- Assumes nothing.
-use Prim.Native.Nat.{◌-◌}
 use mathlib.Core.Path.{refl}
 use Rattle.text.proofs.Puts.{copied_start, copied_place, copied_room, copied_next, copied_done}
 use native.Mathlib.Omega.{arith}
-use Prim.Native.Nat.{◌-◌}
 use Rattle.text.proofs.Puts.{copied_start, copied_place, copied_room, copied_next, copied_done}
 use Rattle.text.proofs.pieces.copy.Goals as goal
 
@@ -68,7 +66,9 @@ shape_of-pool c = c.loop-i.invariant.puts.keeps.kept
 
 pub returns : goal.returns
 returns c =
-    record { put = let l = c.loop-i in
-    let a = c.args in
-    let p = c.requires in
-    copied_done a.src.now a.from a.to a.pool.now a.w a.n l.pool l.i l.invariant p.2 c.loop-i-test.false }
+    record {
+      put = let l = c.loop-i in
+          let a = c.args in
+          let p = c.requires in
+          copied_done a.src.now a.from a.to a.pool.now a.w a.n l.pool l.i l.invariant p.2 c.loop-i-test.false;
+    }

@@ -51,20 +51,22 @@ returns-in-117 c = record { valued = value_at escape_value _ _ _ c.in-117.is ref
 pub returns-in_default : goal.returns-in_default
 unfolding escape_table
 returns-in_default c =
-    record { valued = let r = c.in_default.in_default-own.rest in
-    escape_misses c.args.b (
-      λ i. r.0.0.0.0.0.0.0.0.1 (in_one i),
-      (
-        λ i. r.0.0.0.0.0.0.0.1 (in_one i),
-        (
-          λ i. r.0.0.0.0.0.0.1 (in_one i),
-          (
-            λ i. r.0.0.0.0.0.1 (in_one i),
+    record {
+      valued = let r = c.in_default.in_default-own.rest in
+          escape_misses c.args.b (
+            λ i. r.0.0.0.0.0.0.0.0.1 (in_one i),
             (
-              λ i. r.0.0.0.0.1 (in_one i),
-              (λ i. r.0.0.0.1 (in_one i), (λ i. r.0.0.1 (in_one i), (λ i. r.0.1 (in_one i), (λ i. r.1 (in_one i), tt)))),
+              λ i. r.0.0.0.0.0.0.0.1 (in_one i),
+              (
+                λ i. r.0.0.0.0.0.0.1 (in_one i),
+                (
+                  λ i. r.0.0.0.0.0.1 (in_one i),
+                  (
+                    λ i. r.0.0.0.0.1 (in_one i),
+                    (λ i. r.0.0.0.1 (in_one i), (λ i. r.0.0.1 (in_one i), (λ i. r.0.1 (in_one i), (λ i. r.1 (in_one i), tt)))),
+                  ),
+                ),
+              ),
             ),
-          ),
-        ),
-      ),
-    ) }
+          );
+    }

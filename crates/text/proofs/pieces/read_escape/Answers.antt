@@ -19,13 +19,15 @@ read_named-requires c =
 
 pub returns-then-c-eq256 : goal.returns-then-c-eq256
 returns-then-c-eq256 c =
-    record { read = let a = c.args in let p = c.requires in
     record {
-      breaks =
-          escape_wrong a.doc.now a.i p.0.0 p.1 c.escape_value-c.result
-          (c.escape_value-c.ensures.valued ∙ ap escape_value c.peek.ensures.read) c.if-c-eq256.true;
-      keeps = keeps_none a.pool.now a.w;
-    } }
+      read = let a = c.args in let p = c.requires in
+          record {
+            breaks =
+                escape_wrong a.doc.now a.i p.0.0 p.1 c.escape_value-c.result
+                (c.escape_value-c.ensures.valued ∙ ap escape_value c.peek.ensures.read) c.if-c-eq256.true;
+            keeps = keeps_none a.pool.now a.w;
+          };
+    }
 
 pub overflow_cast-b : goal.overflow_cast-b
 overflow_cast-b c =
@@ -57,11 +59,13 @@ overflow_add-result-3 c =
 
 pub returns : goal.returns
 returns c =
-    record { read = let a = c.args in let p = c.requires in
-    let h = escape_letter a.doc.now a.i p.0.0 p.1 c.escape_value-c.result
-    (c.escape_value-c.ensures.valued ∙ ap escape_value c.peek.ensures.read)
-    c.if-c-eq257.false c.if-c-eq256.false in
-    piece_byte a.doc.now a.i a.pool.now c.put_byte.new.pool a.w a.n (a.i + 2)
-    c.escape_value-c.result c.cost.result
-    c.put_byte.ensures.put (room_one a.doc.now a.i a.pool.now a.w a.n p.0.1 p.0.0) h.run (sym c.cost.ensures.counted)
-    (omega arith) h.within (omega (arith, h.short, c.cost.ensures.counted)) }
+    record {
+      read = let a = c.args in let p = c.requires in
+          let h = escape_letter a.doc.now a.i p.0.0 p.1 c.escape_value-c.result
+          (c.escape_value-c.ensures.valued ∙ ap escape_value c.peek.ensures.read)
+          c.if-c-eq257.false c.if-c-eq256.false in
+          piece_byte a.doc.now a.i a.pool.now c.put_byte.new.pool a.w a.n (a.i + 2)
+          c.escape_value-c.result c.cost.result
+          c.put_byte.ensures.put (room_one a.doc.now a.i a.pool.now a.w a.n p.0.1 p.0.0) h.run (sym c.cost.ensures.counted)
+          (omega arith) h.within (omega (arith, h.short, c.cost.ensures.counted));
+    }

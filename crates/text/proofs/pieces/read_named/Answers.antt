@@ -48,26 +48,32 @@ overflow_add-result c =
 
 pub returns-in-Read : goal.returns-in-Read
 returns-in-Read c =
-    record { read = let a = c.args in
-    let p = c.requires in
-    let h = (let code : let a = c.args in
-    CodeRead a.doc.now (Inside.digits none 0 0) (a.i + 2) c.in-Read.value c.in-Read.next = let a = c.args in
-    subst (ReadsCode a.doc.now (Inside.digits none 0 0) (a.i + 2)) c.in-Read.is c.read_unicode.ensures.read in code) in
-    subst
-    (λ m. PieceRead a.doc.now a.i a.pool.now c.copy.new.pool a.w a.n c.in-Read.next (a.n + m) c.character_cost.result)
-    (sym c.encoded_length-k.ensures.counted)
-    (piece_named a.doc.now a.i p.0.0 p.1 p.2 a.pool.now c.copy.new.pool a.w a.n c.in-Read.next c.in-Read.value
-    c.character_cost.result h
-    (puts_same c.copy.ensures.put (front_part (encode c.in-Read.value) c.encoded-bytes.result c.encoded_length-k.result c.encoded_length-k.ensures.counted c.encoded-bytes.ensures.encoded))
-    c.character_cost.ensures.counted) }
+    record {
+      read = let a = c.args in
+          let p = c.requires in
+          let h = (let code : let a = c.args in
+          CodeRead a.doc.now (Inside.digits none 0 0) (a.i + 2) c.in-Read.value c.in-Read.next = let a = c.args in
+          subst (ReadsCode a.doc.now (Inside.digits none 0 0) (a.i + 2)) c.in-Read.is c.read_unicode.ensures.read in code) in
+          subst
+          (λ m. PieceRead a.doc.now a.i a.pool.now c.copy.new.pool a.w a.n c.in-Read.next (a.n + m) c.character_cost.result)
+          (sym c.encoded_length-k.ensures.counted)
+          (piece_named a.doc.now a.i p.0.0 p.1 p.2 a.pool.now c.copy.new.pool a.w a.n c.in-Read.next c.in-Read.value
+          c.character_cost.result h
+          (puts_same c.copy.ensures.put
+          (front_part (encode c.in-Read.value) c.encoded-bytes.result c.encoded_length-k.result c.encoded_length-k.ensures.counted
+          c.encoded-bytes.ensures.encoded))
+          c.character_cost.ensures.counted);
+    }
 
 pub returns-in-Wrong : goal.returns-in-Wrong
 returns-in-Wrong c =
-    record { read = let a = c.args in
-    let p = c.requires in
     record {
-      breaks = named_breaks a.doc.now a.i p.0.0 p.1 p.2 c.in-Wrong.place
-          (subst (ReadsCode a.doc.now (Inside.digits none 0 0) (a.i + 2)) c.in-Wrong.is
-          c.read_unicode.ensures.read);
-      keeps = keeps_none a.pool.now a.w;
-    } }
+      read = let a = c.args in
+          let p = c.requires in
+          record {
+            breaks = named_breaks a.doc.now a.i p.0.0 p.1 p.2 c.in-Wrong.place
+                (subst (ReadsCode a.doc.now (Inside.digits none 0 0) (a.i + 2)) c.in-Wrong.is
+                c.read_unicode.ensures.read);
+            keeps = keeps_none a.pool.now a.w;
+          };
+    }

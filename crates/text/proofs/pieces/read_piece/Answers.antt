@@ -30,15 +30,16 @@ overflow_add-result-then-is_plain_ascii c =
 
 pub returns-then-is_plain_ascii : goal.returns-then-is_plain_ascii
 returns-then-is_plain_ascii c =
-    record { read = let a = c.args in
-    piece_itself a.doc.now a.i a.pool.now c.put_byte.new.pool a.w a.n _ c.requires.0.0 refl
-    (sym c.is_plain_ascii.ensures.judged ∙ c.if-is_plain_ascii.true) c.put_byte.ensures.put
-    (room_one a.doc.now a.i a.pool.now a.w a.n c.requires.0.1 c.requires.0.0) }
+    record {
+      read = let a = c.args in
+          piece_itself a.doc.now a.i a.pool.now c.put_byte.new.pool a.w a.n _ c.requires.0.0 refl
+          (sym c.is_plain_ascii.ensures.judged ∙ c.if-is_plain_ascii.true) c.put_byte.ensures.put
+          (room_one a.doc.now a.i a.pool.now a.w a.n c.requires.0.1 c.requires.0.0);
+    }
 
 pub read_wides-requires : goal.read_wides-requires
-read_wides-requires c =
-     (
-      c.requires.0,
-      plain_ascii_outside _ (sym c.is_plain_ascii.ensures.judged ∙ c.if-is_plain_ascii.false) c.requires.1
-          c.if-b-eq92.false,
-    )
+read_wides-requires c = (
+  c.requires.0,
+  plain_ascii_outside _ (sym c.is_plain_ascii.ensures.judged ∙ c.if-is_plain_ascii.false) c.requires.1
+      c.if-b-eq92.false,
+)

@@ -51,17 +51,21 @@ overflow_sub-result-in-Whole c =
 
 pub returns-in-Whole : goal.returns-in-Whole
 returns-in-Whole c =
-    record { read = let a = c.args in
-    let p = c.requires in
-    let h = (let wide : let a = c.args in
-    WideRead a.doc.now Inside.chars a.i c.in-Whole.next = let a = c.args in
-    subst (ReadsWide a.doc.now Inside.chars a.i) c.in-Whole.is c.wide_end.ensures.read in wide) in
-    piece_wide a.doc.now a.i a.pool.now c.copy.new.pool a.w a.n c.in-Whole.next h c.copy.ensures.put }
+    record {
+      read = let a = c.args in
+          let p = c.requires in
+          let h = (let wide : let a = c.args in
+          WideRead a.doc.now Inside.chars a.i c.in-Whole.next = let a = c.args in
+          subst (ReadsWide a.doc.now Inside.chars a.i) c.in-Whole.is c.wide_end.ensures.read in wide) in
+          piece_wide a.doc.now a.i a.pool.now c.copy.new.pool a.w a.n c.in-Whole.next h c.copy.ensures.put;
+    }
 
 pub returns-in-Cut : goal.returns-in-Cut
 returns-in-Cut c =
-    record { read = let a = c.args in
     record {
-      breaks = subst (ReadsWide a.doc.now Inside.chars a.i) c.in-Cut.is c.wide_end.ensures.read;
-      keeps = keeps_none a.pool.now a.w;
-    } }
+      read = let a = c.args in
+          record {
+            breaks = subst (ReadsWide a.doc.now Inside.chars a.i) c.in-Cut.is c.wide_end.ensures.read;
+            keeps = keeps_none a.pool.now a.w;
+          };
+    }

@@ -45,8 +45,10 @@ shape_of-pool c = c.put_part.ensures.put.keeps.kept
 
 pub returns : goal.returns
 returns c =
-    record { read = let a = c.args in
-    let b : a.i + 8 ≤ length a.doc.now = omega (arith, c.requires.0.0, c.if-doc-i-lt8.false) in
-    piece_word a.doc.now c.word_at-x.result c.front.result c.past_wides-m.result
-    c.word_at-x.ensures.packed b c.past_wides-m.ensures.found c.if-m-eq0.false
-    c.front.ensures.cut c.put_part.ensures.put }
+    record {
+      read = let a = c.args in
+          let b : a.i + 8 ≤ length a.doc.now = omega (arith, c.requires.0.0, c.if-doc-i-lt8.false) in
+          piece_word a.doc.now c.word_at-x.result c.front.result c.past_wides-m.result
+          c.word_at-x.ensures.packed b c.past_wides-m.ensures.found c.if-m-eq0.false
+          c.front.ensures.cut c.put_part.ensures.put;
+    }

@@ -22,10 +22,12 @@ shape_of-out c = simp length-set
 pub returns : goal.returns
 unfolding unpacked
 returns c =
-    record { stored = let a = c.args in
-    let l = c.requires in
-    let w3 = writes_byte a.out.now (a.at + 3) (a.x % 256) (omega arith) in
-    let w2 = writes_first (a.at + 2) (a.x / 2 ^ 8 % 256) w3 (omega arith) (omega arith) in
-    let w1 = writes_first (a.at + 1) (a.x / 2 ^ 16 % 256) w2 (omega arith) (omega arith) in
-    let w0 = writes_first a.at (a.x / 2 ^ 24 % 256) w1 refl (omega arith) in
-    writes_same (drop 4 (unpacked a.x)) (a.at + 4) w0 refl (omega arith) }
+    record {
+      stored = let a = c.args in
+          let l = c.requires in
+          let w3 = writes_byte a.out.now (a.at + 3) (a.x % 256) (omega arith) in
+          let w2 = writes_first (a.at + 2) (a.x / 2 ^ 8 % 256) w3 (omega arith) (omega arith) in
+          let w1 = writes_first (a.at + 1) (a.x / 2 ^ 16 % 256) w2 (omega arith) (omega arith) in
+          let w0 = writes_first a.at (a.x / 2 ^ 24 % 256) w1 refl (omega arith) in
+          writes_same (drop 4 (unpacked a.x)) (a.at + 4) w0 refl (omega arith);
+    }

@@ -6,5 +6,7 @@ use Rattle.text.proofs.store.store_front.Goals as goal
 
 pub returns : goal.returns
 returns c =
-    record { stored = let a = c.args in
-    writes_as (first_last a.x a.n c.requires.0 (search rules)) c.store_last.ensures.stored }
+    record {
+      stored = let a = c.args in
+          writes_as (first_last a.x a.n c.requires.0 (search rules)) c.store_last.ensures.stored;
+    }

@@ -10,15 +10,19 @@ use Rattle.text.proofs.unicode.read_unicode.Goals as goal
 
 pub returns-then-value-lt55296 : goal.returns-then-value-lt55296
 returns-then-value-lt55296 c =
-    record { read = let a = c.args in
-    alone_read a.doc.now a.at c.in-Read.value c.in-Read.next
-    (subst (ReadsDigits a.doc.now a.at false) c.in-Read.is c.read_digits.ensures.read) (inl c.if-value-lt55296.true) }
+    record {
+      read = let a = c.args in
+          alone_read a.doc.now a.at c.in-Read.value c.in-Read.next
+          (subst (ReadsDigits a.doc.now a.at false) c.in-Read.is c.read_digits.ensures.read) (inl c.if-value-lt55296.true);
+    }
 
 pub returns-then-value-gt56319 : goal.returns-then-value-gt56319
 returns-then-value-gt56319 c =
-    record { read = let a = c.args in
-    alone_read a.doc.now a.at c.in-Read.value c.in-Read.next
-    (subst (ReadsDigits a.doc.now a.at false) c.in-Read.is c.read_digits.ensures.read) (inr c.if-value-gt56319.true) }
+    record {
+      read = let a = c.args in
+          alone_read a.doc.now a.at c.in-Read.value c.in-Read.next
+          (subst (ReadsDigits a.doc.now a.at false) c.in-Read.is c.read_digits.ensures.read) (inr c.if-value-gt56319.true);
+    }
 
 pub read_low-requires : goal.read_low-requires
 read_low-requires c =
@@ -30,12 +34,16 @@ read_low-requires c =
 
 pub returns-else-value-gt56319 : goal.returns-else-value-gt56319
 returns-else-value-gt56319 c =
-    record { read = let a = c.args in
-    high_code a.doc.now a.at c.in-Read.value c.in-Read.next (subst (ReadsDigits a.doc.now a.at false) c.in-Read.is c.read_digits.ensures.read)
-    c.if-value-lt55296.false c.if-value-gt56319.false c.read_low.result c.read_low.ensures.read }
+    record {
+      read = let a = c.args in
+          high_code a.doc.now a.at c.in-Read.value c.in-Read.next (subst (ReadsDigits a.doc.now a.at false) c.in-Read.is c.read_digits.ensures.read)
+          c.if-value-lt55296.false c.if-value-gt56319.false c.read_low.result c.read_low.ensures.read;
+    }
 
 pub returns-in-Wrong : goal.returns-in-Wrong
 unfolding found
 returns-in-Wrong c =
-    record { read = let a = c.args in
-    subst (ReadsDigits a.doc.now a.at false) c.in-Wrong.is c.read_digits.ensures.read none refl }
+    record {
+      read = let a = c.args in
+          subst (ReadsDigits a.doc.now a.at false) c.in-Wrong.is c.read_digits.ensures.read none refl;
+    }

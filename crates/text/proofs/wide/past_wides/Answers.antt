@@ -1,6 +1,5 @@
 -- `text::wide::past_wides` meets its contract. The loop's invariant: the first m bytes of the word stand for themselves. The measure is how many
 -- are left of five. Assumes nothing.
-use Prim.Native.Nat.{◌-◌}
 use Rattle.text.proofs.Stands.{front_next}
 use native.Mathlib.Omega.{arith}
 use Rattle.text.proofs.wide.past_wides.Goals as goal

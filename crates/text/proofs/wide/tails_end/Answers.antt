@@ -11,27 +11,33 @@ loop-from-init c = let a = c.args in let p = c.requires in tails_start a.doc.now
 
 pub returns-then-b-from : goal.returns-then-b-from
 returns-then-b-from c =
-    record { read = let l = c.loop-from in
-    let a = c.args in
-    tails_wrong a.doc.now (Inside.tail a.lo a.hi a.more) a.at l.i l.from l.to l.left c.peek-b.result l.invariant
-    c.peek-b.ensures.read (inl c.if-b-from.true) }
+    record {
+      read = let l = c.loop-from in
+          let a = c.args in
+          tails_wrong a.doc.now (Inside.tail a.lo a.hi a.more) a.at l.i l.from l.to l.left c.peek-b.result l.invariant
+          c.peek-b.ensures.read (inl c.if-b-from.true);
+    }
 
 pub returns-then-to-b : goal.returns-then-to-b
 returns-then-to-b c =
-    record { read = let l = c.loop-from in
-    let a = c.args in
-    tails_wrong a.doc.now (Inside.tail a.lo a.hi a.more) a.at l.i l.from l.to l.left c.peek-b.result l.invariant
-    c.peek-b.ensures.read (inr c.if-to-b.true) }
+    record {
+      read = let l = c.loop-from in
+          let a = c.args in
+          tails_wrong a.doc.now (Inside.tail a.lo a.hi a.more) a.at l.i l.from l.to l.left c.peek-b.result l.invariant
+          c.peek-b.ensures.read (inr c.if-to-b.true);
+    }
 
 pub overflow_add-i : goal.overflow_add-i
 overflow_add-i c = omega arith
 
 pub returns-then-left-eq0 : goal.returns-then-left-eq0
 returns-then-left-eq0 c =
-    record { read = let l = c.loop-from in
-    let a = c.args in
-    tails_done a.doc.now (Inside.tail a.lo a.hi a.more) a.at l.i l.from l.to l.left c.peek-b.result l.invariant
-    c.peek-b.ensures.read c.if-b-from.false c.if-to-b.false c.if-left-eq0.true }
+    record {
+      read = let l = c.loop-from in
+          let a = c.args in
+          tails_done a.doc.now (Inside.tail a.lo a.hi a.more) a.at l.i l.from l.to l.left c.peek-b.result l.invariant
+          c.peek-b.ensures.read c.if-b-from.false c.if-to-b.false c.if-left-eq0.true;
+    }
 
 pub overflow_sub-left : goal.overflow_sub-left
 overflow_sub-left c = omega arith

@@ -24,18 +24,22 @@ tails_end-requires c =
 pub returns-in-Tails : goal.returns-in-Tails
 unfolding head_as
 returns-in-Tails c =
-    record { read = let a = c.args in
-    let p = c.requires in
-    head_wide a.doc.now a.at p.0 p.1 c.in-Tails.lo c.in-Tails.hi c.in-Tails.more
-    (ap (look head_table) (sym c.peek.ensures.read) ∙ sym c.head_of.ensures.told
-    ∙ ap head_as c.in-Tails.is)
-    c.tails_end.result c.tails_end.ensures.read }
+    record {
+      read = let a = c.args in
+          let p = c.requires in
+          head_wide a.doc.now a.at p.0 p.1 c.in-Tails.lo c.in-Tails.hi c.in-Tails.more
+          (ap (look head_table) (sym c.peek.ensures.read) ∙ sym c.head_of.ensures.told
+          ∙ ap head_as c.in-Tails.is)
+          c.tails_end.result c.tails_end.ensures.read;
+    }
 
 pub returns-in-Not : goal.returns-in-Not
 unfolding head_as
 returns-in-Not c =
-    record { read = let a = c.args in
-    let p = c.requires in
-    head_wrong a.doc.now a.at p.0 p.1
-    (ap (look head_table) (sym c.peek.ensures.read) ∙ sym c.head_of.ensures.told
-    ∙ ap head_as c.in-Not.is) }
+    record {
+      read = let a = c.args in
+          let p = c.requires in
+          head_wrong a.doc.now a.at p.0 p.1
+          (ap (look head_table) (sym c.peek.ensures.read) ∙ sym c.head_of.ensures.told
+          ∙ ap head_as c.in-Not.is);
+    }

@@ -23,11 +23,13 @@ returns-then-two-eq1901 c = record { found = (front_none c.args.x, omega arith) 
 
 pub returns-then-two-lt61440 : goal.returns-then-two-lt61440
 returns-then-two-lt61440 c =
-    record { found = (
-      wide_3 c.args.x c.ranges.x.fits c.if-two-ne2.false c.if-x-ne2.false c.if-two-lt57504.false
-          c.if-two-lt61440.true c.if-two-eq1901.false,
-      omega arith,
-    ) }
+    record {
+      found = (
+        wide_3 c.args.x c.ranges.x.fits c.if-two-ne2.false c.if-x-ne2.false c.if-two-lt57504.false
+            c.if-two-lt61440.true c.if-two-eq1901.false,
+        omega arith,
+      );
+    }
 
 pub returns-then-x-ne2-2 : goal.returns-then-x-ne2-2
 returns-then-x-ne2-2 c = record { found = (front_none c.args.x, omega arith) }
@@ -40,8 +42,10 @@ returns-then-two-gt62607 c = record { found = (front_none c.args.x, omega arith)
 
 pub returns : goal.returns
 returns c =
-    record { found = (
-      wide_4 c.args.x c.ranges.x.fits c.if-two-ne2.false c.if-x-ne2.false c.if-x-ne2-2.false
-          c.if-two-lt61584.false c.if-two-gt62607.false,
-      omega arith,
-    ) }
+    record {
+      found = (
+        wide_4 c.args.x c.ranges.x.fits c.if-two-ne2.false c.if-x-ne2.false c.if-x-ne2-2.false
+            c.if-two-lt61584.false c.if-two-gt62607.false,
+        omega arith,
+      );
+    }

@@ -9,6 +9,8 @@ use Rattle.text.proofs.write.front_length.Goals as goal
 
 pub returns-then-starts_bare : goal.returns-then-starts_bare
 returns-then-starts_bare c =
-    record { counted = let a = c.args in
-    sym (ap length (c.starts_bare.ensures.told c.if-starts_bare.true)
-    ∙ length-take-le a.n (unpacked a.x) (omega (arith, c.requires.0, length_unpacked a.x))) }
+    record {
+      counted = let a = c.args in
+          sym (ap length (c.starts_bare.ensures.told c.if-starts_bare.true)
+          ∙ length-take-le a.n (unpacked a.x) (omega (arith, c.requires.0, length_unpacked a.x)));
+    }

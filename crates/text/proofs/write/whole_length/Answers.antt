@@ -10,8 +10,10 @@ use Rattle.text.proofs.write.whole_length.Goals as goal
 
 pub returns-then-is_bare : goal.returns-then-is_bare
 returns-then-is_bare c =
-    record { counted = let a = c.args in
-    sym (ap length (bare_whole a.x (c.is_bare.ensures.told c.if-is_bare.true)) ∙ length_unpacked a.x) }
+    record {
+      counted = let a = c.args in
+          sym (ap length (bare_whole a.x (c.is_bare.ensures.told c.if-is_bare.true)) ∙ length_unpacked a.x);
+    }
 
 pub word_length-requires : goal.word_length-requires
 word_length-requires c =

@@ -1,6 +1,6 @@
 -- `text::write::word_length` meets its contract. The loop's invariant: what the first i bytes are in plain JSON is counted, and x is what is left.
 -- Assumes nothing.
-use Prim.Native.Nat.{ℕ, ◌+◌, ◌-◌}
+use Prim.Native.Nat.{ℕ, ◌+◌}
 use mathlib.Core.Path.{◌≡◌, sym, ap, ◌∙◌}
 use lib.ListN.{length, take}
 use native.Mathlib.Omega.{arith}
@@ -32,17 +32,24 @@ pub loop-i-preserved : goal.loop-i-preserved
 loop-i-preserved c =
     let l = c.loop-i in (
       omega arith,
-      omega (arith, c.cost-written.ensures.counted, l.invariant.1, word_count c.args.word l.i _ (omega arith) (shifted_byte l.invariant.2 (omega arith) l.invariant.3)),
+      omega (
+        arith,
+        c.cost-written.ensures.counted,
+        l.invariant.1,
+        word_count c.args.word l.i _ (omega arith) (shifted_byte l.invariant.2 (omega arith) l.invariant.3),
+      ),
       shifted_on l.invariant.2,
       omega arith,
     )
 
 pub returns : goal.returns
 returns c =
-    record { counted = let l = c.loop-i in
-    let a = c.args in
-    let e : l.i ≡ a.n = omega (arith, l.invariant.0, c.loop-i-test.false) in
-    l.invariant.1 ∙ ap (λ (k : ℕ). length (escaped_all (take k (unpacked a.word)))) e }
+    record {
+      counted = let l = c.loop-i in
+          let a = c.args in
+          let e : l.i ≡ a.n = omega (arith, l.invariant.0, c.loop-i-test.false) in
+          l.invariant.1 ∙ ap (λ (k : ℕ). length (escaped_all (take k (unpacked a.word)))) e;
+    }
 
 pub overflow_add-i : goal.overflow_add-i
 overflow_add-i c =

@@ -8,8 +8,10 @@ use Rattle.text.proofs.write.write_end.Goals as goal
 
 pub returns-then-n-eq0 : goal.returns-then-n-eq0
 returns-then-n-eq0 c =
-    record { written = let a = c.args in
-    writes_as (sym (escaped_end a.pool.now a.w a.n c.if-n-eq0.true)) (writes_none a.out.now a.at) }
+    record {
+      written = let a = c.args in
+          writes_as (sym (escaped_end a.pool.now a.w a.n c.if-n-eq0.true)) (writes_none a.out.now a.at);
+    }
 
 pub offset_bounds-pool-w : goal.offset_bounds-pool-w
 offset_bounds-pool-w c =
@@ -37,10 +39,12 @@ store_front-requires c =
 
 pub returns-then-starts_bare : goal.returns-then-starts_bare
 returns-then-starts_bare c =
-    record { written = let a = c.args in
-    writes_as (sym (bare_front a.pool.now a.w a.n c.requires.1 (omega (arith, c.if-n-eq0.false)) c.requires.0
-    (c.starts_bare.ensures.told c.if-starts_bare.true)))
-    c.store_front.ensures.stored }
+    record {
+      written = let a = c.args in
+          writes_as (sym (bare_front a.pool.now a.w a.n c.requires.1 (omega (arith, c.if-n-eq0.false)) c.requires.0
+          (c.starts_bare.ensures.told c.if-starts_bare.true)))
+          c.store_front.ensures.stored;
+    }
 
 pub write_mixed-requires : goal.write_mixed-requires
 write_mixed-requires c =

@@ -66,5 +66,7 @@ shape_of-out c =
 
 pub returns : goal.returns
 returns c =
-    record { written = let h = c.loop-left-test.false in
-    onward_front c.loop-left.invariant c.requires.1 (omega (arith, c.if-left-eq0.false)) (omega arith) c.write_word.ensures.written }
+    record {
+      written = let h = c.loop-left-test.false in
+          onward_front c.loop-left.invariant c.requires.1 (omega (arith, c.if-left-eq0.false)) (omega arith) c.write_word.ensures.written;
+    }

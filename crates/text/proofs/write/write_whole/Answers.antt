@@ -20,8 +20,10 @@ store_eight-requires c =
 
 pub returns-then-is_bare : goal.returns-then-is_bare
 returns-then-is_bare c =
-    record { written = writes_as (sym (bare_whole c.args.x (c.is_bare.ensures.told c.if-is_bare.true)))
-    c.store_eight.ensures.stored }
+    record {
+      written = writes_as (sym (bare_whole c.args.x (c.is_bare.ensures.told c.if-is_bare.true)))
+          c.store_eight.ensures.stored;
+    }
 
 pub write_word-requires : goal.write_word-requires
 write_word-requires c =

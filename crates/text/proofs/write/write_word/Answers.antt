@@ -1,5 +1,5 @@
 -- `text::write::write_word` meets its contract. The loop's invariant: the first i bytes are written, and x is what is left. Assumes nothing.
-use Prim.Native.Nat.{ℕ, ◌-◌}
+use Prim.Native.Nat.{ℕ}
 use mathlib.Core.List.{[]}
 use mathlib.Core.Path.{◌≡◌, refl, sym, ap}
 use lib.ListN.{take}
@@ -44,12 +44,14 @@ shape_of-out c =
 
 pub returns : goal.returns
 returns c =
-    record { written = let l = c.loop-i in
-    let a = c.args in
-    let e : l.i ≡ a.n = omega (arith, l.invariant.0, c.loop-i-test.false) in
-    writes_same (escaped_all (take a.n (unpacked a.word))) l.j l.invariant.1
-    (ap (λ (k : ℕ). escaped_all (take k (unpacked a.word))) e)
-    refl }
+    record {
+      written = let l = c.loop-i in
+          let a = c.args in
+          let e : l.i ≡ a.n = omega (arith, l.invariant.0, c.loop-i-test.false) in
+          writes_same (escaped_all (take a.n (unpacked a.word))) l.j l.invariant.1
+          (ap (λ (k : ℕ). escaped_all (take k (unpacked a.word))) e)
+          refl;
+    }
 
 pub overflow_add-i : goal.overflow_add-i
 overflow_add-i c =

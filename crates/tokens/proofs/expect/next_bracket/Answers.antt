@@ -11,10 +11,12 @@ returns-then-b-eq41 c = record { read = record { answer = first_closing c.skip_s
 
 pub returns : goal.returns
 returns c =
-    record { read = let skipped = c.skip_space-place.ensures.skipped in
     record {
-      answer = (
-        lacks_first skipped c.first_byte-b.ensures.told an_opening 0x28 (λ y e. e) c.if-b-eq40.false,
-        lacks_first skipped c.first_byte-b.ensures.told a_closing 0x29 (λ y e. e) c.if-b-eq41.false,
-      );
-    } }
+      read = let skipped = c.skip_space-place.ensures.skipped in
+          record {
+            answer = (
+              lacks_first skipped c.first_byte-b.ensures.told an_opening 0x28 (λ y e. e) c.if-b-eq40.false,
+              lacks_first skipped c.first_byte-b.ensures.told a_closing 0x29 (λ y e. e) c.if-b-eq41.false,
+            );
+          };
+    }

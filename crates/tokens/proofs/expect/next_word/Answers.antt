@@ -7,8 +7,15 @@ use Rattle.tokens.proofs.expect.next_word.Goals as goal
 
 pub returns-then-place-end : goal.returns-then-place-end
 returns-then-place-end c =
-    record { read = let runs = c.word_end-end.ensures.ended in
-    record { answer = found_word c.skip_space-place.ensures.skipped (omega (arith, c.if-place-end.true, runs.within)) c.if-place-end.true runs } }
+    record {
+      read = let runs = c.word_end-end.ensures.ended in
+          record { answer = found_word c.skip_space-place.ensures.skipped (omega (arith, c.if-place-end.true, runs.within)) c.if-place-end.true runs };
+    }
 
 pub returns-else-place-end : goal.returns-else-place-end
-returns-else-place-end c = record { read = record { answer = lacks a_word c.skip_space-place.ensures.skipped (no_word_there c.word_end-end.ensures.ended (omega (arith, c.if-place-end.false))) } }
+returns-else-place-end c =
+    record {
+      read =
+          record { answer =
+              lacks a_word c.skip_space-place.ensures.skipped (no_word_there c.word_end-end.ensures.ended (omega (arith, c.if-place-end.false))) };
+    }

@@ -8,8 +8,10 @@ returns-then-text-at-lt8 c = record { told = no_word_told }
 
 pub returns-then-eight_at-size : goal.returns-then-eight_at-size
 returns-then-eight_at-size c =
-    record { told = word_told c.eight_at.ensures.told (omega (arith, c.if-text-at-lt8.false, c.requires.0)) c.requires.1
-    c.if-eight_at-size.true c.is_border.ensures.told }
+    record {
+      told = word_told c.eight_at.ensures.told (omega (arith, c.if-text-at-lt8.false, c.requires.0)) c.requires.1
+          c.if-eight_at-size.true c.is_border.ensures.told;
+    }
 
 pub returns : goal.returns
 returns c = record { told = no_word_told }
