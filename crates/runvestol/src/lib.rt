@@ -1,5 +1,7 @@
-// The C calls: each runs an operation at a set of limits, with work slices of its own, and writes its answer as five little-endian
-// words. None asks for anything, and no function beside them stands here.
+// What the C calls do: each runs an operation at a set of limits, with work slices of its own, and writes its answer as five
+// little-endian words. None asks for anything, and no function beside them stands here; `runvestol_c` exports them.
+#![tactic(auto)]
+
 ghost use Rattle.std.specs.Prelude.{◌≡◌};
 ghost use Rattle.definitions.specs.Limits.{set_of};
 ghost use Rattle.definitions.specs.Json.{read_json};
@@ -8,8 +10,7 @@ ghost use Rattle.definitions.specs.Calls.{plain_call, infer_call, join_call, bel
 use definitions::Format;
 
 // Writes a document as plain JSON. Returns the answer's number.
-#[unsafe(no_mangle)]
-pub extern "C" fn runvestol_plain(
+pub fn runvestol_plain(
     bytes: u64,
     values: u64,
     nesting: u64,
@@ -35,8 +36,7 @@ pub extern "C" fn runvestol_plain(
 }
 
 // Joins the shape of a document into a shape, and writes it. Returns the answer's number.
-#[unsafe(no_mangle)]
-pub extern "C" fn runvestol_infer(
+pub fn runvestol_infer(
     bytes: u64,
     values: u64,
     nesting: u64,
@@ -66,8 +66,7 @@ pub extern "C" fn runvestol_infer(
 }
 
 // Joins two shapes, and writes the result. Returns the answer's number.
-#[unsafe(no_mangle)]
-pub extern "C" fn runvestol_join(
+pub fn runvestol_join(
     bytes: u64,
     values: u64,
     nesting: u64,
@@ -94,8 +93,7 @@ pub extern "C" fn runvestol_join(
 }
 
 // Tells whether a shape is below another. Returns the answer's number.
-#[unsafe(no_mangle)]
-pub extern "C" fn runvestol_below(
+pub fn runvestol_below(
     bytes: u64,
     values: u64,
     nesting: u64,
@@ -119,8 +117,7 @@ pub extern "C" fn runvestol_below(
 }
 
 // Tells whether a shape admits a document. Returns the answer's number.
-#[unsafe(no_mangle)]
-pub extern "C" fn runvestol_admits(
+pub fn runvestol_admits(
     bytes: u64,
     values: u64,
     nesting: u64,
@@ -144,8 +141,7 @@ pub extern "C" fn runvestol_admits(
 }
 
 // Checks a reader against a shape, and writes the shape of what it gives. Returns the answer's number.
-#[unsafe(no_mangle)]
-pub extern "C" fn runvestol_check(
+pub fn runvestol_check(
     bytes: u64,
     values: u64,
     nesting: u64,
@@ -172,8 +168,7 @@ pub extern "C" fn runvestol_check(
 }
 
 // Runs a reader on a document, and writes what it gives as plain JSON. Returns the answer's number.
-#[unsafe(no_mangle)]
-pub extern "C" fn runvestol_run(
+pub fn runvestol_run(
     bytes: u64,
     values: u64,
     nesting: u64,
