@@ -1,12 +1,16 @@
 // Infers the shape of the document on standard input from `(shape)`, and writes its text to standard output; or, of a
 // document that is refused, `refused N at P` and a line feed.
-ghost use Rattle.std.specs.Prelude.{◌≡◌, ◌+◌, ◌≤◌, ◌<◌, length, take};
-ghost use Rattle.io.specs.Counts.{IsPrefixLen};
+#![tactic(auto)]
+
+ghost use Rattle.std.specs.Prelude.{◌≡◌, ◌+◌, ◌≤◌, ◌<◌, OnOk, IfSome, length, take};
+ghost use Rattle.std.specs.Io.KnownBytes.{Appends};
 ghost use Rattle.definitions.specs.Plain.{decimal};
 ghost use Rattle.text.specs.Writes.{Writes};
 ghost use Rattle.infer_stdin.specs.Reply.{refused_line, reply_to};
 
-use libc::{STDIN_FILENO, STDOUT_FILENO};
+use itoa::Buffer;
+use std::io;
+use std::io::{Read, Write};
 
 // One byte more than a document may have, so that a longer one is refused and not cut.
 const DOCUMENT: usize = 16385;
@@ -19,34 +23,45 @@ const NODES: usize = 1536;
 
 const POOL: usize = 4607;
 
-fn main() {
-    let mut document = [0u8; DOCUMENT];
-    let n = io::read_full(STDIN_FILENO, &mut document);
-    // a short count may also mean that a read failed
-    let mut next = [0u8; 1];
-    if n < DOCUMENT && libc::read(STDIN_FILENO, &mut next) != 0 {
-        os::fail(b"standard input");
-        return;
+// Why there is no reply.
+enum Fault {
+    Input(io::Error),
+    Output(io::Error),
+}
+
+fn main(rt: HostRuntime) {
+    match answer(&mut rt.stdin(), &mut rt.stdout()) {
+        Ok(()) => {}
+        Err(Fault::Input(error)) => streams::fail(&rt.stderr(), b"standard input", error),
+        Err(Fault::Output(error)) => streams::fail(&rt.stderr(), b"standard output", error),
     }
-    print_reply(&document, n);
+}
+
+// Reads a document and writes the reply to it.
+fn answer<R: Read, W: Write>(input: &mut R, output: &mut W) -> Result<(), Fault>
+    ensures replied { OnOk result (IfSome (R.remaining input.old)
+        (λ document. Appends (W.contents output.old) (W.contents output.new) (reply_to document))) }
+{
+    let mut document = [0u8; DOCUMENT];
+    let n = streams::fill(input, &mut document).map_err(Fault::Input)?;
+    print_reply(output, &document, n).map_err(Fault::Output)
 }
 
 // Writes the reply to what was read. The buffer is longer than a document may be, so a document that fills it is refused.
-fn print_reply(buffer: &[u8], n: usize)
-    requires counted { IsPrefixLen n buffer.now }
+fn print_reply<W: Write>(to: &mut W, buffer: &[u8], n: usize) -> io::Result<()>
+    requires counted { n ≤ length buffer.now }
     requires longer { 16384 < length buffer.now }
+    ensures replied { OnOk result (Appends (W.contents to.old) (W.contents to.new) (reply_to (take n buffer.now))) }
 {
     let mut output = [0u8; OUTPUT];
     let end = reply(&buffer[..n], &mut output);
-    if !io::write_all(STDOUT_FILENO, &output[..end]) {
-        os::fail(b"standard output");
-    }
+    to.write_all(&output[..end])
 }
 
 // Puts what is to be said of a document at the front of the output, and answers how many bytes that is.
 fn reply(document: &[u8], output: &mut [u8]) -> usize
     requires { length output.old ≡ 16384 }
-    ensures counted { IsPrefixLen result output.new }
+    ensures counted { result ≤ length output.new }
     ensures replied { take result output.new ≡ reply_to document.now }
 {
     let mut shapes = [0u64; SHAPES];
@@ -70,7 +85,7 @@ fn reply(document: &[u8], output: &mut [u8]) -> usize
 // Puts the line of a refusal at the front of the output.
 fn refuse(out: &mut [u8], number: u64, place: u64) -> usize
     requires { 53 ≤ length out.old }
-    ensures counted { IsPrefixLen result out.new }
+    ensures counted { result ≤ length out.new }
     ensures told { take result out.new ≡ refused_line number place }
 {
     let mut at = plain::write_bytes(out, 0, b"refused ");
@@ -85,7 +100,6 @@ fn write_decimal(out: &mut [u8], at: usize, n: u64) -> usize
     requires { at + 20 ≤ length out.old }
     ensures written { Writes out.old out.new at (decimal n) result }
 {
-    let mut digits = [0u8; 20];
-    let k = io::decimal(n, &mut digits);
-    plain::write_bytes(out, at, &digits[..k])
+    let mut digits = Buffer::new();
+    plain::write_bytes(out, at, digits.format(n).as_bytes())
 }
