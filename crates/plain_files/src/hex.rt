@@ -20,18 +20,14 @@ fn spell(bytes: &[u8], out: &mut [u8]) -> usize
     ensures counted { result ≤ length out.new }
     ensures spelled { take result out.new ≡ hex_of bytes.now }
 {
-    let mut i = 0;
-    let mut k = 0;
-    while i < bytes.len() {
-        let byte = bytes[i];
-        out[k] = digit(byte / 16);
-        out[k + 1] = digit(byte % 16);
-        i += 1;
-        k += 2;
+    for (i, byte) in bytes.iter().enumerate() {
+        out[2 * i] = digit(byte / 16);
+        out[2 * i + 1] = digit(byte % 16);
     }
-    k
+    2 * bytes.len()
 }
 
+#[tactic(auto, unfolding(definitions::specs::Plain::hex_digit))]
 fn digit(d: u8) -> u8
     requires { d < 16 }
     ensures { result ≡ hex_digit d }
