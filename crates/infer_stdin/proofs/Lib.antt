@@ -1,3 +1,4 @@
 -- Lemmas of this crate's proofs.
 pub mod Decimals
 pub mod Replies
+pub mod Whole

@@ -6,8 +6,7 @@ use mathlib.Core.Bool.{Bool, true, false}
 use mathlib.Core.List.{List, [], ◌∷◌, ◌++◌}
 use lib.Dec.{ltb}
 use lib.ListN.{length, take, drop, replicate, length-append, length-replicate}
-use lib.Seq.{length-take-le, take_at}
-use Rattle.io.specs.Counts.{IsPrefixLen}
+use lib.Seq.{take_at}
 use Rattle.definitions.specs.declared.Answer.{Answer}
 use Rattle.definitions.specs.Bytes.{Bytes, bytes}
 use Rattle.definitions.specs.Limits.{standard}
@@ -31,30 +30,23 @@ use Rattle.infer_stdin.specs.ReplyLaws.{told_taken, told_line}
 
 -- ---- at the front of the output
 
-pub counts : (n : ℕ) (s : Bytes) → n ≤ length s → IsPrefixLen n s
-counts n s h = (h, sym (length-take-le n s h))
-
 -- what is written from place 0 on is the front
-writes_front
-    : (out out' s : Bytes) {r : ℕ} → r ≤ length out → Writes out out' 0 s r → IsPrefixLen r out' × (take r out' ≡ s)
-writes_front out out' s {r} h w =
-    let e : out' ≡ s ++ drop r out = w.bytes in
-    let k : length s ≡ r = omega (arith, w.end) in (
-      counts r out' (omega (arith, ap length e, length-append s (drop r out))),
-      ap (take r) e ∙ take_at s (drop r out) r k,
-    )
+writes_front : (out out' s : Bytes) {r : ℕ} → Writes out out' 0 s r → take r out' ≡ s
+writes_front out out' s {r} w =
+    let k : length s ≡ r = omega (arith, w.end) in
+    ap (take r) w.bytes ∙ take_at s (drop r out) r k
 
 -- ---- the line of a refusal
 
 -- its five parts, one behind the other
 pub line_front
-    : (n p : ℕ) {o a b c d o' one two three : Bytes} {i j k l r : ℕ} → r ≤ length o
+    : (n p : ℕ) {o a b c d o' one two three : Bytes} {i j k l r : ℕ}
     → Writes o a 0 one i → Writes a b i (decimal n) j → Writes b c j two k → Writes c d k (decimal p) l → Writes d o' l three r
     → one ≡ bytes "refused " → two ≡ bytes " at " → three ≡ bytes "\n"
-    → IsPrefixLen r o' × (take r o' ≡ refused_line n p)
+    → take r o' ≡ refused_line n p
 unfolding refused_line
-line_front n p h v w x y z e f g =
-    writes_front _ _ _ h
+line_front n p v w x y z e f g =
+    writes_front _ _ _
     (writes_then (omega arith)
     (writes_then (omega arith) (writes_then (omega arith) (writes_then (omega arith) (writes_as e v) w) (writes_as f x)) y)
     (writes_as g z))
@@ -143,10 +135,10 @@ module _ (text document : Bytes) where
       left = w.1 ∙ ap (λ (d : Done). d.output) (same out)
 
       -- an accepted document
-      pub accepts : r.number ≡ 0 → IsPrefixLen r.length out' × (take r.length out' ≡ told (alone (replicate 16384 0)))
+      pub accepts : r.number ≡ 0 → (r.length ≤ length out') × (take r.length out' ≡ told (alone (replicate 16384 0)))
       accepts e =
           let z : (alone out).answer.number ≡ 0 = ap (λ (a : Answer). a.number) (sym answered) ∙ e in (
-            counts r.length out' (omega (arith, fits out z, ap length left, ap (λ (a : Answer). a.length) answered)),
+            omega (arith, fits out z, ap length left, ap (λ (a : Answer). a.length) answered),
             ap₂ (λ (a : Answer) (s : Bytes). take a.length s) answered left
                 ∙ sym (told_taken (alone out) z)
                 ∙ told_alone out long,

@@ -2,10 +2,11 @@
 // document that is refused, `refused N at P` and a line feed.
 #![tactic(auto)]
 
-ghost use Rattle.std.specs.Prelude.{◌≡◌, ◌+◌, ◌≤◌, ◌<◌, OnOk, IfSome, length, take};
+ghost use Rattle.std.specs.Prelude.{◌≡◌, ◌+◌, ◌≤◌, ◌<◌, OnOk, IfErr, IfSome, length, take};
 ghost use Rattle.std.specs.Io.KnownBytes.{Appends};
 ghost use Rattle.definitions.specs.Plain.{decimal};
 ghost use Rattle.text.specs.Writes.{Writes};
+ghost use Rattle.infer_stdin.specs.Faults.{OnInput};
 ghost use Rattle.infer_stdin.specs.Reply.{refused_line, reply_to};
 
 use itoa::Buffer;
@@ -41,10 +42,17 @@ fn main(rt: HostRuntime) {
 fn answer<R: Read, W: Write>(input: &mut R, output: &mut W) -> Result<(), Fault>
     ensures replied { OnOk result (IfSome (R.remaining input.old)
         (λ document. Appends (W.contents output.old) (W.contents output.new) (reply_to document))) }
+    ensures unread { IfErr result (λ fault. OnInput fault (output.new ≡ output.old)) }
 {
     let mut document = [0u8; DOCUMENT];
-    let n = streams::fill(input, &mut document).map_err(Fault::Input)?;
-    print_reply(output, &document, n).map_err(Fault::Output)
+    let n = match streams::fill(input, &mut document) {
+        Ok(n) => n,
+        Err(error) => return Err(Fault::Input(error)),
+    };
+    match print_reply(output, &document, n) {
+        Ok(()) => Ok(()),
+        Err(error) => Err(Fault::Output(error)),
+    }
 }
 
 // Writes the reply to what was read. The buffer is longer than a document may be, so a document that fills it is refused.
@@ -83,6 +91,7 @@ fn reply(document: &[u8], output: &mut [u8]) -> usize
 }
 
 // Puts the line of a refusal at the front of the output.
+#[tactic(auto, using(crate::proofs::Decimals::decimal_short))]
 fn refuse(out: &mut [u8], number: u64, place: u64) -> usize
     requires { 53 ≤ length out.old }
     ensures counted { result ≤ length out.new }
