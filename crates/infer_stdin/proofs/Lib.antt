@@ -1,4 +1,3 @@
 -- Lemmas of this crate's proofs.
 pub mod Decimals
 pub mod Replies
-pub mod Whole

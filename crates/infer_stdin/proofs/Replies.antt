@@ -1,12 +1,6 @@
 -- What is told of a document: the line of a refusal, and that no reply depends on what the output held. Assumes nothing.
-use Prim.Native.Nat.{ℕ, ◌≤◌}
-use native.Mathlib.Omega.{arith}
-use mathlib.Core.Path.{◌≡◌, refl, sym, ap, ap₂, ◌∙◌}
-use mathlib.Core.Bool.{Bool, true, false}
-use mathlib.Core.List.{List, [], ◌∷◌, ◌++◌}
-use lib.Dec.{ltb}
-use lib.ListN.{length, take, drop, replicate, length-append, length-replicate}
-use lib.Seq.{take_at}
+use Rattle.std.proofs.Common.{ℕ, ◌≤◌, ◌<◌, Bool, true, false, ltb, List, [], ◌∷◌, ◌++◌, length, take, drop, replicate, ◌≡◌, refl, sym, ap, ap₂, ◌∙◌, arith, length-append, take_at}
+use Rattle.std.proofs.Math.ListN.{length-replicate}
 use Rattle.definitions.specs.declared.Answer.{Answer}
 use Rattle.definitions.specs.Bytes.{Bytes, bytes}
 use Rattle.definitions.specs.Limits.{standard}
@@ -25,8 +19,8 @@ use Rattle.laws.proofs.Theorems.{json_proper, standard_in_range}
 use Rattle.slices.specs.Long.{three_long}
 use Rattle.text.specs.Writes.{Writes}
 use Rattle.text.specs.WritesLaws.{writes_then, writes_as}
-use Rattle.infer_stdin.specs.Reply.{refused_line, told}
-use Rattle.infer_stdin.specs.ReplyLaws.{told_taken, told_line}
+use Rattle.infer_stdin.specs.Reply.{refused_line, told, reply_to}
+use Rattle.infer_stdin.specs.ReplyLaws.{told_taken, told_line, long_refused}
 
 -- ---- at the front of the output
 
@@ -73,6 +67,11 @@ told_same (passed t) h o u e = go (ltb (length o) (length t.bytes)) refl
         text x p =
             let f = front x t (finish x (passed t)) (deliver_room x t p) in
             told_taken (finish x (passed t)) f.0 ∙ f.1
+
+-- ---- a document that is too long, whatever it is
+
+pub longs_alike : (a b : Bytes) → 16384 < length a → 16384 < length b → reply_to a ≡ reply_to b
+longs_alike a b h k = long_refused a h ∙ sym (long_refused b k)
 
 -- ---- the operation from `(shape)`
 

@@ -4,14 +4,15 @@
 
 ghost use Rattle.std.specs.Prelude.{◌≡◌, ◌+◌, ◌≤◌, ◌<◌, OnOk, IfErr, IfSome, length, take};
 ghost use Rattle.std.specs.Io.KnownBytes.{Appends};
+ghost use Rattle.streams.specs.Faults.{OnInput};
 ghost use Rattle.definitions.specs.Plain.{decimal};
 ghost use Rattle.text.specs.Writes.{Writes};
-ghost use Rattle.infer_stdin.specs.Faults.{OnInput};
 ghost use Rattle.infer_stdin.specs.Reply.{refused_line, reply_to};
 
 use itoa::Buffer;
 use std::io;
 use std::io::{Read, Write};
+use streams::Fault;
 
 // One byte more than a document may have, so that a longer one is refused and not cut.
 const DOCUMENT: usize = 16385;
@@ -23,12 +24,6 @@ const SHAPES: usize = 1024;
 const NODES: usize = 1536;
 
 const POOL: usize = 4607;
-
-// Why there is no reply.
-enum Fault {
-    Input(io::Error),
-    Output(io::Error),
-}
 
 fn main(rt: HostRuntime) {
     match answer(&mut rt.stdin(), &mut rt.stdout()) {

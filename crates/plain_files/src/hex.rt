@@ -1,17 +1,20 @@
 // Bytes in hexadecimal.
-ghost use Rattle.std.specs.Prelude.{◌*◌, ◌≤◌, ◌<◌, ◌≡◌, length, take};
+ghost use Rattle.std.specs.Prelude.{◌*◌, ◌≤◌, ◌<◌, ◌≡◌, OnOk, length, take};
+ghost use Rattle.std.specs.Io.KnownBytes.{Appends};
 ghost use Rattle.definitions.specs.Plain.{hex_digit};
 ghost use Rattle.plain_files.specs.Lines.{hex_of};
 
 use std::io;
+use std::io::Write;
 
-// Writes at most 16,384 bytes to standard output.
-pub fn print(rt: &impl Print, bytes: &[u8]) -> io::Result<()>
+// Writes at most 16,384 bytes.
+pub fn print<W: Write>(to: &mut W, bytes: &[u8]) -> io::Result<()>
     requires { length bytes.now ≤ 16384 }
+    ensures printed { OnOk result (Appends (W.contents to.old) (W.contents to.new) (hex_of bytes.now)) }
 {
     let mut spelled = [0u8; 32768];
     let n = spell(bytes, &mut spelled);
-    rt.write_all(&spelled[..n])
+    to.write_all(&spelled[..n])
 }
 
 // Spells bytes at the front of out, two digits each.

@@ -2,16 +2,19 @@
 // of a refusal; or, of an accepted file, the length and the bytes written, in hexadecimal.
 #![tactic(auto)]
 
-ghost use Rattle.std.specs.Prelude.{◌≡◌, ◌≤◌, length};
-ghost use Rattle.plain_files.specs.Lines.{figure_of};
+ghost use Rattle.std.specs.Prelude.{◌≡◌, ◌≤◌, OnOk, IfErr, IfSome, min, length};
+ghost use Rattle.std.specs.Io.KnownBytes.{Appends};
+ghost use Rattle.streams.specs.Faults.{OnInput};
+ghost use Rattle.plain_files.specs.Lines.{figure_of, line_of, shown_of, judged};
 
 mod hex; // bytes in hexadecimal
 
 use definitions::Answer;
 use std::env::FillError;
-use std::io::{ErrorKind, Read};
+use std::io::{ErrorKind, Print, Read, Write};
 use std::rt::{Env, Files};
 use std::{fs, io};
+use streams::Fault;
 
 // One byte more than a document may have, so that a longer file is refused and not cut.
 const DOCUMENT: usize = 16385;
@@ -27,71 +30,104 @@ const NAME: usize = 4096;
 const ENAMETOOLONG: i32 = 36;
 
 fn main(rt: HostRuntime) {
-    let errors = rt.stderr();
     for i in 1..usize::MAX {
-        if !judge_argument(&rt, &errors, i) {
+        if !judge_argument(&rt, &mut rt.stdout(), &rt.stderr(), i) {
             break;
         }
     }
 }
 
 // Whether there is such an argument. A line on `errors` tells of what can't be read.
-fn judge_argument(rt: &(impl Env + Files + Print), errors: &impl Print, i: usize) -> bool {
+fn judge_argument<W: Write>(
+    rt: &(impl Env + Files),
+    to: &mut W,
+    errors: &impl Print,
+    i: usize,
+) -> bool {
     let mut name = [0u8; NAME];
     match rt.arg(i, &mut name) {
-        Ok(n) => judge_name(rt, errors, &name[..n]),
+        Ok(n) => judge_name(rt, to, errors, &name[..n]),
         Err(FillError::TooLong) => {
-            streams::fail(
-                errors,
-                b"argument",
-                io::Error::from_raw_os_error(ENAMETOOLONG),
-            );
+            let error = io::Error::from_raw_os_error(ENAMETOOLONG);
+            streams::fail(errors, b"argument", error);
         }
         Err(FillError::NotPresent) => return false,
     }
     true
 }
 
-fn judge_name(rt: &(impl Files + Print), errors: &impl Print, name: &[u8]) {
+fn judge_name<W: Write>(files: &impl Files, to: &mut W, errors: &impl Print, name: &[u8]) {
     let Ok(path) = str::from_utf8(name) else {
         let error = io::Error::new(ErrorKind::InvalidFilename, "file name is not UTF-8");
         streams::fail(errors, name, error);
         return;
     };
-    match fs::open(rt, path) {
-        Ok(mut file) => judge_file(rt, errors, path, &mut file),
-        Err(error) => streams::fail(errors, name, error),
+    let mut file = match fs::open(files, path) {
+        Ok(file) => file,
+        Err(error) => {
+            streams::fail(errors, name, error);
+            return;
+        }
+    };
+    match judge_file(&mut file, to, path) {
+        Ok(()) => {}
+        Err(Fault::Input(error)) => streams::fail(errors, name, error),
+        // what standard output does not take is lost, and the next file is judged
+        Err(Fault::Output(_)) => {}
     }
 }
 
-fn judge_file<F: Read>(rt: &impl Print, errors: &impl Print, name: &str, file: &mut F) {
+// Reads a file and prints its line.
+fn judge_file<R: Read, W: Write>(file: &mut R, to: &mut W, name: &str) -> Result<(), Fault>
+    ensures printed { OnOk result (IfSome (R.remaining file.old)
+        (λ document. Appends (W.contents to.old) (W.contents to.new) (line_of name.now (judged document)))) }
+    ensures unread { IfErr result (λ fault. OnInput fault (to.new ≡ to.old)) }
+{
     let mut document = [0u8; DOCUMENT];
-    match streams::fill(file, &mut document) {
-        Ok(n) => judge(rt, name, &document[..n]),
-        Err(error) => streams::fail(errors, name.as_bytes(), error),
+    let n = match streams::fill(file, &mut document) {
+        Ok(n) => n,
+        Err(error) => return Err(Fault::Input(error)),
+    };
+    match judge(to, name, &document[..n]) {
+        Ok(()) => Ok(()),
+        Err(error) => Err(Fault::Output(error)),
     }
 }
 
-fn judge(rt: &impl Print, name: &str, document: &[u8]) {
+// Prints the line of a file that was read.
+fn judge<W: Write>(to: &mut W, name: &str, document: &[u8]) -> io::Result<()>
+    ensures printed { OnOk result (Appends (W.contents to.old) (W.contents to.new) (line_of name.now (judged document.now))) }
+{
     let mut output = [0u8; OUTPUT];
     let mut nodes = [0u64; NODES];
     let mut pool = [0u64; POOL];
     let limits = slices::STANDARD; // the largest set
     let answer = operations::plain(limits, document, &mut output, &mut nodes, &mut pool);
-    // what standard output does not take is lost, and the next file is judged
-    let _ = print_line(rt, name, answer, &output);
+    print_line(to, name, answer, &output)
 }
 
-fn print_line(rt: &impl Print, name: &str, answer: Answer, output: &[u8]) -> io::Result<()>
+fn print_line<W: Write>(to: &mut W, name: &str, answer: Answer, output: &[u8]) -> io::Result<()>
     requires { length output.now ≤ 16384 }
+    ensures printed { OnOk result (Appends (W.contents to.old) (W.contents to.new)
+        (line_of name.now (record { answer = answer; output = output.now }))) }
 {
-    print!(rt; "{name} {} {}", answer.number, figure(answer))?;
-    if answer.number == 0 {
-        let n = written(answer, output);
-        rt.print(" ")?;
-        hex::print(rt, &output[..n])?;
+    write!(to, "{name} {} {}", answer.number, figure(answer))?;
+    print_written(to, answer, output)?;
+    to.write_all(b"\n")
+}
+
+// Prints what an accepted file's line has behind the numbers.
+fn print_written<W: Write>(to: &mut W, answer: Answer, output: &[u8]) -> io::Result<()>
+    requires { length output.now ≤ 16384 }
+    ensures printed { OnOk result (Appends (W.contents to.old) (W.contents to.new)
+        (shown_of (record { answer = answer; output = output.now }))) }
+{
+    if answer.number != 0 {
+        return Ok(());
     }
-    rt.println("")
+    let n = written(answer, output);
+    to.write_all(b" ")?;
+    hex::print(to, &output[..n])
 }
 
 // The number behind the refusal's: a length or a place.
@@ -107,7 +143,8 @@ fn figure(answer: Answer) -> usize
 
 // How many bytes of the output plain JSON takes, and no more than there are.
 fn written(answer: Answer, output: &[u8]) -> usize
-    ensures { result ≤ length output.now }
+    ensures within { result ≤ length output.now }
+    ensures value { result ≡ min answer.length (length output.now) }
 {
     let length = answer.length;
     if length < output.len() {

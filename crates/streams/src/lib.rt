@@ -11,6 +11,12 @@ mod cause; // an error in the C library's words
 use std::io;
 use std::io::{Print, Read};
 
+// What failed of a program that makes an output of its input.
+pub enum Fault {
+    Input(io::Error),
+    Output(io::Error),
+}
+
 // Reads until the buffer is full or the input ends, and answers how many bytes it put at the front of the buffer.
 pub fn fill<R: Read>(input: &mut R, buffer: &mut [u8]) -> io::Result<usize>
     ensures counted { ReadsAtMost result buffer.new }

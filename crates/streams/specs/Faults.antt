@@ -1,7 +1,7 @@
--- Why there is no reply. Assumes nothing.
+-- What failed. Assumes nothing.
 use Rattle.std.specs.Prelude.{⊤}
-use Rattle.infer_stdin.specs.declared.Fault.{Fault}
-use Rattle.infer_stdin.specs.declared.Fault.TheVariants.{Input, Output}
+use Rattle.streams.specs.declared.Fault.{Fault}
+use Rattle.streams.specs.declared.Fault.TheVariants.{Input, Output}
 
 -- a fact, where it is the input that failed
 abbrev pub OnInput : Fault → Type 0 → Type 0

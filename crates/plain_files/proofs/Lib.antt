@@ -1,0 +1,3 @@
+-- Lemmas of this crate's proofs.
+pub mod Printing
+pub mod Judging

@@ -1,0 +1,2 @@
+-- Lemmas for the programs' proofs.
+pub mod Whole
