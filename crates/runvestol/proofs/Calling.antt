@@ -1,8 +1,6 @@
 -- What a call answers: refusal 18 at a set out of range, 1 for a short answer buffer, else what is judged of its texts, whatever
 -- that is. Assumes nothing.
-use Prim.Native.Nat.{ℕ}
-use mathlib.Core.Path.{◌≡◌, ap, subst, ◌∙◌}
-use mathlib.Core.Bool.{Bool}
+use Rattle.std.proofs.Common.{ℕ, Bool, ◌≡◌, ap, subst, ◌∙◌}
 use Rattle.definitions.specs.declared.Limits.{Limits}
 use Rattle.definitions.specs.declared.Answer.{Answer}
 use Rattle.definitions.specs.Bytes.{Bytes}
@@ -13,11 +11,11 @@ use Rattle.slices.specs.Prelude.{Before, finishes_before, finishes_behind, says_
 
 -- a number m, an answer buffer b' and an output o'
 abbrev Calls : Called → ℕ → Bytes → Bytes → Type 0
-Calls c m b' o' = (m ≡ c.number) × ((b' ≡ c.answer) × (o' ≡ c.output))
+Calls c m b' o' = record { number : m ≡ c.number; answered : b' ≡ c.answer; written : o' ≡ c.output }
 
 -- without an output
 abbrev Answers : Called → ℕ → Bytes → Type 0
-Answers c m b' = (m ≡ c.number) × (b' ≡ c.answer)
+Answers c m b' = record { number : m ≡ c.number; answered : b' ≡ c.answer }
 
 -- an answer r that is told, at limits l that are those of the call; n is the number of what goes before the texts
 module _ (buffer : Bytes) {buffer' : Bytes} (r : Answer) {m : ℕ} (told : (m ≡ r.number) × (buffer' ≡ answered buffer r))
@@ -30,7 +28,7 @@ module _ (buffer : Bytes) {buffer' : Bytes} (r : Answer) {m : ℕ} (told : (m �
     unfolding call
     comes {out'} w =
         let (a, o) = subst (λ (k : Limits). Comes (at_set k) r out') same w in
-        (told.0 ∙ ap (λ (x : Answer). x.number) a, (told.1 ∙ ap (answered buffer) a, o))
+        record { number = told.0 ∙ ap (λ (x : Answer). x.number) a; answered = told.1 ∙ ap (answered buffer) a; written = o }
 
     pub calls_before : (n ≡ 0 → ⊥) → r ≡ refusal n 0 0 → Calls (call buffer (at_set l')) m buffer' out
     calls_before f a = comes (finishes_before b out (j l) f a)
@@ -46,7 +44,7 @@ module _ (buffer : Bytes) {buffer' : Bytes} (r : Answer) {m : ℕ} (told : (m �
     unfolding call quiet
     says w =
         let a = subst (λ (k : Limits). r ≡ said_at k) same w in
-        (told.0 ∙ ap (λ (x : Answer). x.number) a, told.1 ∙ ap (answered buffer) a)
+        record { number = told.0 ∙ ap (λ (x : Answer). x.number) a; answered = told.1 ∙ ap (answered buffer) a }
 
     pub answers_before : (n ≡ 0 → ⊥) → r ≡ refusal n 0 0 → Answers (call buffer (quiet (said_at l'))) m buffer'
     answers_before f a = says (says_before b (j l) f a)
