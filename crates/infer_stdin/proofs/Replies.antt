@@ -1,5 +1,6 @@
 -- What is told of a document: the line of a refusal, and that no reply depends on what the output held. Assumes nothing.
-use Rattle.std.proofs.Common.{ℕ, ◌≤◌, ◌<◌, Bool, true, false, ltb, List, [], ◌∷◌, ◌++◌, length, take, drop, replicate, ◌≡◌, refl, sym, ap, ap₂, ◌∙◌, arith, length-append, take_at}
+use Rattle.std.proofs.Common.{ℕ, ◌≤◌, ◌<◌, Bool, true, false, ltb, List, [], ◌∷◌, ◌++◌, length, take, drop, replicate}
+use Rattle.std.proofs.Common.{◌≡◌, refl, sym, ap, ap₂, ◌∙◌, arith, length-append, take_at}
 use Rattle.std.proofs.Math.ListN.{length-replicate}
 use Rattle.definitions.specs.declared.Answer.{Answer}
 use Rattle.definitions.specs.Bytes.{Bytes, bytes}

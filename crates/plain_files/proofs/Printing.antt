@@ -16,5 +16,7 @@ pub line_printed
     → Appends a b (name ++ (codes " " ++ (decimal done.answer.number ++ (codes " " ++ decimal k))))
     → Appends b c (shown_of done) → OnOk r (Appends c d (codes "\n")) → OnOk r (Appends a d (line_of name done))
 line_printed a b c d r name k done e numbers shown end =
-    let front = subst (Appends a b) (joined name (codes " ") (decimal done.answer.number) (decimal k) ∙ ap (λ x. name ++ codes " " ++ decimal done.answer.number ++ codes " " ++ decimal x) e) numbers in
+    let number = decimal done.answer.number in
+    let spelled = joined name (codes " ") number (decimal k) ∙ ap (λ x. name ++ codes " " ++ number ++ codes " " ++ decimal x) e in
+    let front = subst (Appends a b) spelled numbers in
     on_ok_weaker r (λ last. Appends-trans a c d _ _ (Appends-trans a b c _ _ front shown) last) end

@@ -12,7 +12,9 @@ returns g c =
     record {
       printed =
           subst
-          (λ done. OnOk c.print_line.result (Appends (g.W.Write.contents c.args.to.now) (g.W.Write.contents c.print_line.new.to) (line_of c.args.name.now done)))
+          (λ done.
+          OnOk c.print_line.result
+          (Appends (g.W.Write.contents c.args.to.now) (g.W.Write.contents c.print_line.new.to) (line_of c.args.name.now done)))
           (done_judged c.args.document.now _ _ c.plain-answer.ensures.answered c.plain-answer.ensures.written)
           c.print_line.ensures.printed;
     }

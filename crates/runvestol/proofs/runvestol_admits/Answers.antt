@@ -9,8 +9,10 @@ use Rattle.runvestol.proofs.runvestol_admits.Goals as goal
 pub returns-then-stop-ne0 : goal.returns-then-stop-ne0
 unfolding admits_call admits_operation
 returns-then-stop-ne0 c =
-    answers_before c.args.answer.now c.refusal.result (c.tell.ensures.number, c.tell.ensures.written) c.set-limits.ensures.made c.judge_call-stop.ensures.told
-    (λ l. admits_judged read_json l c.args.shape.now c.args.document.now) c.if-stop-ne0.true c.refusal.ensures.set
+    answers_before c.args.answer.now c.refusal.result (c.tell.ensures.number, c.tell.ensures.written)
+    c.set-limits.ensures.made c.judge_call-stop.ensures.told
+    (λ l. admits_judged read_json l c.args.shape.now c.args.document.now)
+    c.if-stop-ne0.true c.refusal.ensures.set
 
 pub admits-done-requires : goal.admits-done-requires
 admits-done-requires c = range_small (none_before c.judge_call-stop.ensures.told c.if-stop-ne0.false).0
@@ -18,5 +20,7 @@ admits-done-requires c = range_small (none_before c.judge_call-stop.ensures.told
 pub returns : goal.returns
 unfolding admits_call admits_operation source
 returns c =
-    answers_behind c.args.answer.now c.admits-done.result (c.tell-2.ensures.number, c.tell-2.ensures.written) c.set-limits.ensures.made c.judge_call-stop.ensures.told
-    (λ l. admits_judged read_json l c.args.shape.now c.args.document.now) c.if-stop-ne0.false c.admits-done.ensures.answered
+    answers_behind c.args.answer.now c.admits-done.result (c.tell-2.ensures.number, c.tell-2.ensures.written)
+    c.set-limits.ensures.made c.judge_call-stop.ensures.told
+    (λ l. admits_judged read_json l c.args.shape.now c.args.document.now)
+    c.if-stop-ne0.false c.admits-done.ensures.answered

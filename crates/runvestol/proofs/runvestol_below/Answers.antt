@@ -8,8 +8,10 @@ use Rattle.runvestol.proofs.runvestol_below.Goals as goal
 pub returns-then-stop-ne0 : goal.returns-then-stop-ne0
 unfolding below_call below_operation
 returns-then-stop-ne0 c =
-    answers_before c.args.answer.now c.refusal.result (c.tell.ensures.number, c.tell.ensures.written) c.set-limits.ensures.made c.judge_call-stop.ensures.told
-    (λ l. below_judged l c.args.first.now c.args.second.now) c.if-stop-ne0.true c.refusal.ensures.set
+    answers_before c.args.answer.now c.refusal.result (c.tell.ensures.number, c.tell.ensures.written)
+    c.set-limits.ensures.made c.judge_call-stop.ensures.told
+    (λ l. below_judged l c.args.first.now c.args.second.now)
+    c.if-stop-ne0.true c.refusal.ensures.set
 
 pub below-done-requires : goal.below-done-requires
 below-done-requires c = range_small (none_before c.judge_call-stop.ensures.told c.if-stop-ne0.false).0
@@ -17,5 +19,7 @@ below-done-requires c = range_small (none_before c.judge_call-stop.ensures.told 
 pub returns : goal.returns
 unfolding below_call below_operation
 returns c =
-    answers_behind c.args.answer.now c.below-done.result (c.tell-2.ensures.number, c.tell-2.ensures.written) c.set-limits.ensures.made c.judge_call-stop.ensures.told
-    (λ l. below_judged l c.args.first.now c.args.second.now) c.if-stop-ne0.false c.below-done.ensures.answered
+    answers_behind c.args.answer.now c.below-done.result (c.tell-2.ensures.number, c.tell-2.ensures.written)
+    c.set-limits.ensures.made c.judge_call-stop.ensures.told
+    (λ l. below_judged l c.args.first.now c.args.second.now)
+    c.if-stop-ne0.false c.below-done.ensures.answered

@@ -9,8 +9,10 @@ use Rattle.runvestol.proofs.runvestol_infer.Goals as goal
 pub returns-then-stop-ne0 : goal.returns-then-stop-ne0
 unfolding infer_call infer_operation
 returns-then-stop-ne0 c =
-    calls_before c.args.answer.now c.refusal.result (c.tell.ensures.number, c.tell.ensures.written) c.set-limits.ensures.made c.judge_call-stop.ensures.told
-    c.args.output.now (λ l. infer_judged read_json l c.args.shape.now c.args.document.now) c.if-stop-ne0.true c.refusal.ensures.set
+    calls_before c.args.answer.now c.refusal.result (c.tell.ensures.number, c.tell.ensures.written)
+    c.set-limits.ensures.made c.judge_call-stop.ensures.told c.args.output.now
+    (λ l. infer_judged read_json l c.args.shape.now c.args.document.now)
+    c.if-stop-ne0.true c.refusal.ensures.set
 
 pub infer-done-requires : goal.infer-done-requires
 infer-done-requires c = range_small (none_before c.judge_call-stop.ensures.told c.if-stop-ne0.false).0
@@ -18,5 +20,7 @@ infer-done-requires c = range_small (none_before c.judge_call-stop.ensures.told 
 pub returns : goal.returns
 unfolding infer_call infer_operation source
 returns c =
-    calls_behind c.args.answer.now c.infer-done.result (c.tell-2.ensures.number, c.tell-2.ensures.written) c.set-limits.ensures.made c.judge_call-stop.ensures.told
-    c.args.output.now (λ l. infer_judged read_json l c.args.shape.now c.args.document.now) c.if-stop-ne0.false (c.infer-done.ensures.answered, c.infer-done.ensures.written)
+    calls_behind c.args.answer.now c.infer-done.result (c.tell-2.ensures.number, c.tell-2.ensures.written)
+    c.set-limits.ensures.made c.judge_call-stop.ensures.told c.args.output.now
+    (λ l. infer_judged read_json l c.args.shape.now c.args.document.now)
+    c.if-stop-ne0.false (c.infer-done.ensures.answered, c.infer-done.ensures.written)
