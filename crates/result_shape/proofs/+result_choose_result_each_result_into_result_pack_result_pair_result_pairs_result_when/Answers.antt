@@ -169,8 +169,10 @@ result_each-bind_element-requires t c =
 
 pub result_each-ready_element-requires : goal.result_each-ready_element-requires
 result_each-ready_element-requires t c =
-    record { shape_held = each_held c.requires.tables c.requires.code refl (add-one c.args.bound) c.requires.result_asked;
-        room = tables_room c.requires.tables }
+    record {
+      shape_held = each_held c.requires.tables c.requires.code refl (add-one c.args.bound) c.requires.result_asked;
+      room = tables_room c.requires.tables;
+    }
 
 pub result_each-returns-in_default-ready_element : goal.result_each-returns-in_default-ready_element
 result_each-returns-in_default-ready_element t c =
@@ -378,7 +380,7 @@ result_pack-overflow_add-end t c =
 pub result_pack-members-first-requires : goal.result_pack-members-first-requires
 result_pack-members-first-requires t c =
     let facts = record_first c.requires.result_asked.meets.stands c.requires.result_asked.meets.within (tables_room c.requires.tables) in
-        record { row_in_bounds = facts.0; within = facts.1 }
+    record { row_in_bounds = facts.0; within = facts.1 }
 
 pub result_pack-overflow_add-last : goal.result_pack-overflow_add-last
 result_pack-overflow_add-last t c =

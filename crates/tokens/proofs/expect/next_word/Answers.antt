@@ -16,6 +16,8 @@ pub returns-else-place-end : goal.returns-else-place-end
 returns-else-place-end c =
     record {
       read =
-          record { answer =
-              lacks a_word c.skip_space-place.ensures.skipped (no_word_there c.word_end-end.ensures.ended (omega (arith, c.if-place-end.false))) };
+          record {
+            answer =
+                lacks a_word c.skip_space-place.ensures.skipped (no_word_there c.word_end-end.ensures.ended (omega (arith, c.if-place-end.false)));
+          };
     }
