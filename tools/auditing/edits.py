@@ -110,7 +110,7 @@ def places_of(edit, name):
         path = edit.root / "crates" / edit.crate / file
         if path.suffix == ".rt" and path.is_file():
             source = Source(edit.root, path)
-            spans = [(function.at, function.body[1]) for function in functions(source) if function.name == name]
+            spans = [(function.first, function.body[1]) for function in functions(source) if function.name == name]
             lines.update({file: tuple(source.text.count("\n", 0, at) + 1 for at in span) for span in spans})
 
     def concerns(place):

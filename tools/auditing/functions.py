@@ -4,6 +4,7 @@ from collections import namedtuple
 
 FN = re.compile(r'\b(pub\s+)?((?:(?:extern|const|unsafe|async|"C")\s+)*)fn\s+(\w+)')
 IMPL = re.compile(r"\bimpl(?:\s*<[^>{]*>)?\s+(\w+)[^{;]*\{")
+ATTRIBUTES = re.compile(r"(?:#\[[^\n]*\]\s*)*\Z")
 LABEL = re.compile(r"\b(?:requires|ensures|ghost)(\*?)\s*(\w*)\s*[:=]?\s*$")
 
 # A clause: its word, its name, its text, the offset of its brace, and whether a star stands at its word.
@@ -16,6 +17,8 @@ class Function:
 
     def __init__(self, source, match, name):
         self.name, self.at = name, match.start()
+        # the prover tells what a function ensures at its first attribute
+        self.first = ATTRIBUTES.search(source.text, 0, self.at).start()
         self.public, self.exported = bool(match[1]), '"C"' in match[2]
         self.clauses, start = clauses_from(source, match.end())
         self.body = (start, block_end(source.text, start + 1) if source.text[start : start + 1] == "{" else start)
