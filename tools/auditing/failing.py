@@ -15,8 +15,8 @@ FACTS = [
     r"`simp` has no last argument, so what it leaves must be a path whose two ends are equal",
     r"`rw` has no last argument, so what it leaves must be a path whose two ends are equal, and `Path ",
     r"on the face `[^`]*` this λ's body is `[^`]*`, but the extension \(path\) type requires `",
-    # the types agree up to a relation's sign, and differ only on its right side
-    r"the two types differ only where [^`]*`[^`]*`\s+\(expected\), right after `[^`]*[≡≢<≤]`",
+    # the types agree up to a relation's sign, and differ only on its right side, or behind its name on its left
+    r"the two types differ only where [^`]*`[^`]*`\s+\(expected\), right after `[^`]*[≡≢<≤]◌?`",
 ]
 
 # The heads of a type that states a relation, of a contract's clause, and of a test that computes.
