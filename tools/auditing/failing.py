@@ -22,7 +22,7 @@ FACTS = [
 # The heads of a type that states a relation, of a contract's clause, and of a test that computes.
 RELATIONS = {"Path", "PathP", "◌≡◌", "◌≢◌", "◌<◌", "◌≤◌", "◌∣◌", "Fits", "InArray", "PartFrom", "PartTo"}
 INFIX = {"≡", "≢", "<", "≤", "∣"}
-CLAUSE = re.compile(r"(?:^|\.)[Rr]eads\.(?:Pre|Post|Asked|Learnt)$")
+CLAUSE = re.compile(r"(?:^|\.)[Rr]eads\.(?:Pre|Post|Asked|Learnt)$|\.View\.Asks-returns[\w+-]*$")
 TESTS = {"T", "IsLe", "IsTrue", "IsFalse", "So", "⊥", "⊤", "Unit"}
 # A statement by its name alone: a loop's invariant, or a clause of a function that a proof of several has as one of its claims.
 NAMED = re.compile(r"(?:\S*-)?Inv-\S+ |(?:\S*\.)?(?:the-)?invariant-\S+ |\(\S+-claims [^()]*\) ?\.[01] ")
