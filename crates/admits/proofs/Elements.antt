@@ -1,14 +1,14 @@
 -- The walk over the elements of a list. Assumes nothing.
 use Prim.Native.Nat.{ℕ, ◌+◌, ◌≤◌, ◌<◌}
 use mathlib.Core.Path.{◌≡◌, refl, sym, ap, ◌∙◌, subst}
-use mathlib.Core.Bool.{Bool, true, false, not, ◌&&◌}
+use mathlib.Core.Bool.{Bool, true, false, ◌&&◌}
 use mathlib.Core.List.{List}
 use native.Mathlib.Omega.{arith}
 use lib.ListN.{length}
 use Rattle.definitions.specs.Value.{Value, Items, item}
 use Rattle.definitions.specs.Shape.{Shape}
 use Rattle.definitions.specs.Admits.{admits, admitted, admitted_items}
-use Rattle.laws.specs.Bools.{and_two, not_true, not_fails}
+use Rattle.laws.specs.Bools.{and_two}
 use Rattle.laws.specs.Distinct.{distinct, distinct_items}
 use Rattle.nodes.specs.Nodes.{row_size}
 use Rattle.nodes.specs.Standing.{ValueStands}
@@ -109,12 +109,12 @@ module _ (shapes : List ℕ) (row : ℕ) (nodes : List ℕ) (at end : ℕ) (pool
           ∙ ap (λ (ws : Items). admitted_items ws s) f.same
           ∙ ap (λ (b : Bool). b && admitted_items f.others s) (sym (told s h f.value f.holds))
 
-      pub walk_fails : not r ≡ true → ItemsTold shapes row nodes at end pool false
+      pub walk_fails : r ≡ false → ItemsTold shapes row nodes at end pool false
       walk_fails e s h vs k =
           let m = w.left s h vs k in
-          sym (step_told s h m ∙ ap (λ (b : Bool). b && admitted_items (first m.holds more).others s) (not_true r e))
+          sym (step_told s h m ∙ ap (λ (b : Bool). b && admitted_items (first m.holds more).others s) e)
 
-      pub walk_on : {n : ℕ} → not r ≡ false → n ≡ row_size nodes i → Walking (i + n)
+      pub walk_on : {n : ℕ} → r ≡ true → n ≡ row_size nodes i → Walking (i + n)
       walk_on e s =
           subst (λ (n : ℕ). Walking (i + n)) (sym s)
           (record {
@@ -126,7 +126,7 @@ module _ (shapes : List ℕ) (row : ℕ) (nodes : List ℕ) (at end : ℕ) (pool
                   holds = (first m.holds more).more;
                   alike =
                       step_told t h m
-                      ∙ ap (λ (b : Bool). b && admitted_items (first m.holds more).others t) (not_fails r e);
+                      ∙ ap (λ (b : Bool). b && admitted_items (first m.holds more).others t) e;
                   once = λ d. (first_once (first m.holds more) (m.once d)).1;
                 };
           })

@@ -1,14 +1,14 @@
 -- Members that a value lacks: the walk over the members of a shape. Assumes nothing.
 use Prim.Native.Nat.{ℕ, ◌+◌, ◌/◌, ◌%◌, ◌≤◌, ◌<◌}
 use mathlib.Core.Path.{◌≡◌, refl, sym, ap, ap₂, ◌∙◌, subst}
-use mathlib.Core.Bool.{Bool, true, false, not, ◌&&◌, ◌||◌}
+use mathlib.Core.Bool.{Bool, true, false, ◌&&◌, ◌||◌}
 use mathlib.Core.List.{List}
 use lib.ListN.{length, take, get_or}
 use Rattle.definitions.specs.Bytes.{Bytes}
 use Rattle.definitions.specs.Value.{Members, has_name}
 use Rattle.definitions.specs.Shape.{Kind, Fields, has}
 use Rattle.definitions.specs.Admits.{missing_have_null}
-use Rattle.laws.specs.Bools.{or_right, not_true, or_second, not_fails}
+use Rattle.laws.specs.Bools.{or_right, or_second}
 use Rattle.pool.specs.Pool.{text_in}
 use Rattle.nodes.specs.Standing.{MembersStand, MembersHeld}
 use Rattle.shapes.specs.Shapes.{kind_bit, has_bit, size_at}
@@ -86,13 +86,13 @@ module _ (shapes : List ℕ) (from to : ℕ) (nodes : List ℕ) (at end : ℕ) (
           ∙ ap (λ (b : Bool). b && missing_have_null ms f.others) (first_told m.holds ms k)
 
       pub walk_fails
-          : not r ≡ true → (fs : Fields) → HoldsFields shapes pool from to fs → (ms : Members) → HoldsMembers nodes pool at end ms
+          : r ≡ false → (fs : Fields) → HoldsFields shapes pool from to fs → (ms : Members) → HoldsMembers nodes pool at end ms
           → false ≡ missing_have_null ms fs
       walk_fails e fs h ms k =
           let m = w.left fs h ms k in
-          sym (step_told fs h ms k m ∙ ap (λ (b : Bool). b && missing_have_null ms (first_field m.holds more).others) (not_true r e))
+          sym (step_told fs h ms k m ∙ ap (λ (b : Bool). b && missing_have_null ms (first_field m.holds more).others) e)
 
-      pub walk_on : {n : ℕ} → not r ≡ false → n ≡ size_at shapes i → Walking (i + n)
+      pub walk_on : {n : ℕ} → r ≡ true → n ≡ size_at shapes i → Walking (i + n)
       walk_on e s =
           subst (λ (n : ℕ). Walking (i + n)) (sym s)
           (record {
@@ -103,7 +103,7 @@ module _ (shapes : List ℕ) (from to : ℕ) (nodes : List ℕ) (at end : ℕ) (
                   holds = (first_field m.holds more).more;
                   alike =
                       step_told fs h ms k m
-                      ∙ ap (λ (b : Bool). b && missing_have_null ms (first_field m.holds more).others) (not_fails r e);
+                      ∙ ap (λ (b : Bool). b && missing_have_null ms (first_field m.holds more).others) e;
                 };
           })
 

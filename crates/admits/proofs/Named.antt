@@ -10,15 +10,15 @@ use Rattle.definitions.specs.Bytes.{Bytes}
 use Rattle.definitions.specs.Value.{Value, Members, member, has_name}
 use Rattle.definitions.specs.Shape.{Shape, Fields, find}
 use Rattle.definitions.specs.Admits.{admits, admitted, admitted_members}
-use Rattle.laws.specs.Bools.{and_three, not_true, not_fails}
+use Rattle.laws.specs.Bools.{and_three}
 use Rattle.laws.specs.Distinct.{distinct, distinct_members}
 use Rattle.laws.specs.AdmitsParts.{admitted_by_listed, admitted_member}
 use Rattle.pool.specs.Pool.{text_in}
 use Rattle.nodes.specs.Nodes.{row_size}
 use Rattle.nodes.specs.StandingLaws.{size_some, value_name, value_size, value_within, first_member, no_member_left, text_referred}
 use Rattle.plain.specs.Table.{BoundedNumbers, BoundedMembers, Holds}
-use Rattle.shapes.specs.declared.Member.{Member}
-use Rattle.shapes.specs.declared.Member.TheVariants.{Found, Missing}
+use Rattle.std.specs.Prelude as std
+use Rattle.std.specs.Prelude.{Some, None}
 use Rattle.shapes.specs.Members.{Tells, Found_at, Names}
 use Rattle.shapes.specs.Held.{HoldsFields}
 use Rattle.shapes.specs.HeldLaws.{found_held}
@@ -104,7 +104,7 @@ module _ (shapes : List ℕ) (from to : ℕ) (nodes : List ℕ) (at end : ℕ) (
     pub walk_row : MembersAsked shapes from to nodes at end pool → i + 1 < length nodes
     walk_row a = omega (arith, (next a).wide, (next a).within)
 
-    module _ (m : Member) (names : Names shapes from to pool (get_or nodes (i + 2) 0) m) where
+    module _ (m : std.Option ℕ) (names : Names shapes from to pool (get_or nodes (i + 2) 0) m) where
       -- what the search tells of the first member
       tells
           : {fs : Fields} (h : HoldsFields shapes pool from to fs) {ns : Members} (k : HoldsMembers nodes pool i end ns)
@@ -124,20 +124,20 @@ module _ (shapes : List ℕ) (from to : ℕ) (nodes : List ℕ) (at end : ℕ) (
           ∙ ap (λ (ns : Members). admitted_members ns fs) f.same
           ∙ admitted_member f.name f.value f.others fs
 
-      pub walk_misses : m ≡ Missing → MembersTold shapes from to nodes at end pool false
+      pub walk_misses : m ≡ None → MembersTold shapes from to nodes at end pool false
       walk_misses e fs h ms k =
           let l = w.left fs h ms k in
           let f = first l.holds more in
-          let t : find f.name fs ≡ none = subst (λ (x : Member). Tells shapes h.used to f.name fs x) e (tells h l.holds) in
+          let t : find f.name fs ≡ none = subst (λ (x : std.Option ℕ). Tells shapes h.used to f.name fs x) e (tells h l.holds) in
           sym
           (step l
           ∙ ap (λ (o : Option Shape). admitted_by_listed f.value o && admitted_members f.others fs) t)
 
-      module _ {row : ℕ} (e : m ≡ Found row) where
+      module _ {row : ℕ} (e : m ≡ Some row) where
         found
             : {fs : Fields} (h : HoldsFields shapes pool from to fs) {ns : Members} (k : HoldsMembers nodes pool i end ns)
             → Found_at shapes h.used to (first k more).name fs row
-        found {fs} h k = subst (λ (x : Member). Tells shapes h.used to (first k more).name fs x) e (tells h k)
+        found {fs} h k = subst (λ (x : std.Option ℕ). Tells shapes h.used to (first k more).name fs x) e (tells h k)
 
         pub walk_asks : MembersAsked shapes from to nodes at end pool → ValueAsked shapes row nodes i pool
         walk_asks a =
@@ -162,12 +162,12 @@ module _ (shapes : List ℕ) (from to : ℕ) (nodes : List ℕ) (at end : ℕ) (
               ∙ ap (λ (o : Option Shape). admitted_by_listed f.value o && admitted_members f.others fs) g.found
               ∙ ap (λ (b : Bool). b && admitted_members f.others fs) (sym (told g.shape (found_held h g) f.value f.holds))
 
-          pub walk_fails : not r ≡ true → MembersTold shapes from to nodes at end pool false
+          pub walk_fails : r ≡ false → MembersTold shapes from to nodes at end pool false
           walk_fails x fs h ms k =
               let l = w.left fs h ms k in
-              sym (step_told h l ∙ ap (λ (b : Bool). b && admitted_members (first l.holds more).others fs) (not_true r x))
+              sym (step_told h l ∙ ap (λ (b : Bool). b && admitted_members (first l.holds more).others fs) x)
 
-          pub walk_on : {n : ℕ} → not r ≡ false → n ≡ row_size nodes i → Walking (i + n)
+          pub walk_on : {n : ℕ} → r ≡ true → n ≡ row_size nodes i → Walking (i + n)
           walk_on x s =
               subst (λ (n : ℕ). Walking (i + n)) (sym s)
               (record {
@@ -179,7 +179,7 @@ module _ (shapes : List ℕ) (from to : ℕ) (nodes : List ℕ) (at end : ℕ) (
                       holds = (first l.holds more).more;
                       alike =
                           step_told h l
-                          ∙ ap (λ (b : Bool). b && admitted_members (first l.holds more).others fs) (not_fails r x);
+                          ∙ ap (λ (b : Bool). b && admitted_members (first l.holds more).others fs) x;
                       once = λ d. (first_once (first l.holds more) (l.once d)).1;
                     };
               })

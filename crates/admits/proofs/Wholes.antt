@@ -1,7 +1,7 @@
 -- A shape and a value: what the kind tells, of a value that holds no others all, and where the parts of a list and of a record stand. Assumes nothing.
 use Prim.Native.Nat.{ℕ, ◌+◌, ◌%◌, ◌≤◌, ◌<◌}
 use mathlib.Core.Path.{◌≡◌, refl, sym, ap, ap₂, ◌∙◌, subst}
-use mathlib.Core.Bool.{Bool, true, false, not, ◌&&◌}
+use mathlib.Core.Bool.{Bool, true, false, ◌&&◌}
 use mathlib.Core.List.{List}
 use native.Mathlib.Omega.{arith}
 use lib.ListN.{length, get_or}
@@ -9,7 +9,7 @@ use Rattle.definitions.specs.Number.{Number, is_int}
 use Rattle.definitions.specs.Value.{Value, Items, Members}
 use Rattle.definitions.specs.Shape.{Shape, shape, no_list, list_of, no_rec, rec_of, Fields, has, has_list, has_rec, element_of, record_of}
 use Rattle.definitions.specs.Admits.{kind_of, admits, admitted, admitted_items, admitted_members, missing_have_null}
-use Rattle.laws.specs.Bools.{not_true, clash, not_fails}
+use Rattle.laws.specs.Bools.{clash}
 use Rattle.laws.specs.Distinct.{distinct, distinct_items, distinct_members}
 use Rattle.nodes.specs.Nodes.{kind_code, row_size}
 use Rattle.nodes.specs.Standing.{ValueStands}
@@ -55,12 +55,12 @@ module _ (shapes : List ℕ) (row : ℕ) (nodes : List ℕ) (at : ℕ) (pool : L
             ∙ has_kind (kind_of v) s;
       }
 
-  pub without_kind : {bit : ℕ} {r : Bool} → Seen bit r → not r ≡ true → ValueTold shapes row nodes at pool false
-  without_kind {r} k e s h v g = lacks_kind v s (sym (k.there s h v g) ∙ not_true r e)
+  pub without_kind : {bit : ℕ} {r : Bool} → Seen bit r → r ≡ false → ValueTold shapes row nodes at pool false
+  without_kind {r} k e s h v g = lacks_kind v s (sym (k.there s h v g) ∙ e)
 
-  pub single : {bit : ℕ} {r : Bool} → Seen bit r → not r ≡ false → bit < 32 → ValueTold shapes row nodes at pool true
+  pub single : {bit : ℕ} {r : Bool} → Seen bit r → r ≡ true → bit < 32 → ValueTold shapes row nodes at pool true
   single {r} k e l s h v g =
-      kind_enough v s (omega (arith, k.coded v g)) (sym (k.there s h v g) ∙ not_fails r e)
+      kind_enough v s (omega (arith, k.coded v g)) (sym (k.there s h v g) ∙ e)
 
 -- ---- values that hold no others
 
@@ -154,13 +154,13 @@ module _ (shapes : List ℕ) (row : ℕ) (nodes : List ℕ) (at : ℕ) (pool : L
 
 module _
     (shapes : List ℕ) (row : ℕ) (nodes : List ℕ) (at : ℕ) (pool : List ℕ) {bit n : ℕ} {r : Bool} (k : Seen shapes row nodes at pool bit r)
-    (e : not r ≡ false) (sized : n ≡ row_size nodes at)
+    (e : r ≡ true) (sized : n ≡ row_size nodes at)
   where
     module _ (l : bit ≡ 32) where
       list_of_both
           : (s : Shape) → HoldsShape shapes pool row s → (v : Value) → Holds nodes pool at v
           → ListParts shapes row nodes at pool s v
-      list_of_both s h v g = list_parts shapes row nodes at pool s h v g (sym (k.coded v g) ∙ l) (sym (k.there s h v g) ∙ not_fails r e)
+      list_of_both s h v g = list_parts shapes row nodes at pool s h v g (sym (k.coded v g) ∙ l) (sym (k.there s h v g) ∙ e)
 
       pub list_asks : ValueAsked shapes row nodes at pool → ItemsAsked shapes (row + 2) nodes (at + 3) (at + n) pool
       list_asks a =
@@ -183,7 +183,7 @@ module _
       rec_of_both
           : (s : Shape) → HoldsShape shapes pool row s → (v : Value) → Holds nodes pool at v
           → RecParts shapes row nodes at pool s v
-      rec_of_both s h v g = rec_parts shapes row nodes at pool s h v g (omega (arith, k.coded v g)) (sym (k.there s h v g) ∙ not_fails r e)
+      rec_of_both s h v g = rec_parts shapes row nodes at pool s h v g (omega (arith, k.coded v g)) (sym (k.there s h v g) ∙ e)
 
       placed_fields
           : {s : Shape} {v : Value} (p : RecParts shapes row nodes at pool s v) → HoldsFields shapes pool from (row + size) p.fields
@@ -201,17 +201,17 @@ module _
           record { fields = p.fields; held = placed_fields p; members = p.members; holds = placed_members p; once = p.once a.once }
 
       pub rec_fails
-          : {q : Bool} → MembersTold shapes from (row + size) nodes (at + 3) (at + n) pool q → not q ≡ true
+          : {q : Bool} → MembersTold shapes from (row + size) nodes (at + 3) (at + n) pool q → q ≡ false
           → ValueTold shapes row nodes at pool false
       rec_fails {q} t x s h v g =
           let p = rec_of_both s h v g in
           sym
           (p.told
           ∙ ap (λ (b : Bool). b && missing_have_null p.members p.fields)
-          (sym (t p.fields (placed_fields p) p.members (placed_members p)) ∙ not_true q x))
+          (sym (t p.fields (placed_fields p) p.members (placed_members p)) ∙ x))
 
       pub rec_told
-          : {q o : Bool} → MembersTold shapes from (row + size) nodes (at + 3) (at + n) pool q → not q ≡ false
+          : {q o : Bool} → MembersTold shapes from (row + size) nodes (at + 3) (at + n) pool q → q ≡ true
           → NullsTold shapes from (row + size) nodes (at + 3) (at + n) pool o → ValueTold shapes row nodes at pool o
       rec_told {q} t x u s h v g =
           let p = rec_of_both s h v g in
@@ -219,11 +219,11 @@ module _
           ∙ sym
           (p.told
           ∙ ap (λ (b : Bool). b && missing_have_null p.members p.fields)
-          (sym (t p.fields (placed_fields p) p.members (placed_members p)) ∙ not_fails q x))
+          (sym (t p.fields (placed_fields p) p.members (placed_members p)) ∙ x))
 
     -- where the members begin
     pub members_within : 32 ≤ bit → (bit ≡ 32 → ⊥) → ValueAsked shapes row nodes at pool → members_at shapes row ≤ row + size_at shapes row
     members_within l other a =
         let p = rec_parts shapes row nodes at pool a.shape a.held a.value a.holds (omega (arith, k.coded a.value a.holds))
-        (sym (k.there a.shape a.held a.value a.holds) ∙ not_fails r e) in
+        (sym (k.there a.shape a.held a.value a.holds) ∙ e) in
         held_members_within p.held

@@ -9,33 +9,22 @@ ghost use Rattle.shapes.specs.Shapes.{kind_bit};
 ghost use Rattle.nodes.specs.Standing.{ValueStands, MembersHeld};
 ghost use Rattle.admits.specs.Admission.{ValueAsked, ValueTold, ItemsAsked, ItemsTold, MembersAsked, MembersTold, NullsTold, Lacks};
 
-use shapes::{Member, Shape};
+use shapes::Shape;
 
 // The bit of the kind of the value at a row.
 fn kind_bit(nodes: &[u64], at: usize) -> Shape
     ensures told { (p : List ℕ) (k : ℕ) (v : Value) → ValueStands nodes.now p at k v → BoundedNumbers v
         → result.kinds ≡ kind_bit (kind_of v) }
 {
-    let kind = nodes::row_kind(nodes, at);
-    if kind == nodes::NULL {
-        return Shape::NULL;
+    match nodes::row_kind(nodes, at) {
+        nodes::NULL => Shape::NULL,
+        nodes::FALSE | nodes::TRUE => Shape::BOOL,
+        nodes::NUMBER if nodes::row_is_int(nodes, at) => Shape::INT,
+        nodes::NUMBER => Shape::DEC,
+        nodes::TEXT => Shape::TEXT,
+        nodes::LIST => Shape::LIST,
+        _ => Shape::REC,
     }
-    if kind < nodes::NUMBER {
-        return Shape::BOOL;
-    }
-    if kind == nodes::NUMBER {
-        if nodes::row_is_int(nodes, at) {
-            return Shape::INT;
-        }
-        return Shape::DEC;
-    }
-    if kind == nodes::TEXT {
-        return Shape::TEXT;
-    }
-    if kind == nodes::LIST {
-        return Shape::LIST;
-    }
-    Shape::REC
 }
 
 // ---- members that a value lacks
@@ -45,10 +34,8 @@ fn may_lack(shapes: &[u64], row: usize, nodes: &[u64], at: usize, end: usize, po
     requires { MembersHeld nodes.now pool.now at end }
     ensures told { Lacks shapes.now row nodes.now at end pool.now result }
 {
-    if shapes::has(shapes::kinds(shapes, row), Shape::NULL) {
-        return true;
-    }
-    nodes::has_member(nodes, at, end, pool, shapes::name(shapes, row))
+    shapes::kinds(shapes, row).has(Shape::NULL)
+        || nodes::has_member(nodes, at, end, pool, shapes::name(shapes, row))
 }
 
 // Whether every member listed from one row up to another has null where the value lacks it.
@@ -137,7 +124,7 @@ fn admits_members(
     let mut i = at;
     while i < end {
         let named = shapes::find_named(shapes, from, to, pool, nodes[i + 2]);
-        let Member::Found { row } = named else {
+        let Some(row) = named else {
             return false; // not listed
         };
         if !admits_listed(shapes, row, nodes, i, pool) {
@@ -155,7 +142,7 @@ fn admits_listed(shapes: &[u64], row: usize, nodes: &[u64], at: usize, pool: &[u
     ensures told { ValueTold shapes.now row nodes.now at pool.now result }
 {
     if nodes::row_kind(nodes, at) < nodes::LIST {
-        return shapes::has(shapes::kinds(shapes, row), kind_bit(nodes, at));
+        return shapes::kinds(shapes, row).has(kind_bit(nodes, at));
     }
     admits(shapes, row, nodes, at, pool)
 }
@@ -167,7 +154,7 @@ pub fn admits(shapes: &[u64], row: usize, nodes: &[u64], at: usize, pool: &[u64]
     ensures told { ValueTold shapes.now row nodes.now at pool.now result }
 {
     let bit = kind_bit(nodes, at);
-    if !shapes::has(shapes::kinds(shapes, row), bit) {
+    if !shapes::kinds(shapes, row).has(bit) {
         return false;
     }
     if bit.kinds < Shape::LIST.kinds {
@@ -179,8 +166,6 @@ pub fn admits(shapes: &[u64], row: usize, nodes: &[u64], at: usize, pool: &[u64]
     }
     let from = shapes::members(shapes, row);
     let to = row + shapes::size(shapes, row);
-    if !admits_members(shapes, from, to, nodes, at + 3, end, pool) {
-        return false;
-    }
-    lacked_have_null(shapes, from, to, nodes, at + 3, end, pool)
+    admits_members(shapes, from, to, nodes, at + 3, end, pool)
+        && lacked_have_null(shapes, from, to, nodes, at + 3, end, pool)
 }

@@ -1,59 +1,35 @@
--- A word put into a buffer byte by byte, and the five words of an answer. Assumes nothing.
-use Prim.Native.Nat.{ℕ, zero, suc, ◌+◌, ◌-◌, ◌/◌, ◌%◌, ◌≤◌, ◌<◌}
+-- A word as bytes, and the five words of an answer. Assumes nothing.
+use Prim.Native.Nat.{ℕ, zero, suc, ◌+◌, ◌/◌, ◌%◌}
 use native.Mathlib.Omega.{arith}
-use mathlib.Core.Path.{◌≡◌, refl, sym, ap, ◌∙◌, subst}
+use mathlib.Core.Path.{◌≡◌, refl, sym, ap, ◌∙◌}
 use mathlib.Core.Bool.{Bool, true, false}
-use mathlib.Core.List.{[], ◌∷◌, ◌++◌, append_assoc, append-nil}
+use mathlib.Core.List.{◌++◌}
 use mir.Val.{bool_byte}
-use lib.ListN.{length, take, drop, set}
+use lib.ListN.{length, take, drop}
+use Rattle.std.specs.Prelude.{◌^◌}
+use Rattle.std.specs.Int.{w64, to_le_bytes, bytes_low_first, byte_at}
+use Rattle.std.proofs.Math.Nat.{div-one, div-div-eq-div-mul, pow-suc}
 use Rattle.definitions.specs.declared.Answer.{Answer}
 use Rattle.definitions.specs.Bytes.{Bytes}
 use Rattle.definitions.specs.Calls.{little_endian, as_word, answer_words}
 use Rattle.text.specs.Writes.{Writes}
-use Rattle.text.specs.WritesLaws.{writes_none, writes_then, writes_next, writes_length}
+use Rattle.text.specs.WritesLaws.{writes_then}
 
--- i bytes of a word are put at a place of the buffer o, and rest is what is left of it
-pub record Putting (o : Bytes) (at word : ℕ) (b : Bytes) (rest i : ℕ) : Type 0 where
-  pub done : Bytes
-  pub wrote : Writes o b at done (at + i)
-  pub left : done ++ little_endian (8 - i) rest ≡ little_endian 8 word
-  pub most : i ≤ 8
+-- the bytes of a word from the i-th on, as std has them
+low_byte : (i n : ℕ) → n / 256 ^ i % 256 ≡ byte_at i n
+low_byte zero n = ap (λ m. m % 256) (div-one n)
+low_byte (suc i) n = refl
 
-pub putting : (o : Bytes) (at word : ℕ) → Putting o at word o word 0
-putting o at word =
-    record { done = []; wrote = subst (Writes o o at []) (omega arith) (writes_none o at); left = refl; most = omega arith }
-
-step : (k rest : ℕ) → 0 < k → little_endian k rest ≡ rest % 256 ∷ little_endian (k - 1) (rest / 256)
+low_bytes : (i k n : ℕ) → little_endian k (n / 256 ^ i) ≡ bytes_low_first i k n
 unfolding little_endian
-step zero rest h = absurd (let z : ⊥ = omega arith in z)
-step (suc k) rest h = ap (λ (n : ℕ). rest % 256 ∷ little_endian n (rest / 256)) (let e : k ≡ suc k - 1 = omega arith in e)
+low_bytes i zero n = refl
+low_bytes i (suc k) n =
+    let rest : n / 256 ^ i / 256 ≡ n / 256 ^ suc i =
+    div-div-eq-div-mul n (256 ^ i) 256 ∙ ap (λ m. n / m) (sym (pow-suc 256 i)) in
+    rw (low_byte i n, rest, low_bytes (suc i) k n) refl
 
-module _ {o : Bytes} {at word : ℕ} {b : Bytes} {rest i : ℕ} (p : Putting o at word b rest i) where
-  pub putting_on : i < 8 → at + 8 ≤ length o → Putting o at word (set b (at + i) (rest % 256)) (rest / 256) (i + 1)
-  putting_on h room =
-      record {
-        done = p.done ++ (rest % 256 ∷ []);
-        wrote =
-            subst (Writes o (set b (at + i) (rest % 256)) at (p.done ++ (rest % 256 ∷ []))) (omega arith)
-            (writes_next (at + i) (rest % 256) p.wrote refl (omega arith));
-        left =
-            append_assoc p.done (rest % 256 ∷ []) (little_endian (8 - (i + 1)) (rest / 256))
-            ∙ ap (λ (x : Bytes). p.done ++ x) (sym (step (8 - i) rest (omega arith)
-            ∙ ap (λ (n : ℕ). rest % 256 ∷ little_endian n (rest / 256)) (let e : 8 - i - 1 ≡ 8 - (i + 1) = omega arith in e)))
-            ∙ p.left;
-        most = omega arith;
-      }
-
-  pub putting_length : at + 8 ≤ length o → length b ≡ length o
-  putting_length room = writes_length o b at p.done (at + i) (omega (arith, p.most)) p.wrote
-
-  pub put : (8 ≤ i) → b ≡ take at o ++ little_endian 8 word ++ drop (at + 8) o
-  unfolding little_endian
-  put h =
-      p.wrote.bytes
-      ∙ ap (λ (n : ℕ). take at o ++ p.done ++ drop (at + n) o) (let e : i ≡ 8 = omega (arith, p.most) in e)
-      ∙ ap (λ (x : Bytes). take at o ++ x ++ drop (at + 8) o)
-      (sym (append-nil p.done) ∙ ap (λ (n : ℕ). p.done ++ little_endian n rest) (let e : 0 ≡ 8 - i = omega (arith, p.most) in e) ∙ p.left)
+pub word_bytes : (n : ℕ) → little_endian 8 n ≡ to_le_bytes w64 n
+word_bytes n = ap (little_endian 8) (sym (div-one n)) ∙ low_bytes 0 8 n
 
 -- ---- an answer's five words
 

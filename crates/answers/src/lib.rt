@@ -1,11 +1,13 @@
-// Answers: made, with the unused fields 0 or false, and put into a buffer as five little_endian words.
+// Answers: made, with the unused fields 0 or false, and put into a buffer as five little-endian words.
 #![tactic(auto)]
 
-ghost use Rattle.std.specs.Prelude.{◌≡◌, ◌++◌, ◌+◌, ◌≤◌, length, take, drop};
-ghost use Rattle.definitions.specs.Operations.{refusal, said};
+ghost use Rattle.std.specs.Prelude.{◌≡◌, false, ◌++◌, ◌+◌, ◌≤◌, length, take, drop};
+ghost use Rattle.definitions.specs.Operations.{refusal, output_short, written, said};
 ghost use Rattle.definitions.specs.Calls.{little_endian, answer_words, answered};
+ghost use Rattle.reading.specs.Refusals.{number_of};
 
 use definitions::Answer;
+use reading::{Cause, Refusal};
 
 // The answer of a refusal.
 pub fn refusal(number: u64, text: u64, place: usize) -> Answer
@@ -18,6 +20,34 @@ pub fn refusal(number: u64, text: u64, place: usize) -> Answer
         length: 0,
         steps: 0,
         yes: false,
+    }
+}
+
+// The answer of a text that is refused so.
+pub fn refused(text: u64, why: Refusal) -> Answer
+    ensures set { result ≡ refusal (number_of why.cause) text why.place }
+{
+    refusal(why.cause.number(), text, why.place)
+}
+
+// The answer of refusal 15, which tells how long the output has to be.
+pub fn output_short(needed: usize) -> Answer
+    ensures set { result ≡ output_short needed }
+{
+    Answer {
+        length: needed,
+        ..refusal(Cause::OutputTooShort.number(), 0, 0)
+    }
+}
+
+// The answer of an operation that has written so many bytes, after so many steps.
+pub fn written(length: usize, steps: usize) -> Answer
+    ensures set { result ≡ written length steps false }
+{
+    Answer {
+        length,
+        steps,
+        ..said(false)
     }
 }
 
@@ -40,13 +70,7 @@ fn put_word(buffer: &mut [u8], at: usize, word: u64)
     requires { at + 8 ≤ length buffer.old }
     ensures written { buffer.new ≡ take at buffer.old ++ little_endian 8 word ++ drop (at + 8) buffer.old }
 {
-    let mut rest = word;
-    let mut i: usize = 0;
-    while i < 8 {
-        buffer[at + i] = (rest % 256) as u8;
-        rest /= 256;
-        i += 1;
-    }
+    buffer[at..at + 8].copy_from_slice(&word.to_le_bytes());
 }
 
 // Writes an answer's five words.

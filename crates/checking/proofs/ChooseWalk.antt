@@ -5,7 +5,7 @@ use mathlib.Core.List.{List}
 use native.Mathlib.Omega.{arith}
 use lib.Bits.{bit_or}
 use lib.ListN.{length, get_or}
-use Rattle.definitions.specs.Outcome.{Outcome, ok, refused, ◌>>=◌}
+use Rattle.definitions.specs.Outcome.{Outcome, ok, ◌>>=◌}
 use Rattle.definitions.specs.Shape.{Shape, among, rank}
 use Rattle.definitions.specs.Join.{join}
 use Rattle.definitions.specs.Reader.{Result}
@@ -16,13 +16,15 @@ use Rattle.shapes.specs.ShapesLaws.{union_bits}
 use Rattle.forms.specs.Forms.{form_code, form_at, FormStands}
 use Rattle.forms.specs.FormsLaws.{forms_some, stands_at, stands_within}
 use Rattle.forms.specs.PartsLaws.{after, choose_first, choose_second, choose_third, literal_stands}
-use Rattle.checking.specs.declared.Checked.{Checked}
-use Rattle.checking.specs.declared.Checked.TheVariants as checked
+use Rattle.std.specs.Prelude.{Ok, Err}
+use Rattle.reading.specs.declared.Refusal.{Refusal}
+use Rattle.reading.specs.Refusals.{refused_as}
+use Rattle.shapes.specs.declared.Shape as bits
 use Rattle.checking.specs.KindSets.{flags}
 use Rattle.checking.specs.Bindings.{Kept}
 use Rattle.checking.specs.BindingsLaws.{bindings_kept}
 use Rattle.checking.specs.WantsLaws.{wanted}
-use Rattle.checking.specs.CheckContracts.{Checks, MeetsForm, FormAsked, GivesForm, TellsWant}
+use Rattle.checking.specs.CheckContracts.{Checked, Checks, MeetsForm, FormAsked, GivesForm, TellsWant}
 use Rattle.checking.proofs.SimpleForms.{conversion_code_le, literal_code_ge}
 use Rattle.checking.proofs.FormWalk.{kept_then, coded_as, part_told}
 
@@ -73,20 +75,13 @@ module _ (forms shapes pool b : List ℕ) (row d : ℕ) (choose : get_or forms r
   as_choose {r} h = choose_coded r h.stands (coded_as choose h.stands)
 
   pub choose_ends : FormAsked forms shapes pool b row d → (second + 3 ≤ length forms) × (third + 3 ≤ length forms)
-  choose_ends h = go h.form h.meets (as_choose h.meets)
+  choose_ends h = go (as_choose h.meets) h.meets
     where
-      go : (r : Result) → Meets h.p h.m h.deep r h.env → IsChoose r → (second + 3 ≤ length forms) × (third + 3 ≤ length forms)
-      go (Result.choose at r₁ r₂ r₃) m is_choose = (
+      go : {r : Result} → IsChoose r → Meets h.p h.m h.deep r h.env → (second + 3 ≤ length forms) × (third + 3 ≤ length forms)
+      go (is_choose {at} {r₁} {r₂} {r₃}) m = (
         omega (arith, stands_within (choose_second m.stands), forms_some r₂),
         omega (arith, stands_within (choose_third m.stands), forms_some r₃),
       )
-      go (Rattle.definitions.specs.Reader.convert at _ _) m x4 = elim x4 [ ]
-      go (Rattle.definitions.specs.Reader.keep at _) m x4 = elim x4 [ ]
-      go (Rattle.definitions.specs.Reader.count at _) m x5 = elim x5 [ ]
-      go (Rattle.definitions.specs.Reader.each at _ _) m x7 = elim x7 [ ]
-      go (Rattle.definitions.specs.Reader.when at _ _ _ _) m x10 = elim x10 [ ]
-      go (Rattle.definitions.specs.Reader.literal at _) m x8 = elim x8 [ ]
-      go (Rattle.definitions.specs.Reader.pack at _) m x9 = elim x9 [ ]
 
   -- what comes behind the first result, and behind the second
   abbrev behind_first : (at : ℕ) (r₂ r₃ : Result) (env : List Shape) → Outcome ℕ Shape → Outcome ℕ Shape
@@ -108,51 +103,28 @@ module _ (forms shapes pool b : List ℕ) (row d : ℕ) (choose : get_or forms r
 
   module _ (asked : FormAsked forms shapes pool b row d) where
     pub first_asked : FormAsked forms shapes pool b (row + 3) d
-    first_asked = go asked.form asked.meets (as_choose asked.meets)
+    first_asked = go (as_choose asked.meets) asked.meets
       where
-        go : (r : Result) → Meets asked.p asked.m asked.deep r asked.env → IsChoose r → FormAsked forms shapes pool b (row + 3) d
-        go (Result.choose at r₁ r₂ r₃) m is_choose =
+        go : {r : Result} → IsChoose r → Meets asked.p asked.m asked.deep r asked.env → FormAsked forms shapes pool b (row + 3) d
+        go (is_choose {at} {r₁} {r₂} {r₃}) m =
             record { p = asked.p; m = 0; deep = asked.deep; form = r₁; env = asked.env; meets = first_meets m }
-        go (Rattle.definitions.specs.Reader.convert at _ _) m x4 = elim x4 [ ]
-        go (Rattle.definitions.specs.Reader.keep at _) m x4 = elim x4 [ ]
-        go (Rattle.definitions.specs.Reader.count at _) m x5 = elim x5 [ ]
-        go (Rattle.definitions.specs.Reader.each at _ _) m x7 = elim x7 [ ]
-        go (Rattle.definitions.specs.Reader.when at _ _ _ _) m x10 = elim x10 [ ]
-        go (Rattle.definitions.specs.Reader.literal at _) m x8 = elim x8 [ ]
-        go (Rattle.definitions.specs.Reader.pack at _) m x9 = elim x9 [ ]
 
     module _ (b₁ : List ℕ) (part₁ : Checked) (answer₁ : GivesForm forms shapes pool b b₁ (row + 3) d part₁) where
       first_refuses
-          : {number place : ℕ} → part₁ ≡ checked.Refused number place → {p : List ℕ} {m deep : ℕ} {env : List Shape} (r : Result)
-          → Meets p m deep r env → IsChoose r → check r env ≡ refused number place
+          : {why : Refusal} → part₁ ≡ Err why → {p : List ℕ} {m deep : ℕ} {env : List Shape} {r : Result}
+          → IsChoose r → Meets p m deep r env → check r env ≡ refused_as why
       unfolding check ◌>>=◌
-      first_refuses {number} {place} f {env} (Result.choose at r₁ r₂ r₃) h is_choose =
-          ap (behind_first at r₂ r₃ env) (part_told forms shapes pool part₁ (checked.Refused number place) answer₁ f (first_meets h))
-      first_refuses {number = number} {place = place} f {p = p} {m = m} {deep = deep} {env = env} (Rattle.definitions.specs.Reader.convert at _ _) h x4 =
-          elim x4 [ ]
-      first_refuses {number = number} {place = place} f {p = p} {m = m} {deep = deep} {env = env} (Rattle.definitions.specs.Reader.keep at _) h x4 = elim x4 [ ]
-      first_refuses {number = number} {place = place} f {p = p} {m = m} {deep = deep} {env = env} (Rattle.definitions.specs.Reader.count at _) h x5 =
-          elim x5 [ ]
-      first_refuses {number = number} {place = place} f {p = p} {m = m} {deep = deep} {env = env} (Rattle.definitions.specs.Reader.each at _ _) h x7 =
-          elim x7 [ ]
-      first_refuses {number = number} {place = place} f {p = p} {m = m} {deep = deep} {env = env} (Rattle.definitions.specs.Reader.when at _ _ _ _) h x10 =
-          elim x10 [ ]
-      first_refuses {number = number} {place = place} f {p = p} {m = m} {deep = deep} {env = env} (Rattle.definitions.specs.Reader.literal at _) h x8 =
-          elim x8 [ ]
-      first_refuses {number = number} {place = place} f {p = p} {m = m} {deep = deep} {env = env} (Rattle.definitions.specs.Reader.pack at _) h x9 = elim x9 [ ]
+      first_refuses {why} f {env} (is_choose {at} {r₁} {r₂} {r₃}) h =
+          ap (behind_first at r₂ r₃ env) (part_told forms shapes pool part₁ (Err why) answer₁ f (first_meets h))
 
-      pub first_refused : {number place : ℕ} → part₁ ≡ checked.Refused number place → GivesForm forms shapes pool b b₁ row d part₁
-      first_refused f =
-          record {
-            told = λ p m deep r env h. subst (λ (y : Checked). Checks (check r env) y) (sym f) (first_refuses f r h (as_choose h));
-            kept = answer₁.kept;
-          }
+      pub first_refused : {why : Refusal} → part₁ ≡ Err why → GivesForm forms shapes pool b b₁ row d (Err why)
+      first_refused f = record { told = λ p m deep r env h. first_refuses f (as_choose h) h; kept = answer₁.kept }
 
-      module _ {given₁ : ℕ} (f : part₁ ≡ checked.Kinds given₁) {at_second : ℕ} (second_is : at_second ≡ second) where
+      module _ {given₁ : bits.Shape} (f : part₁ ≡ Ok given₁) {at_second : ℕ} (second_is : at_second ≡ second) where
         told_first
             : {p : List ℕ} {m deep at : ℕ} {r₁ r₂ r₃ : Result} {env : List Shape} → Meets p m deep (Result.choose at r₁ r₂ r₃) env
-            → Checks (check r₁ env) (checked.Kinds given₁)
-        told_first h = part_told forms shapes pool part₁ (checked.Kinds given₁) answer₁ f (first_meets h)
+            → Checks (check r₁ env) (Ok given₁)
+        told_first h = part_told forms shapes pool part₁ (Ok given₁) answer₁ f (first_meets h)
 
         second_Meets
             : {p : List ℕ} {m deep at : ℕ} {r₁ r₂ r₃ : Result} {env : List Shape} → Meets p m deep (Result.choose at r₁ r₂ r₃) env
@@ -166,59 +138,34 @@ module _ (forms shapes pool b : List ℕ) (row d : ℕ) (choose : get_or forms r
             }
 
         pub second_asked : FormAsked forms shapes pool b₁ at_second d
-        second_asked = go asked.form asked.meets (as_choose asked.meets)
+        second_asked = go (as_choose asked.meets) asked.meets
           where
-            go : (r : Result) → Meets asked.p asked.m asked.deep r asked.env → IsChoose r → FormAsked forms shapes pool b₁ at_second d
-            go (Result.choose at r₁ r₂ r₃) m is_choose =
+            go : {r : Result} → IsChoose r → Meets asked.p asked.m asked.deep r asked.env → FormAsked forms shapes pool b₁ at_second d
+            go (is_choose {at} {r₁} {r₂} {r₃}) m =
                 record { p = asked.p; m = 0; deep = asked.deep; form = r₂; env = asked.env; meets = second_Meets m }
-            go (Rattle.definitions.specs.Reader.convert at _ _) m x4 = elim x4 [ ]
-            go (Rattle.definitions.specs.Reader.keep at _) m x4 = elim x4 [ ]
-            go (Rattle.definitions.specs.Reader.count at _) m x5 = elim x5 [ ]
-            go (Rattle.definitions.specs.Reader.each at _ _) m x7 = elim x7 [ ]
-            go (Rattle.definitions.specs.Reader.when at _ _ _ _) m x10 = elim x10 [ ]
-            go (Rattle.definitions.specs.Reader.literal at _) m x8 = elim x8 [ ]
-            go (Rattle.definitions.specs.Reader.pack at _) m x9 = elim x9 [ ]
 
         module _ (b₂ : List ℕ) (part₂ : Checked) (answer₂ : GivesForm forms shapes pool b₁ b₂ at_second d part₂) where
           kept_second : Kept b b₂ d
           kept_second = kept_then answer₁.kept answer₂.kept
 
           second_refuses
-              : {number place : ℕ} → part₂ ≡ checked.Refused number place → {p : List ℕ} {m deep : ℕ} {env : List Shape} (r : Result)
-              → Meets p m deep r env → IsChoose r → check r env ≡ refused number place
+              : {why : Refusal} → part₂ ≡ Err why → {p : List ℕ} {m deep : ℕ} {env : List Shape} {r : Result}
+              → IsChoose r → Meets p m deep r env → check r env ≡ refused_as why
           unfolding check ◌>>=◌
-          second_refuses {number} {place} g {env} (Result.choose at r₁ r₂ r₃) h is_choose =
+          second_refuses {why} g {env} (is_choose {at} {r₁} {r₂} {r₃}) h =
               let t = told_first h in
               ap (behind_first at r₂ r₃ env) t.1
               ∙ ap (behind_second at r₃ env t.0)
-              (part_told forms shapes pool part₂ (checked.Refused number place) answer₂ g (second_Meets h))
-          second_refuses {number = number} {place = place} g {p = p} {m = m} {deep = deep} {env = env} (Rattle.definitions.specs.Reader.convert at _ _) h x4 =
-              elim x4 [ ]
-          second_refuses {number = number} {place = place} g {p = p} {m = m} {deep = deep} {env = env} (Rattle.definitions.specs.Reader.keep at _) h x4 =
-              elim x4 [ ]
-          second_refuses {number = number} {place = place} g {p = p} {m = m} {deep = deep} {env = env} (Rattle.definitions.specs.Reader.count at _) h x5 =
-              elim x5 [ ]
-          second_refuses {number = number} {place = place} g {p = p} {m = m} {deep = deep} {env = env} (Rattle.definitions.specs.Reader.each at _ _) h x7 =
-              elim x7 [ ]
-          second_refuses {number = number} {place = place} g {p = p} {m = m} {deep = deep} {env = env}
-              (Rattle.definitions.specs.Reader.when at _ _ _ _) h x10 = elim x10 [ ]
-          second_refuses {number = number} {place = place} g {p = p} {m = m} {deep = deep} {env = env} (Rattle.definitions.specs.Reader.literal at _) h x8 =
-              elim x8 [ ]
-          second_refuses {number = number} {place = place} g {p = p} {m = m} {deep = deep} {env = env} (Rattle.definitions.specs.Reader.pack at _) h x9 =
-              elim x9 [ ]
+              (part_told forms shapes pool part₂ (Err why) answer₂ g (second_Meets h))
 
-          pub second_refused : {number place : ℕ} → part₂ ≡ checked.Refused number place → GivesForm forms shapes pool b b₂ row d part₂
-          second_refused g =
-              record {
-                told = λ p m deep r env h. subst (λ (y : Checked). Checks (check r env) y) (sym g) (second_refuses g r h (as_choose h));
-                kept = kept_second;
-              }
+          pub second_refused : {why : Refusal} → part₂ ≡ Err why → GivesForm forms shapes pool b b₂ row d (Err why)
+          second_refused g = record { told = λ p m deep r env h. second_refuses g (as_choose h) h; kept = kept_second }
 
-          module _ {given₂ : ℕ} (g : part₂ ≡ checked.Kinds given₂) {at_third : ℕ} (third_is : at_third ≡ third) where
+          module _ {given₂ : bits.Shape} (g : part₂ ≡ Ok given₂) {at_third : ℕ} (third_is : at_third ≡ third) where
             told_second
                 : {p : List ℕ} {m deep at : ℕ} {r₁ r₂ r₃ : Result} {env : List Shape} → Meets p m deep (Result.choose at r₁ r₂ r₃) env
-                → Checks (check r₂ env) (checked.Kinds given₂)
-            told_second h = part_told forms shapes pool part₂ (checked.Kinds given₂) answer₂ g (second_Meets h)
+                → Checks (check r₂ env) (Ok given₂)
+            told_second h = part_told forms shapes pool part₂ (Ok given₂) answer₂ g (second_Meets h)
 
             third_meets
                 : {p : List ℕ} {m deep at : ℕ} {r₁ r₂ r₃ : Result} {env : List Shape} → Meets p m deep (Result.choose at r₁ r₂ r₃) env
@@ -232,18 +179,11 @@ module _ (forms shapes pool b : List ℕ) (row d : ℕ) (choose : get_or forms r
                 }
 
             pub third_asked : FormAsked forms shapes pool b₂ at_third d
-            third_asked = go asked.form asked.meets (as_choose asked.meets)
+            third_asked = go (as_choose asked.meets) asked.meets
               where
-                go : (r : Result) → Meets asked.p asked.m asked.deep r asked.env → IsChoose r → FormAsked forms shapes pool b₂ at_third d
-                go (Result.choose at r₁ r₂ r₃) m is_choose =
+                go : {r : Result} → IsChoose r → Meets asked.p asked.m asked.deep r asked.env → FormAsked forms shapes pool b₂ at_third d
+                go (is_choose {at} {r₁} {r₂} {r₃}) m =
                     record { p = asked.p; m = 0; deep = asked.deep; form = r₃; env = asked.env; meets = third_meets m }
-                go (Rattle.definitions.specs.Reader.convert at _ _) m x4 = elim x4 [ ]
-                go (Rattle.definitions.specs.Reader.keep at _) m x4 = elim x4 [ ]
-                go (Rattle.definitions.specs.Reader.count at _) m x5 = elim x5 [ ]
-                go (Rattle.definitions.specs.Reader.each at _ _) m x7 = elim x7 [ ]
-                go (Rattle.definitions.specs.Reader.when at _ _ _ _) m x10 = elim x10 [ ]
-                go (Rattle.definitions.specs.Reader.literal at _) m x8 = elim x8 [ ]
-                go (Rattle.definitions.specs.Reader.pack at _) m x9 = elim x9 [ ]
 
             module _ (b₃ : List ℕ) (part₃ : Checked) (answer₃ : GivesForm forms shapes pool b₂ b₃ at_third d part₃) where
               kept_third : Kept b b₃ d
@@ -258,44 +198,26 @@ module _ (forms shapes pool b : List ℕ) (row d : ℕ) (choose : get_or forms r
                   ap (behind_first at r₂ r₃ env) (told_first h).1 ∙ ap (behind_second at r₃ env (told_first h).0) (told_second h).1
 
               third_refuses
-                  : {number place : ℕ} → part₃ ≡ checked.Refused number place → {p : List ℕ} {m deep : ℕ} {env : List Shape} (r : Result)
-                  → Meets p m deep r env → IsChoose r → check r env ≡ refused number place
+                  : {why : Refusal} → part₃ ≡ Err why → {p : List ℕ} {m deep : ℕ} {env : List Shape} {r : Result}
+                  → IsChoose r → Meets p m deep r env → check r env ≡ refused_as why
               unfolding ◌>>=◌
-              third_refuses {number} {place} k (Result.choose at r₁ r₂ r₃) h is_choose =
+              third_refuses {why} k (is_choose {at} {r₁} {r₂} {r₃}) h =
                   whole_is h
                   ∙ ap (λ (o : Outcome ℕ Shape). o >>= λ t₃. wants at if_kinds (told_first h).0 (ok (join (told_second h).0 t₃)))
-                  (part_told forms shapes pool part₃ (checked.Refused number place) answer₃ k (third_meets h))
-              third_refuses {number = number} {place = place} k {p = p} {m = m} {deep = deep} {env = env}
-                  (Rattle.definitions.specs.Reader.convert at _ _) h x4 = elim x4 [ ]
-              third_refuses {number = number} {place = place} k {p = p} {m = m} {deep = deep} {env = env} (Rattle.definitions.specs.Reader.keep at _) h x4 =
-                  elim x4 [ ]
-              third_refuses {number = number} {place = place} k {p = p} {m = m} {deep = deep} {env = env} (Rattle.definitions.specs.Reader.count at _) h x5 =
-                  elim x5 [ ]
-              third_refuses {number = number} {place = place} k {p = p} {m = m} {deep = deep} {env = env} (Rattle.definitions.specs.Reader.each at _ _) h x7 =
-                  elim x7 [ ]
-              third_refuses {number = number} {place = place} k {p = p} {m = m} {deep = deep} {env = env}
-                  (Rattle.definitions.specs.Reader.when at _ _ _ _) h x10 = elim x10 [ ]
-              third_refuses {number = number} {place = place} k {p = p} {m = m} {deep = deep} {env = env}
-                  (Rattle.definitions.specs.Reader.literal at _) h x8 = elim x8 [ ]
-              third_refuses {number = number} {place = place} k {p = p} {m = m} {deep = deep} {env = env} (Rattle.definitions.specs.Reader.pack at _) h x9 =
-                  elim x9 [ ]
+                  (part_told forms shapes pool part₃ (Err why) answer₃ k (third_meets h))
 
-              pub third_refused : {number place : ℕ} → part₃ ≡ checked.Refused number place → GivesForm forms shapes pool b b₃ row d part₃
-              third_refused k =
-                  record {
-                    told = λ p m deep r env h. subst (λ (y : Checked). Checks (check r env) y) (sym k) (third_refuses k r h (as_choose h));
-                    kept = kept_third;
-                  }
+              pub third_refused : {why : Refusal} → part₃ ≡ Err why → GivesForm forms shapes pool b b₃ row d (Err why)
+              third_refused k = record { told = λ p m deep r env h. third_refuses k (as_choose h) h; kept = kept_third }
 
               module _
-                  {given₃ : ℕ} (k : part₃ ≡ checked.Kinds given₃) {place : ℕ} (near : place ≡ get_or forms row 0 / 2048 % 65536) (x : Checked)
-                  (w : TellsWant given₁ 2 (bit_or given₂ given₃) place x) where
-                chooses : {p : List ℕ} {m deep : ℕ} {env : List Shape} (r : Result) → Meets p m deep r env → IsChoose r → Checks (check r env) x
+                  {given₃ : bits.Shape} (k : part₃ ≡ Ok given₃) {place : ℕ} (near : place ≡ get_or forms row 0 / 2048 % 65536) (x : Checked)
+                  {both : ℕ} (made : both ≡ bit_or given₂.kinds given₃.kinds) (w : TellsWant given₁.kinds 2 both place x) where
+                chooses : {p : List ℕ} {m deep : ℕ} {env : List Shape} {r : Result} → IsChoose r → Meets p m deep r env → Checks (check r env) x
                 unfolding ◌>>=◌ form_at
-                chooses {env} (Result.choose at r₁ r₂ r₃) h is_choose =
+                chooses {env} (is_choose {at} {r₁} {r₂} {r₃}) h =
                     let t = told_first h in
                     let u = told_second h in
-                    let v = part_told forms shapes pool part₃ (checked.Kinds given₃) answer₃ k (third_meets h) in
+                    let v = part_told forms shapes pool part₃ (Ok given₃) answer₃ k (third_meets h) in
                     let same : wants place if_kinds t.0 (ok (join u.0 v.0)) ≡ check (Result.choose at r₁ r₂ r₃) env
                     = ap (λ (y : ℕ). wants y if_kinds t.0 (ok (join u.0 v.0))) (near ∙ stands_at h.stands)
                     ∙ sym (whole_is h ∙ ap (λ (o : Outcome ℕ Shape). o >>= λ t₃. wants at if_kinds t.0 (ok (join u.0 t₃))) v.1) in
@@ -303,14 +225,7 @@ module _ (forms shapes pool b : List ℕ) (row d : ℕ) (choose : get_or forms r
                     (λ (o : Outcome ℕ Shape). Checks o x)
                     same
                     (w if_kinds t.0 (join u.0 v.0) t.2 bool_wanted
-                    (sym (union_bits u.0 v.0) ∙ ap₂ (λ (y z : ℕ). bit_or y z) u.2 v.2))
-                chooses {p = p} {m = m} {deep = deep} {env = env} (Rattle.definitions.specs.Reader.convert at _ _) h x5 = elim x5 [ ]
-                chooses {p = p} {m = m} {deep = deep} {env = env} (Rattle.definitions.specs.Reader.keep at _) h x5 = elim x5 [ ]
-                chooses {p = p} {m = m} {deep = deep} {env = env} (Rattle.definitions.specs.Reader.count at _) h x6 = elim x6 [ ]
-                chooses {p = p} {m = m} {deep = deep} {env = env} (Rattle.definitions.specs.Reader.each at _ _) h x8 = elim x8 [ ]
-                chooses {p = p} {m = m} {deep = deep} {env = env} (Rattle.definitions.specs.Reader.when at _ _ _ _) h x11 = elim x11 [ ]
-                chooses {p = p} {m = m} {deep = deep} {env = env} (Rattle.definitions.specs.Reader.literal at _) h x9 = elim x9 [ ]
-                chooses {p = p} {m = m} {deep = deep} {env = env} (Rattle.definitions.specs.Reader.pack at _) h x10 = elim x10 [ ]
+                    (sym (union_bits u.0 v.0) ∙ ap₂ (λ (y z : ℕ). bit_or y z) u.2 v.2 ∙ sym made))
 
                 pub choose_told : GivesForm forms shapes pool b b₃ row d x
-                choose_told = record { told = λ p m deep r env h. chooses r h (as_choose h); kept = kept_third }
+                choose_told = record { told = λ p m deep r env h. chooses (as_choose h) h; kept = kept_third }

@@ -4,7 +4,7 @@ use mathlib.Core.Path.{◌≡◌, refl, sym, ap, subst, ◌∙◌}
 use mathlib.Core.List.{List, ◌∷◌}
 use native.Mathlib.Omega.{arith}
 use lib.ListN.{length, get_or}
-use Rattle.definitions.specs.Outcome.{Outcome, ok, refused, ◌>>=◌}
+use Rattle.definitions.specs.Outcome.{Outcome, ok, ◌>>=◌}
 use Rattle.definitions.specs.Shape.{Shape, list_of, only_list, element_of, has_list, has_rec}
 use Rattle.definitions.specs.Reader.{Place, Result}
 use Rattle.definitions.specs.Checking.{wants, list_kinds, element_shape, check_place, check}
@@ -13,12 +13,13 @@ use Rattle.shapes.specs.Shapes.{bit, numeric_bits, kind_bits}
 use Rattle.forms.specs.Forms.{form_code, form_at, FormStands}
 use Rattle.forms.specs.FormsLaws.{forms_some, levels_some, stands_at, stands_within}
 use Rattle.forms.specs.PartsLaws.{after, each_place, each_result, literal_stands}
-use Rattle.checking.specs.declared.places.Located.{Located}
-use Rattle.checking.specs.declared.places.Located.TheVariants as located
-use Rattle.checking.specs.declared.Checked.{Checked}
-use Rattle.checking.specs.declared.Checked.TheVariants as checked
+use Rattle.std.specs.Prelude.{Ok, Err}
+use Rattle.reading.specs.declared.Refusal.{Refusal}
+use Rattle.reading.specs.Refusals.{refused_as}
+use Rattle.shapes.specs.declared.Shape as bits
+use Rattle.checking.specs.declared.bindings.Binding.{Binding}
 use Rattle.checking.specs.Bindings.{Kept, SomeBound, BindsElement}
-use Rattle.checking.specs.CheckContracts.{Locates, Checks, PlaceAsked, GivesPlace, MeetsForm, FormAsked, GivesForm, TellsWant, PassesUp}
+use Rattle.checking.specs.CheckContracts.{Located, Checked, Locates, Checks, PlaceAsked, GivesPlace, MeetsForm, FormAsked, GivesForm, TellsWant}
 use Rattle.checking.proofs.SimpleForms.{conversion_code_le, literal_code_ge, list_wanted}
 use Rattle.checking.proofs.FormWalk.{kept_same, kept_then, kept_less, coded_as, place_told, part_told, part_bound}
 
@@ -57,28 +58,21 @@ module _ (forms shapes pool b : List ℕ) (row d : ℕ) (each : get_or forms row
   pub each_ends
       : FormAsked forms shapes pool b row d
       → (row + 3 ≤ after forms (row + 3)) × (after forms (row + 3) + 3 ≤ length forms) × (d < length b)
-  each_ends h = go h.form h.meets (as_each h.meets)
+  each_ends h = go (as_each h.meets) h.meets
     where
-      go : (r : Result) → Meets h.p h.m h.deep r h.env → IsEach r
+      go : {r : Result} → IsEach r → Meets h.p h.m h.deep r h.env
           → (row + 3 ≤ after forms (row + 3)) × (after forms (row + 3) + 3 ≤ length forms) × (d < length b)
-      go (Result.each at q r) m is_each = (
+      go (is_each {at} {q} {r}) m = (
         omega arith,
         omega (arith, stands_within (each_result m.stands), forms_some r),
         part_there at (length b) d q r m.room,
       )
-      go (Rattle.definitions.specs.Reader.convert at _ _) m x4 = elim x4 [ ]
-      go (Rattle.definitions.specs.Reader.keep at _) m x4 = elim x4 [ ]
-      go (Rattle.definitions.specs.Reader.count at _) m x5 = elim x5 [ ]
-      go (Rattle.definitions.specs.Reader.when at _ _ _ _) m x9 = elim x9 [ ]
-      go (Rattle.definitions.specs.Reader.choose at _ _ _) m x9 = elim x9 [ ]
-      go (Rattle.definitions.specs.Reader.literal at _) m x8 = elim x8 [ ]
-      go (Rattle.definitions.specs.Reader.pack at _) m x9 = elim x9 [ ]
 
   pub each_place_asked : FormAsked forms shapes pool b row d → PlaceAsked forms shapes pool b (row + 3)
-  each_place_asked h = go h.form h.meets (as_each h.meets)
+  each_place_asked h = go (as_each h.meets) h.meets
     where
-      go : (r : Result) → Meets h.p h.m h.deep r h.env → IsEach r → PlaceAsked forms shapes pool b (row + 3)
-      go (Result.each at q r) m is_each =
+      go : {r : Result} → IsEach r → Meets h.p h.m h.deep r h.env → PlaceAsked forms shapes pool b (row + 3)
+      go (is_each {at} {q} {r}) m =
           record {
             p = h.p;
             d = d;
@@ -87,13 +81,6 @@ module _ (forms shapes pool b : List ℕ) (row d : ℕ) (each : get_or forms row
             env = h.env;
             meets = record { pooled = m.pooled; stands = each_place m.stands; bound = m.bound };
           }
-      go (Rattle.definitions.specs.Reader.convert at _ _) m x4 = elim x4 [ ]
-      go (Rattle.definitions.specs.Reader.keep at _) m x4 = elim x4 [ ]
-      go (Rattle.definitions.specs.Reader.count at _) m x5 = elim x5 [ ]
-      go (Rattle.definitions.specs.Reader.when at _ _ _ _) m x9 = elim x9 [ ]
-      go (Rattle.definitions.specs.Reader.choose at _ _ _) m x9 = elim x9 [ ]
-      go (Rattle.definitions.specs.Reader.literal at _) m x8 = elim x8 [ ]
-      go (Rattle.definitions.specs.Reader.pack at _) m x9 = elim x9 [ ]
 
   module _ (l : Located) (gives : GivesPlace forms shapes pool b (row + 3) l) where
     module _ {p : List ℕ} {m deep at : ℕ} {q : Place} {r : Result} {env : List Shape} (h : Meets p m deep (Result.each at q r) env) where
@@ -109,69 +96,41 @@ module _ (forms shapes pool b : List ℕ) (row d : ℕ) (each : get_or forms row
       body_there = omega (arith, h.room, levels_some r)
 
     refuses
-        : {number place : ℕ} → l ≡ located.Refused number place → {p : List ℕ} {m deep : ℕ} {env : List Shape} (r : Result) → Meets p m deep r env
-        → IsEach r → check r env ≡ refused number place
+        : {why : Refusal} → l ≡ Err why → {p : List ℕ} {m deep : ℕ} {env : List Shape} {r : Result} → IsEach r → Meets p m deep r env
+        → check r env ≡ refused_as why
     unfolding check ◌>>=◌
-    refuses {number} {place} e {env} (Result.each at q r) h is_each =
+    refuses {why} e {env} (is_each {at} {q} {r}) h =
         ap
         (λ (o : Outcome ℕ Shape). o >>= λ s. check r (element_shape (element_of s) ∷ env) >>= λ t. wants at list_kinds s (ok (only_list (list_of t))))
-        (found h (located.Refused number place) e)
-    refuses {number = number} {place = place} e {p = p} {m = m} {deep = deep} {env = env} (Rattle.definitions.specs.Reader.convert at _ _) h x4 = elim x4 [ ]
-    refuses {number = number} {place = place} e {p = p} {m = m} {deep = deep} {env = env} (Rattle.definitions.specs.Reader.keep at _) h x4 = elim x4 [ ]
-    refuses {number = number} {place = place} e {p = p} {m = m} {deep = deep} {env = env} (Rattle.definitions.specs.Reader.count at _) h x5 = elim x5 [ ]
-    refuses {number = number} {place = place} e {p = p} {m = m} {deep = deep} {env = env} (Rattle.definitions.specs.Reader.when at _ _ _ _) h x9 = elim x9 [ ]
-    refuses {number = number} {place = place} e {p = p} {m = m} {deep = deep} {env = env} (Rattle.definitions.specs.Reader.choose at _ _ _) h x9 = elim x9 [ ]
-    refuses {number = number} {place = place} e {p = p} {m = m} {deep = deep} {env = env} (Rattle.definitions.specs.Reader.literal at _) h x8 = elim x8 [ ]
-    refuses {number = number} {place = place} e {p = p} {m = m} {deep = deep} {env = env} (Rattle.definitions.specs.Reader.pack at _) h x9 = elim x9 [ ]
+        (found h (Err why) e)
 
-    pub each_refused
-        : {number place : ℕ} (x : Checked) → l ≡ located.Refused number place → PassesUp l x → GivesForm forms shapes pool b b row d x
-    each_refused {number} {place} x e up =
-        record {
-          told =
-              λ p m deep r env h.
-              subst (λ (y : Checked). Checks (check r env) y) (sym (up number place e)) (refuses e r h (as_each h));
-          kept = kept_same b d;
-        }
+    pub each_refused : {why : Refusal} → l ≡ Err why → GivesForm forms shapes pool b b row d (Err why)
+    each_refused e = record { told = λ p m deep r env h. refuses e (as_each h) h; kept = kept_same b d }
 
-    module _ {at_row kinds : ℕ} (e : l ≡ located.At at_row kinds) where
-      pub list_bound : FormAsked forms shapes pool b row d → SomeBound shapes at_row kinds
-      list_bound h = go h.form h.meets (as_each h.meets)
+    module _ {here : Binding} (e : l ≡ Ok here) where
+      pub list_bound : FormAsked forms shapes pool b row d → SomeBound shapes here.row here.kinds.kinds
+      list_bound h = go (as_each h.meets) h.meets
         where
-          go : (r : Result) → Meets h.p h.m h.deep r h.env → IsEach r → SomeBound shapes at_row kinds
-          go (Result.each at q r) m is_each =
-              record { p = h.p; deep = h.deep; shape = _; bound = (found m (located.At at_row kinds) e).2 }
-          go (Rattle.definitions.specs.Reader.convert at _ _) m x4 = elim x4 [ ]
-          go (Rattle.definitions.specs.Reader.keep at _) m x4 = elim x4 [ ]
-          go (Rattle.definitions.specs.Reader.count at _) m x5 = elim x5 [ ]
-          go (Rattle.definitions.specs.Reader.when at _ _ _ _) m x9 = elim x9 [ ]
-          go (Rattle.definitions.specs.Reader.choose at _ _ _) m x9 = elim x9 [ ]
-          go (Rattle.definitions.specs.Reader.literal at _) m x8 = elim x8 [ ]
-          go (Rattle.definitions.specs.Reader.pack at _) m x9 = elim x9 [ ]
+          go : {r : Result} → IsEach r → Meets h.p h.m h.deep r h.env → SomeBound shapes here.row here.kinds.kinds
+          go (is_each {at} {q} {r}) m =
+              record { p = h.p; deep = h.deep; shape = _; bound = (found m (Ok here) e).2 }
 
       module _
-          (b₁ : List ℕ) (binds : BindsElement shapes b b₁ d at_row kinds) {body : ℕ} (body_is : body ≡ after forms (row + 3)) where
+          (b₁ : List ℕ) (binds : BindsElement shapes b b₁ d here.row here.kinds.kinds) {body : ℕ} (body_is : body ≡ after forms (row + 3)) where
         body_meets
             : {p : List ℕ} {m deep at : ℕ} {q : Place} {r : Result} {env : List Shape} (h : Meets p m deep (Result.each at q r) env)
             → MeetsForm forms shapes pool b₁ p body (d + 1) 0 deep r
-            (element_shape (element_of (found h (located.At at_row kinds) e).0) ∷ env)
+            (element_shape (element_of (found h (Ok here) e).0) ∷ env)
         body_meets {p} {m} {deep} h =
-            let f = found h (located.At at_row kinds) e in
+            let f = found h (Ok here) e in
             part_bound forms shapes pool h.pooled (rw body_is (each_result h.stands)) h.bound (body_there h) (binds p deep f.0 f.2) (body_room h)
 
         pub body_asked : FormAsked forms shapes pool b row d → FormAsked forms shapes pool b₁ body (d + 1)
-        body_asked h = go h.form h.meets (as_each h.meets)
+        body_asked h = go (as_each h.meets) h.meets
           where
-            go : (r : Result) → Meets h.p h.m h.deep r h.env → IsEach r
+            go : {r : Result} → IsEach r → Meets h.p h.m h.deep r h.env
                 → FormAsked forms shapes pool b₁ body (d + 1)
-            go (Result.each at q r) m is_each = record { p = h.p; m = 0; deep = h.deep; form = r; env = _; meets = body_meets m }
-            go (Rattle.definitions.specs.Reader.convert at _ _) m x4 = elim x4 [ ]
-            go (Rattle.definitions.specs.Reader.keep at _) m x4 = elim x4 [ ]
-            go (Rattle.definitions.specs.Reader.count at _) m x5 = elim x5 [ ]
-            go (Rattle.definitions.specs.Reader.when at _ _ _ _) m x9 = elim x9 [ ]
-            go (Rattle.definitions.specs.Reader.choose at _ _ _) m x9 = elim x9 [ ]
-            go (Rattle.definitions.specs.Reader.literal at _) m x8 = elim x8 [ ]
-            go (Rattle.definitions.specs.Reader.pack at _) m x9 = elim x9 [ ]
+            go (is_each {at} {q} {r}) m = record { p = h.p; m = 0; deep = h.deep; form = r; env = _; meets = body_meets m }
 
         bound_kept : FormAsked forms shapes pool b row d → Kept b b₁ d
         bound_kept h = let s = list_bound h in (binds s.p s.deep s.shape s.bound).kept
@@ -183,47 +142,29 @@ module _ (forms shapes pool b : List ℕ) (row d : ℕ) (each : get_or forms row
           kept = kept_then (bound_kept asked) (kept_less b₁ b₂ d answer.kept)
 
           body_refuses
-              : {number place : ℕ} → part ≡ checked.Refused number place → {p : List ℕ} {m deep : ℕ} {env : List Shape} (r : Result)
-              → Meets p m deep r env → IsEach r → check r env ≡ refused number place
+              : {why : Refusal} → part ≡ Err why → {p : List ℕ} {m deep : ℕ} {env : List Shape} {r : Result}
+              → IsEach r → Meets p m deep r env → check r env ≡ refused_as why
           unfolding check ◌>>=◌
-          body_refuses {number} {place} f {env} (Result.each at q r) h is_each =
-              let s = found h (located.At at_row kinds) e in
+          body_refuses {why} f {env} (is_each {at} {q} {r}) h =
+              let s = found h (Ok here) e in
               ap
               (λ (o : Outcome ℕ Shape). o >>= λ s. check r (element_shape (element_of s) ∷ env) >>= λ t. wants at list_kinds s (ok (only_list (list_of t))))
               s.1
               ∙ ap
               (λ (o : Outcome ℕ Shape). o >>= λ t. wants at list_kinds s.0 (ok (only_list (list_of t))))
-              (part_told forms shapes pool part (checked.Refused number place) answer f (body_meets h))
-          body_refuses {number = number} {place = place} f {p = p} {m = m} {deep = deep} {env = env} (Rattle.definitions.specs.Reader.convert at _ _) h x4 =
-              elim x4 [ ]
-          body_refuses {number = number} {place = place} f {p = p} {m = m} {deep = deep} {env = env} (Rattle.definitions.specs.Reader.keep at _) h x4 =
-              elim x4 [ ]
-          body_refuses {number = number} {place = place} f {p = p} {m = m} {deep = deep} {env = env} (Rattle.definitions.specs.Reader.count at _) h x5 =
-              elim x5 [ ]
-          body_refuses {number = number} {place = place} f {p = p} {m = m} {deep = deep} {env = env} (Rattle.definitions.specs.Reader.when at _ _ _ _) h x9 =
-              elim x9 [ ]
-          body_refuses {number = number} {place = place} f {p = p} {m = m} {deep = deep} {env = env} (Rattle.definitions.specs.Reader.choose at _ _ _) h x9 =
-              elim x9 [ ]
-          body_refuses {number = number} {place = place} f {p = p} {m = m} {deep = deep} {env = env} (Rattle.definitions.specs.Reader.literal at _) h x8 =
-              elim x8 [ ]
-          body_refuses {number = number} {place = place} f {p = p} {m = m} {deep = deep} {env = env} (Rattle.definitions.specs.Reader.pack at _) h x9 =
-              elim x9 [ ]
+              (part_told forms shapes pool part (Err why) answer f (body_meets h))
 
-          pub body_refused : {number place : ℕ} → part ≡ checked.Refused number place → GivesForm forms shapes pool b b₂ row d part
-          body_refused f =
-              record {
-                told = λ p m deep r env h. subst (λ (y : Checked). Checks (check r env) y) (sym f) (body_refuses f r h (as_each h));
-                kept = kept;
-              }
+          pub body_refused : {why : Refusal} → part ≡ Err why → GivesForm forms shapes pool b b₂ row d (Err why)
+          body_refused f = record { told = λ p m deep r env h. body_refuses f (as_each h) h; kept = kept }
 
           module _
-              {given : ℕ} (f : part ≡ checked.Kinds given) {place : ℕ} (near : place ≡ get_or forms row 0 / 2048 % 65536) (x : Checked)
-              (w : TellsWant kinds 33 32 place x) where
-            gives_list : {p : List ℕ} {m deep : ℕ} {env : List Shape} (r : Result) → Meets p m deep r env → IsEach r → Checks (check r env) x
+              {given : bits.Shape} (f : part ≡ Ok given) {place : ℕ} (near : place ≡ get_or forms row 0 / 2048 % 65536) (x : Checked)
+              (w : TellsWant here.kinds.kinds 33 32 place x) where
+            gives_list : {p : List ℕ} {m deep : ℕ} {env : List Shape} {r : Result} → IsEach r → Meets p m deep r env → Checks (check r env) x
             unfolding check ◌>>=◌ form_at
-            gives_list {env} (Result.each at q r) h is_each =
-                let s = found h (located.At at_row kinds) e in
-                let t = part_told forms shapes pool part (checked.Kinds given) answer f (body_meets h) in
+            gives_list {env} (is_each {at} {q} {r}) h =
+                let s = found h (Ok here) e in
+                let t = part_told forms shapes pool part (Ok given) answer f (body_meets h) in
                 let same : wants place list_kinds s.0 (ok (only_list (list_of t.0))) ≡ check (Result.each at q r) env
                 = ap (λ (y : ℕ). wants y list_kinds s.0 (ok (only_list (list_of t.0)))) (near ∙ stands_at h.stands)
                 ∙ sym
@@ -235,13 +176,6 @@ module _ (forms shapes pool b : List ℕ) (row d : ℕ) (each : get_or forms row
                 (λ (o : Outcome ℕ Shape). Checks o x)
                 same
                 (w list_kinds s.0 (only_list (list_of t.0)) s.2.left list_wanted (list_given t.0))
-            gives_list {p = p} {m = m} {deep = deep} {env = env} (Rattle.definitions.specs.Reader.convert at _ _) h x5 = elim x5 [ ]
-            gives_list {p = p} {m = m} {deep = deep} {env = env} (Rattle.definitions.specs.Reader.keep at _) h x5 = elim x5 [ ]
-            gives_list {p = p} {m = m} {deep = deep} {env = env} (Rattle.definitions.specs.Reader.count at _) h x6 = elim x6 [ ]
-            gives_list {p = p} {m = m} {deep = deep} {env = env} (Rattle.definitions.specs.Reader.when at _ _ _ _) h x10 = elim x10 [ ]
-            gives_list {p = p} {m = m} {deep = deep} {env = env} (Rattle.definitions.specs.Reader.choose at _ _ _) h x10 = elim x10 [ ]
-            gives_list {p = p} {m = m} {deep = deep} {env = env} (Rattle.definitions.specs.Reader.literal at _) h x9 = elim x9 [ ]
-            gives_list {p = p} {m = m} {deep = deep} {env = env} (Rattle.definitions.specs.Reader.pack at _) h x10 = elim x10 [ ]
 
             pub each_told : GivesForm forms shapes pool b b₂ row d x
-            each_told = record { told = λ p m deep r env h. gives_list r h (as_each h); kept = kept }
+            each_told = record { told = λ p m deep r env h. gives_list (as_each h) h; kept = kept }

@@ -7,8 +7,7 @@ use Rattle.definitions.specs.Shape.{Shape}
 use Rattle.definitions.specs.Reader.{Result}
 use Rattle.forms.specs.Forms.{form_code, FormStands}
 use Rattle.forms.specs.FormsLaws.{stands_code}
-use Rattle.checking.specs.declared.Checked.{Checked}
-use Rattle.checking.specs.CheckContracts.{MeetsForm, FormAsked, GivesForm, Simple, simple_convert, simple_keep, simple_count, simple_literal}
+use Rattle.checking.specs.CheckContracts.{Checked, MeetsForm, FormAsked, GivesForm, Simple, simple_convert, simple_keep, simple_count, simple_literal}
 use Rattle.checking.specs.CheckContracts.{MeetsSimple, SimpleAsked, GivesSimple}
 use Rattle.checking.proofs.FormWalk.{kept_same}
 

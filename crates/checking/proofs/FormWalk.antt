@@ -14,11 +14,9 @@ use Rattle.laws.specs.FormGrammar.{result_levels}
 use Rattle.plain.specs.Table.{Used}
 use Rattle.forms.specs.Forms.{literal_code, form_code, PlaceStands, FormStands}
 use Rattle.forms.specs.FormsLaws.{forms_some, stands_code, stands_within}
-use Rattle.checking.specs.declared.places.Located.{Located}
-use Rattle.checking.specs.declared.Checked.{Checked}
 use Rattle.checking.specs.Bindings.{Bindings, Kept, Binds}
 use Rattle.checking.specs.BindingsLaws.{bindings_more}
-use Rattle.checking.specs.CheckContracts.{Locates, Checks, GivesPlace, MeetsForm, FormAsked, GivesForm}
+use Rattle.checking.specs.CheckContracts.{Located, Checked, Locates, Checks, GivesPlace, MeetsForm, FormAsked, GivesForm}
 use Rattle.checking.proofs.SimpleForms.{conversion_code_le}
 
 -- ---- bindings kept

@@ -71,11 +71,15 @@ code_int : (k : Test) → k ≡ Test.int → test_code k ≡ 2
 unfolding test_code
 code_int k e = ap test_code e
 
-pub out_told : (kinds test x : ℕ) → (test ≡ 2 → ⊥) → TellsTest test x → TellsOut kinds test (bit_and kinds (127 - x))
-out_told kinds test x ne h k s e f =
+-- what is left where the test is not `int`, or there are no decimals
+pub out_told : (kinds test x : ℕ) → (test ≡ 2 → has_bit kinds 8 ≡ false) → TellsTest test x → TellsOut kinds test (bit_and kinds (127 - x))
+unfolding kind_bit
+out_told kinds test x none h k s e f =
     ap (λ (y : ℕ). bit_and y (127 - x)) f
     ∙ ap (λ (y : ℕ). bit_and (kind_bits s) (127 - y)) (h k e)
-    ∙ sym (out_bits k s (λ i. absurd (ne (e ∙ code_int k i))) ∙ ap (λ (y : ℕ). bit_and (kind_bits s) y) (others k))
+    ∙ sym
+    (out_bits k s (λ i. sym (has_kind Kind.dec s) ∙ ap (λ (y : ℕ). has_bit y 8) (sym f) ∙ none (e ∙ code_int k i))
+    ∙ ap (λ (y : ℕ). bit_and (kind_bits s) y) (others k))
 
 -- "taking out int leaves int and dec where dec is there"
 pub int_stays : (kinds test : ℕ) → test ≡ 2 → has_bit kinds 8 ≡ true → TellsOut kinds test kinds
@@ -88,23 +92,15 @@ int_stays kinds test i d k s e f =
     (ap (λ (y : Test). taken_out y s) (test_int k (sym e ∙ i))
     ∙ int_of_decimals s (sym (has_kind Kind.dec s) ∙ ap (λ (y : ℕ). has_bit y 8) (sym f) ∙ d)))
 
-pub int_out : (kinds test : ℕ) → test ≡ 2 → has_bit kinds 8 ≡ false → TellsOut kinds test (bit_and kinds 123)
-unfolding kind_bit flags among rank test_kinds bit
-int_out kinds test i d k s e f =
-    ap (λ (y : ℕ). bit_and y 123) f
-    ∙ sym
-    (ap (λ (y : Test). kind_bits (taken_out y s)) (test_int k (sym e ∙ i))
-    ∙ out_bits Test.int s (λ z. sym (has_kind Kind.dec s) ∙ ap (λ (y : ℕ). has_bit y 8) (sym f) ∙ d))
-
 -- "the member's shape gains null where the place has null"
 null_there : (place : ℕ) (s : Shape) {b : Bool} → place ≡ kind_bits s → has_bit place 1 ≡ b → b ≡ has Kind.null s
 unfolding kind_bit
 null_there place s f h = sym h ∙ ap (λ (y : ℕ). has_bit y 1) f ∙ has_kind Kind.null s
 
-pub null_gained : (kinds place : ℕ) → has_bit place 1 ≡ true → TellsGain kinds place (bit_or kinds 1)
+pub null_gained : (kinds place : ℕ) {given : ℕ} → given ≡ bit_or kinds 1 → has_bit place 1 ≡ true → TellsGain kinds place given
 unfolding gain_null
-null_gained kinds place h s t e f =
-    ap (λ (y : ℕ). bit_or y 1) e ∙ bits_with_null t ∙ ap (λ (b : Bool). kind_bits (gain_null b t)) (null_there place s f h)
+null_gained kinds place made h s t e f =
+    made ∙ ap (λ (y : ℕ). bit_or y 1) e ∙ bits_with_null t ∙ ap (λ (b : Bool). kind_bits (gain_null b t)) (null_there place s f h)
 
 pub none_gained : (kinds place : ℕ) → has_bit place 1 ≡ false → TellsGain kinds place kinds
 unfolding gain_null

@@ -1,13 +1,13 @@
 -- `pack`, as its results are checked one after the other. Assumes nothing.
 use Prim.Native.Nat.{ℕ, ◌+◌, ◌%◌, ◌≤◌, ◌<◌}
-use mathlib.Core.Path.{◌≡◌, refl, sym, ap, subst, ◌∙◌}
+use mathlib.Core.Path.{◌≡◌, refl, ap, subst, ◌∙◌}
 use mathlib.Core.Bool.{true, false}
 use mathlib.Core.List.{List}
 use native.Mathlib.Omega.{arith}
 use lib.ListN.{length, get_or}
 use Rattle.definitions.specs.Bytes.{Bytes}
 use Rattle.definitions.specs.Value.{Value}
-use Rattle.definitions.specs.Outcome.{Outcome, ok, refused, ◌>>=◌}
+use Rattle.definitions.specs.Outcome.{Outcome, ok, ◌>>=◌}
 use Rattle.definitions.specs.Shape.{Shape, Fields, no_fields, rec_of, only_rec, has_list, has_rec}
 use Rattle.definitions.specs.Join.{insert}
 use Rattle.definitions.specs.Reader.{Result, Pairs, no_pairs, pair}
@@ -17,11 +17,13 @@ use Rattle.shapes.specs.Shapes.{bit, numeric_bits, kind_bits}
 use Rattle.forms.specs.Forms.{literal_code, form_code, size_at, FormStands, PairsStand}
 use Rattle.forms.specs.FormsLaws.{forms_some, stands_size, stands_within}
 use Rattle.forms.specs.PartsLaws.{pack_stands, FirstPair, first_pair, no_pair_left}
-use Rattle.checking.specs.declared.Checked.{Checked}
-use Rattle.checking.specs.declared.Checked.TheVariants as checked
+use Rattle.std.specs.Prelude.{Ok, Err}
+use Rattle.reading.specs.declared.Refusal.{Refusal}
+use Rattle.reading.specs.Refusals.{refused_as}
+use Rattle.shapes.specs.declared.Shape as bits
 use Rattle.checking.specs.Bindings.{Kept}
 use Rattle.checking.specs.BindingsLaws.{bindings_kept}
-use Rattle.checking.specs.CheckContracts.{Checks, MeetsForm, FormAsked, GivesForm}
+use Rattle.checking.specs.CheckContracts.{Checked, Checks, MeetsForm, FormAsked, GivesForm}
 use Rattle.checking.proofs.SimpleForms.{conversion_code_le}
 use Rattle.checking.proofs.FormWalk.{kept_same, kept_then, coded_as, part_told}
 
@@ -53,10 +55,10 @@ pack_coded (Result.pack at ps) h e = is_pack
 -- what checking the pairs ps comes to, where qs are left
 pub record Left (ps qs : Pairs) (env : List Shape) : Type 0 where
   pub passes : (fs : Fields) → check_pairs qs env ≡ ok fs → (gs : Fields) × (check_pairs ps env ≡ ok gs)
-  pub refuses : (number place : ℕ) → check_pairs qs env ≡ refused number place → check_pairs ps env ≡ refused number place
+  pub refuses : (why : Refusal) → check_pairs qs env ≡ refused_as why → check_pairs ps env ≡ refused_as why
 
 all_left : (ps : Pairs) (env : List Shape) → Left ps ps env
-all_left ps env = record { passes = λ fs e. (fs, e); refuses = λ number place e. e }
+all_left ps env = record { passes = λ fs e. (fs, e); refuses = λ why e. e }
 
 -- one more passed
 left_less : {ps qs : Pairs} {n : Bytes} {r : Result} {env : List Shape} (s : Shape) → check r env ≡ ok s → Left ps (pair n r qs) env → Left ps qs env
@@ -69,18 +71,18 @@ left_less {qs} {n} {r} {env} s e h =
           (ap (λ (o : Outcome ℕ Shape). o >>= λ s. check_pairs qs env >>= λ fs. ok (insert n s fs)) e
           ∙ ap (λ (o : Outcome ℕ Fields). o >>= λ fs. ok (insert n s fs)) f);
       refuses =
-          λ number place f.
-          h.refuses number place
+          λ why f.
+          h.refuses why
           (ap (λ (o : Outcome ℕ Shape). o >>= λ s. check_pairs qs env >>= λ fs. ok (insert n s fs)) e
           ∙ ap (λ (o : Outcome ℕ Fields). o >>= λ fs. ok (insert n s fs)) f);
     }
 
 left_refused
-    : {ps qs : Pairs} {n : Bytes} {r : Result} {env : List Shape} {number place : ℕ} → check r env ≡ refused number place
-    → Left ps (pair n r qs) env → check_pairs ps env ≡ refused number place
+    : {ps qs : Pairs} {n : Bytes} {r : Result} {env : List Shape} (why : Refusal) → check r env ≡ refused_as why
+    → Left ps (pair n r qs) env → check_pairs ps env ≡ refused_as why
 unfolding check ◌>>=◌
-left_refused {qs} {n} {env} {number} {place} e h =
-    h.refuses number place (ap (λ (o : Outcome ℕ Shape). o >>= λ s. check_pairs qs env >>= λ fs. ok (insert n s fs)) e)
+left_refused {qs} {n} {env} why e h =
+    h.refuses why (ap (λ (o : Outcome ℕ Shape). o >>= λ s. check_pairs qs env >>= λ fs. ok (insert n s fs)) e)
 
 -- the results left, where those before have passed
 pub record LeftAt (forms shapes pool b b' : List ℕ) (row end d i : ℕ) : Type 0 where
@@ -122,24 +124,17 @@ module _ (forms shapes pool b : List ℕ) (row d : ℕ) (pack : get_or forms row
     module _ (b₁ : List ℕ) (i : ℕ) (inv : LeftAt forms shapes pool b b₁ row (row + size) d i) where
       -- what the pairs come to
       ends
-          : (row + size ≤ i) → {p : List ℕ} {m deep : ℕ} {env : List Shape} (r : Result) → Meets p m deep r env → IsPack r
-          → Checks (check r env) (checked.Kinds 64)
+          : (row + size ≤ i) → {p : List ℕ} {m deep : ℕ} {env : List Shape} {r : Result} → IsPack r → Meets p m deep r env
+          → Checks (check r env) (Ok (record { kinds = 64 }))
       unfolding check ◌>>=◌
-      ends past {p} {m} {deep} {env} (Result.pack at ps) h is_pack =
+      ends past {p} {m} {deep} {env} (is_pack {at} {ps}) h =
           let l = inv.left p m deep at ps env h in
           let none_left : l.0 ≡ no_pairs = no_pair_left l.1 past in
           let g = l.3.passes no_fields (ap (λ (qs : Pairs). check_pairs qs env) none_left) in
           (only_rec (rec_of g.0), ap (λ (o : Outcome ℕ Fields). o >>= λ fs. ok (only_rec (rec_of fs))) g.1, rec_given g.0)
-      ends past {p = p} {m = m} {deep = deep} {env = env} (Rattle.definitions.specs.Reader.convert at _ _) h x4 = elim x4 [ ]
-      ends past {p = p} {m = m} {deep = deep} {env = env} (Rattle.definitions.specs.Reader.keep at _) h x4 = elim x4 [ ]
-      ends past {p = p} {m = m} {deep = deep} {env = env} (Rattle.definitions.specs.Reader.count at _) h x5 = elim x5 [ ]
-      ends past {p = p} {m = m} {deep = deep} {env = env} (Rattle.definitions.specs.Reader.each at _ _) h x7 = elim x7 [ ]
-      ends past {p = p} {m = m} {deep = deep} {env = env} (Rattle.definitions.specs.Reader.when at _ _ _ _) h x10 = elim x10 [ ]
-      ends past {p = p} {m = m} {deep = deep} {env = env} (Rattle.definitions.specs.Reader.choose at _ _ _) h x10 = elim x10 [ ]
-      ends past {p = p} {m = m} {deep = deep} {env = env} (Rattle.definitions.specs.Reader.literal at _) h x9 = elim x9 [ ]
 
-      pub pack_told : (row + size ≤ i) → GivesForm forms shapes pool b b₁ row d (checked.Kinds 64)
-      pack_told past = record { told = λ p m deep r env h. ends past r h (as_pack h); kept = inv.kept }
+      pub pack_told : (row + size ≤ i) → GivesForm forms shapes pool b b₁ row d (Ok (record { kinds = 64 }))
+      pack_told past = record { told = λ p m deep r env h. ends past (as_pack h) h; kept = inv.kept }
 
       module _ (more : i < row + size) where
         module _ {p : List ℕ} {m deep at : ℕ} {ps : Pairs} {env : List Shape} (h : Meets p m deep (Result.pack at ps) env) where
@@ -178,65 +173,33 @@ module _ (forms shapes pool b : List ℕ) (row d : ℕ) (pack : get_or forms row
           )
 
         pub part_asked : FormAsked forms shapes pool b₁ i d
-        part_asked = go asked.form asked.meets (as_pack asked.meets)
+        part_asked = go (as_pack asked.meets) asked.meets
           where
-            go : (r : Result) → Meets asked.p asked.m asked.deep r asked.env → IsPack r → FormAsked forms shapes pool b₁ i d
-            go (Result.pack at ps) m is_pack =
+            go : {r : Result} → IsPack r → Meets asked.p asked.m asked.deep r asked.env → FormAsked forms shapes pool b₁ i d
+            go (is_pack {at} {ps}) m =
                 record { p = asked.p; m = _; deep = asked.deep; form = _; env = asked.env; meets = part_meets m }
-            go (Rattle.definitions.specs.Reader.convert at _ _) m x4 = elim x4 [ ]
-            go (Rattle.definitions.specs.Reader.keep at _) m x4 = elim x4 [ ]
-            go (Rattle.definitions.specs.Reader.count at _) m x5 = elim x5 [ ]
-            go (Rattle.definitions.specs.Reader.each at _ _) m x7 = elim x7 [ ]
-            go (Rattle.definitions.specs.Reader.when at _ _ _ _) m x10 = elim x10 [ ]
-            go (Rattle.definitions.specs.Reader.choose at _ _ _) m x10 = elim x10 [ ]
-            go (Rattle.definitions.specs.Reader.literal at _) m x9 = elim x9 [ ]
 
         pub part_ends : (i < i + size_at forms i) × (i + size_at forms i ≤ row + size)
-        part_ends = go asked.form asked.meets (as_pack asked.meets)
+        part_ends = go (as_pack asked.meets) asked.meets
           where
-            go : (r : Result) → Meets asked.p asked.m asked.deep r asked.env → IsPack r
+            go : {r : Result} → IsPack r → Meets asked.p asked.m asked.deep r asked.env
                 → (i < i + size_at forms i) × (i + size_at forms i ≤ row + size)
-            go (Result.pack at ps) m is_pack = first_size m
-            go (Rattle.definitions.specs.Reader.convert at _ _) m x4 = elim x4 [ ]
-            go (Rattle.definitions.specs.Reader.keep at _) m x4 = elim x4 [ ]
-            go (Rattle.definitions.specs.Reader.count at _) m x5 = elim x5 [ ]
-            go (Rattle.definitions.specs.Reader.each at _ _) m x7 = elim x7 [ ]
-            go (Rattle.definitions.specs.Reader.when at _ _ _ _) m x10 = elim x10 [ ]
-            go (Rattle.definitions.specs.Reader.choose at _ _ _) m x10 = elim x10 [ ]
-            go (Rattle.definitions.specs.Reader.literal at _) m x9 = elim x9 [ ]
+            go (is_pack {at} {ps}) m = first_size m
 
         module _ (b₂ : List ℕ) (part : Checked) (answer : GivesForm forms shapes pool b₁ b₂ i d part) where
           refused_at
-              : {number place : ℕ} → part ≡ checked.Refused number place → {p : List ℕ} {m deep : ℕ} {env : List Shape} (r : Result)
-              → Meets p m deep r env → IsPack r → check r env ≡ refused number place
+              : {why : Refusal} → part ≡ Err why → {p : List ℕ} {m deep : ℕ} {env : List Shape} {r : Result}
+              → IsPack r → Meets p m deep r env → check r env ≡ refused_as why
           unfolding check ◌>>=◌
-          refused_at {number} {place} f (Result.pack at ps) h is_pack =
+          refused_at {why} f (is_pack {at} {ps}) h =
               ap (λ (o : Outcome ℕ Fields). o >>= λ fs. ok (only_rec (rec_of fs)))
-              (left_refused (part_told forms shapes pool part (checked.Refused number place) answer f (part_meets h)) (first_left h))
-          refused_at {number = number} {place = place} f {p = p} {m = m} {deep = deep} {env = env} (Rattle.definitions.specs.Reader.convert at _ _) h x4 =
-              elim x4 [ ]
-          refused_at {number = number} {place = place} f {p = p} {m = m} {deep = deep} {env = env} (Rattle.definitions.specs.Reader.keep at _) h x4 =
-              elim x4 [ ]
-          refused_at {number = number} {place = place} f {p = p} {m = m} {deep = deep} {env = env} (Rattle.definitions.specs.Reader.count at _) h x5 =
-              elim x5 [ ]
-          refused_at {number = number} {place = place} f {p = p} {m = m} {deep = deep} {env = env} (Rattle.definitions.specs.Reader.each at _ _) h x7 =
-              elim x7 [ ]
-          refused_at {number = number} {place = place} f {p = p} {m = m} {deep = deep} {env = env} (Rattle.definitions.specs.Reader.when at _ _ _ _) h x10 =
-              elim x10 [ ]
-          refused_at {number = number} {place = place} f {p = p} {m = m} {deep = deep} {env = env} (Rattle.definitions.specs.Reader.choose at _ _ _) h x10 =
-              elim x10 [ ]
-          refused_at {number = number} {place = place} f {p = p} {m = m} {deep = deep} {env = env} (Rattle.definitions.specs.Reader.literal at _) h x9 =
-              elim x9 [ ]
+              (left_refused why (part_told forms shapes pool part (Err why) answer f (part_meets h)) (first_left h))
 
-          pub pack_refused : {number place : ℕ} → part ≡ checked.Refused number place → GivesForm forms shapes pool b b₂ row d part
-          pack_refused f =
-              record {
-                told = λ p m deep r env h. subst (λ (y : Checked). Checks (check r env) y) (sym f) (refused_at f r h (as_pack h));
-                kept = kept_then inv.kept answer.kept;
-              }
+          pub pack_refused : {why : Refusal} → part ≡ Err why → GivesForm forms shapes pool b b₂ row d (Err why)
+          pack_refused f = record { told = λ p m deep r env h. refused_at f (as_pack h) h; kept = kept_then inv.kept answer.kept }
 
           pub pack_next
-              : {given size₂ : ℕ} → part ≡ checked.Kinds given → size₂ ≡ size_at forms i
+              : {given : bits.Shape} {size₂ : ℕ} → part ≡ Ok given → size₂ ≡ size_at forms i
               → LeftAt forms shapes pool b b₂ row (row + size) d (i + size₂)
           pack_next {given} {size₂} f w =
               record {
@@ -245,7 +208,7 @@ module _ (forms shapes pool b : List ℕ) (row d : ℕ) (pack : get_or forms row
                 behind = omega (arith, inv.behind);
                 left =
                     λ p m deep at ps env h.
-                    let t = part_told forms shapes pool part (checked.Kinds given) answer f (part_meets h) in (
+                    let t = part_told forms shapes pool part (Ok given) answer f (part_meets h) in (
                       (first h).others,
                       rw w (first h).more,
                       others_levels h,

@@ -8,10 +8,9 @@ use Rattle.definitions.specs.Shape.{Shape}
 use Rattle.definitions.specs.Reader.{Result}
 use Rattle.definitions.specs.Checking.{check_reader}
 use Rattle.forms.specs.FormsLaws.{levels_some}
-use Rattle.checking.specs.declared.Checked.{Checked}
 use Rattle.checking.specs.Bindings.{binding, Bindings, Binds}
 use Rattle.checking.specs.BindingsLaws.{bound_row, bind_kept, binds, bindings_more}
-use Rattle.checking.specs.CheckContracts.{MeetsForm, FormAsked, GivesForm, MeetsReader, ReaderAsked, ChecksReader}
+use Rattle.checking.specs.CheckContracts.{Checked, MeetsForm, FormAsked, GivesForm, MeetsReader, ReaderAsked, ChecksReader}
 
 no_bindings : (shapes p b : List ℕ) (deep : ℕ) → Bindings shapes p b deep 0 []
 no_bindings shapes p b deep =

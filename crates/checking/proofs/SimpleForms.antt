@@ -4,10 +4,10 @@ use mathlib.Core.Path.{◌≡◌, refl, sym, ap, subst, ◌∙◌}
 use mathlib.Core.Bool.{Bool, true, false}
 use mathlib.Core.List.{List}
 use native.Mathlib.Omega.{arith}
-use lib.Bits.{bit_and}
+use lib.Bits.{bit_or}
 use lib.Dec.{eqb}
 use lib.ListN.{length, get_or}
-use Rattle.definitions.specs.Outcome.{Outcome, ok, refused, ◌>>=◌}
+use Rattle.definitions.specs.Outcome.{Outcome, ok, ◌>>=◌}
 use Rattle.definitions.specs.Number.{Number, is_int}
 use Rattle.definitions.specs.Value.{Value}
 use Rattle.definitions.specs.Shape.{among, rank, Shape, int_only, int_and_dec, has_list, has_rec, only_null, only_bool, only_numeric, only_text}
@@ -21,41 +21,26 @@ use Rattle.forms.specs.Forms.{PlaceStands, FormStands, LiteralPayload, null_payl
 use Rattle.forms.specs.Forms.{no_payload, number_payload, text_payload}
 use Rattle.forms.specs.FormsLaws.{forms_some, stands_code, stands_operand, stands_at, stands_within}
 use Rattle.forms.specs.PartsLaws.{convert_place, keep_place, count_place, literal_stands}
-use Rattle.checking.specs.declared.places.Located.{Located}
-use Rattle.checking.specs.declared.places.Located.TheVariants as located
-use Rattle.checking.specs.declared.Checked.{Checked}
-use Rattle.checking.specs.declared.Checked.TheVariants as checked
+use Rattle.std.specs.Prelude.{Ok, Err}
+use Rattle.reading.specs.declared.Refusal.{Refusal}
+use Rattle.reading.specs.declared.Cause.TheVariants as cause
+use Rattle.reading.specs.Refusals.{refused_as}
+use Rattle.shapes.specs.declared.Shape as bits
+use Rattle.checking.specs.declared.bindings.Binding.{Binding}
 use Rattle.checking.specs.KindSets.{flags}
-use Rattle.checking.specs.WantsLaws.{wanted, within_told, wants_met, wants_unmet}
-use Rattle.checking.specs.CheckContracts.{Locates, Checks, PlaceAsked, GivesPlace, TellsWant, TellsConversion, TellsLiteral, PassesUp}
+use Rattle.checking.specs.WantsLaws.{wanted, joins_told, wants_met, wants_unmet}
+use Rattle.checking.specs.CheckContracts.{Located, Checked, Locates, Checks, PlaceAsked, GivesPlace, TellsWant, TellsConversion, TellsLiteral}
 use Rattle.checking.specs.CheckContracts.{Simple, simple_convert, simple_keep, simple_count, simple_literal, MeetsSimple, SimpleAsked, GivesSimple}
-
--- ---- a place that is refused
-
-abbrev as_checked : Located → Checked
-as_checked (located.At row kinds) = checked.Kinds kinds
-as_checked (located.Refused number place) = checked.Refused number place
-
-passed_up : {l : Located} (y : Located) → l ≡ y → PassesUp l (as_checked y)
-unfolding as_checked
-passed_up y e number place f = ap as_checked (sym e ∙ f)
-
-pub passed_at : {l : Located} {row kinds : ℕ} → l ≡ located.At row kinds → PassesUp l (checked.Kinds kinds)
-unfolding as_checked
-passed_at {row} {kinds} e = passed_up (located.At row kinds) e
-
-pub passed_refusal : {l : Located} {number place : ℕ} → l ≡ located.Refused number place → PassesUp l (checked.Refused number place)
-unfolding as_checked
-passed_refusal {number} {place} e = passed_up (located.Refused number place) e
 
 -- ---- what a form wants
 
-module _ (kinds want given place : ℕ) where
-  pub want_met : eqb (bit_and kinds want) kinds ≡ true → TellsWant kinds want given place (checked.Kinds given)
-  want_met h ks s t e f g = (t, wants_met place ks s (ok t) (sym (within_told ks s kinds want e f) ∙ h), g)
+module _ (kinds want : ℕ) (given : bits.Shape) (place : ℕ) where
+  pub want_met : eqb (bit_or kinds want) want ≡ true → TellsWant kinds want given.kinds place (Ok given)
+  want_met h ks s t e f g = (t, wants_met place ks s (ok t) (sym (joins_told ks s kinds want e f) ∙ h), g)
 
-  pub want_unmet : eqb (bit_and kinds want) kinds ≡ false → TellsWant kinds want given place (checked.Refused 9 place)
-  want_unmet h ks s t e f g = wants_unmet place ks s (ok t) (sym (within_told ks s kinds want e f) ∙ h)
+  pub want_unmet
+      : eqb (bit_or kinds want) want ≡ false → TellsWant kinds want given.kinds place (Err (record { cause = cause.UnwantedKind; place = place }))
+  want_unmet h ks s t e f g = wants_unmet place ks s (ok t) (sym (joins_told ks s kinds want e f) ∙ h)
 
 -- ---- conversions
 
@@ -230,7 +215,7 @@ module _ (forms shapes pool bindings : List ℕ) (row : ℕ) {code : ℕ} (coded
 
   module _ (few : code < 9) where
     pub place_asked : SimpleAsked forms shapes pool bindings row → PlaceAsked forms shapes pool bindings (row + 3)
-    place_asked h = go h.form h.meets h.meets.simple
+    place_asked h = go h.meets.simple h.meets
       where
         meet : {q : Place} {r : Result} → MeetsSimple forms shapes pool bindings h.p row h.d h.m h.deep r h.env
             → PlaceStands forms h.p (row + 3) h.d q → PlaceAsked forms shapes pool bindings (row + 3)
@@ -244,16 +229,12 @@ module _ (forms shapes pool bindings : List ℕ) (row : ℕ) {code : ℕ} (coded
               meets = record { pooled = m.pooled; stands = s; bound = m.bound };
             }
 
-        go : (r : Result) → MeetsSimple forms shapes pool bindings h.p row h.d h.m h.deep r h.env → Simple r
+        go : {r : Result} → Simple r → MeetsSimple forms shapes pool bindings h.p row h.d h.m h.deep r h.env
             → PlaceAsked forms shapes pool bindings (row + 3)
-        go (Result.convert at c q) m simple_convert = meet m (convert_place m.stands)
-        go (Result.keep at q) m simple_keep = meet m (keep_place m.stands)
-        go (Result.count at q) m simple_count = meet m (count_place m.stands)
-        go (Result.literal at v) m simple_literal = absurd (let z : ⊥ = omega (arith, literal_coded m.stands) in z)
-        go (Rattle.definitions.specs.Reader.each at _ _) m x4 = elim x4 [ ]
-        go (Rattle.definitions.specs.Reader.when at _ _ _ _) m x7 = elim x7 [ ]
-        go (Rattle.definitions.specs.Reader.choose at _ _ _) m x7 = elim x7 [ ]
-        go (Rattle.definitions.specs.Reader.pack at _) m x6 = elim x6 [ ]
+        go (simple_convert {at} {c} {q}) m = meet m (convert_place m.stands)
+        go (simple_keep {at} {q}) m = meet m (keep_place m.stands)
+        go (simple_count {at} {q}) m = meet m (count_place m.stands)
+        go (simple_literal {at} {v}) m = absurd (let z : ⊥ = omega (arith, literal_coded m.stands) in z)
 
     module _ (l : Located) (gives : GivesPlace forms shapes pool bindings (row + 3) l) where
       told
@@ -268,117 +249,91 @@ module _ (forms shapes pool bindings : List ℕ) (row : ℕ) {code : ℕ} (coded
 
       module _ {p : List ℕ} {d m deep : ℕ} {env : List Shape} where
         refuses
-            : {number place : ℕ} → l ≡ located.Refused number place → (r : Result) → MeetsSimple forms shapes pool bindings p row d m deep r env
-            → Simple r → check r env ≡ refused number place
+            : {why : Refusal} → l ≡ Err why → {r : Result} → Simple r → MeetsSimple forms shapes pool bindings p row d m deep r env
+            → check r env ≡ refused_as why
         unfolding check ◌>>=◌
-        refuses {number} {place} e (Result.convert at c q) h simple_convert =
+        refuses {why} e (simple_convert {at} {c} {q}) h =
             ap (λ (o : Outcome ℕ Shape). o >>= λ s. wants at (convert_kinds c) s (ok (convert_shape c)))
-            (told (located.Refused number place) e h (convert_place h.stands))
-        refuses {number} {place} e (Result.keep at q) h simple_keep = told (located.Refused number place) e h (keep_place h.stands)
-        refuses {number} {place} e (Result.count at q) h simple_count =
+            (told (Err why) e h (convert_place h.stands))
+        refuses {why} e (simple_keep {at} {q}) h = told (Err why) e h (keep_place h.stands)
+        refuses {why} e (simple_count {at} {q}) h =
             ap (λ (o : Outcome ℕ Shape). o >>= λ s. wants at list_kinds s (ok (only_numeric int_only)))
-            (told (located.Refused number place) e h (count_place h.stands))
-        refuses e (Result.literal at v) h simple_literal = absurd (let z : ⊥ = omega (arith, literal_coded h.stands) in z)
-        refuses {number = number} {place = place} e (Rattle.definitions.specs.Reader.each at _ _) h x4 = elim x4 [ ]
-        refuses {number = number} {place = place} e (Rattle.definitions.specs.Reader.when at _ _ _ _) h x7 = elim x7 [ ]
-        refuses {number = number} {place = place} e (Rattle.definitions.specs.Reader.choose at _ _ _) h x7 = elim x7 [ ]
-        refuses {number = number} {place = place} e (Rattle.definitions.specs.Reader.pack at _) h x6 = elim x6 [ ]
+            (told (Err why) e h (count_place h.stands))
+        refuses e (simple_literal {at} {v}) h = absurd (let z : ⊥ = omega (arith, literal_coded h.stands) in z)
 
-        module _ {at_row kinds : ℕ} (e : l ≡ located.At at_row kinds) where
+        module _ {here : Binding} (e : l ≡ Ok here) where
           keeps
-              : code ≡ 7 → (r : Result) → MeetsSimple forms shapes pool bindings p row d m deep r env → Simple r
-              → Checks (check r env) (checked.Kinds kinds)
+              : code ≡ 7 → {r : Result} → Simple r → MeetsSimple forms shapes pool bindings p row d m deep r env
+              → Checks (check r env) (Ok here.kinds)
           unfolding check ◌>>=◌
-          keeps f (Result.convert at c q) h simple_convert =
+          keeps f (simple_convert {at} {c} {q}) h =
               absurd (let z : ⊥ = omega (arith, convert_coded h.stands, conversion_code_le c) in z)
-          keeps f (Result.keep at q) h simple_keep =
-              let t = told (located.At at_row kinds) e h (keep_place h.stands) in (t.0, t.1, t.2.left)
-          keeps f (Result.count at q) h simple_count = absurd (let z : ⊥ = omega (arith, count_coded h.stands) in z)
-          keeps f (Result.literal at v) h simple_literal = absurd (let z : ⊥ = omega (arith, literal_coded h.stands) in z)
-          keeps f (Rattle.definitions.specs.Reader.each at _ _) h x4 = elim x4 [ ]
-          keeps f (Rattle.definitions.specs.Reader.when at _ _ _ _) h x7 = elim x7 [ ]
-          keeps f (Rattle.definitions.specs.Reader.choose at _ _ _) h x7 = elim x7 [ ]
-          keeps f (Rattle.definitions.specs.Reader.pack at _) h x6 = elim x6 [ ]
+          keeps f (simple_keep {at} {q}) h =
+              let t = told (Ok here) e h (keep_place h.stands) in (t.0, t.1, t.2.left)
+          keeps f (simple_count {at} {q}) h = absurd (let z : ⊥ = omega (arith, count_coded h.stands) in z)
+          keeps f (simple_literal {at} {v}) h = absurd (let z : ⊥ = omega (arith, literal_coded h.stands) in z)
 
           module _ {place : ℕ} (near : place ≡ get_or forms row 0 / 2048 % 65536) (x : Checked) where
             counts
-                : code ≡ 8 → TellsWant kinds 33 4 place x → (r : Result) → MeetsSimple forms shapes pool bindings p row d m deep r env
-                → Simple r → Checks (check r env) x
+                : code ≡ 8 → TellsWant here.kinds.kinds 33 4 place x → {r : Result} → Simple r
+                → MeetsSimple forms shapes pool bindings p row d m deep r env → Checks (check r env) x
             unfolding check ◌>>=◌ form_at
-            counts f w (Result.convert at c q) h simple_convert =
+            counts f w (simple_convert {at} {c} {q}) h =
                 absurd (let z : ⊥ = omega (arith, convert_coded h.stands, conversion_code_le c) in z)
-            counts f w (Result.keep at q) h simple_keep = absurd (let z : ⊥ = omega (arith, keep_coded h.stands) in z)
-            counts f w (Result.count at q) h simple_count =
-                let t = told (located.At at_row kinds) e h (count_place h.stands) in
+            counts f w (simple_keep {at} {q}) h = absurd (let z : ⊥ = omega (arith, keep_coded h.stands) in z)
+            counts f w (simple_count {at} {q}) h =
+                let t = told (Ok here) e h (count_place h.stands) in
                 let same : wants place list_kinds t.0 (ok (only_numeric int_only)) ≡ check (Result.count at q) env
                 = ap (λ (y : ℕ). wants y list_kinds t.0 (ok (only_numeric int_only))) (near ∙ stands_at h.stands)
                 ∙ sym (ap (λ (o : Outcome ℕ Shape). o >>= λ s. wants at list_kinds s (ok (only_numeric int_only))) t.1) in
                 subst (λ (o : Outcome ℕ Shape). Checks o x) same (w list_kinds t.0 (only_numeric int_only) t.2.left list_wanted int_given)
-            counts f w (Result.literal at v) h simple_literal = absurd (let z : ⊥ = omega (arith, literal_coded h.stands) in z)
-            counts f w (Rattle.definitions.specs.Reader.each at _ _) h x5 = elim x5 [ ]
-            counts f w (Rattle.definitions.specs.Reader.when at _ _ _ _) h x8 = elim x8 [ ]
-            counts f w (Rattle.definitions.specs.Reader.choose at _ _ _) h x8 = elim x8 [ ]
-            counts f w (Rattle.definitions.specs.Reader.pack at _) h x7 = elim x7 [ ]
+            counts f w (simple_literal {at} {v}) h = absurd (let z : ⊥ = omega (arith, literal_coded h.stands) in z)
 
             converts_to
-                : (code ≡ 7 → ⊥) → (code ≡ 8 → ⊥) → {given : ℕ} → TellsConversion code given → TellsWant kinds given given place x
-                → (r : Result) → MeetsSimple forms shapes pool bindings p row d m deep r env → Simple r → Checks (check r env) x
+                : (code ≡ 7 → ⊥) → (code ≡ 8 → ⊥) → {given : ℕ} → TellsConversion code given → TellsWant here.kinds.kinds given given place x
+                → {r : Result} → Simple r → MeetsSimple forms shapes pool bindings p row d m deep r env → Checks (check r env) x
             unfolding check ◌>>=◌ form_at
-            converts_to a b g w (Result.convert at c q) h simple_convert =
-                let t = told (located.At at_row kinds) e h (convert_place h.stands) in
+            converts_to a b g w (simple_convert {at} {c} {q}) h =
+                let t = told (Ok here) e h (convert_place h.stands) in
                 let u = g c (convert_coded h.stands) in
                 let same : wants place (convert_kinds c) t.0 (ok (convert_shape c)) ≡ check (Result.convert at c q) env
                 = ap (λ (y : ℕ). wants y (convert_kinds c) t.0 (ok (convert_shape c))) (near ∙ stands_at h.stands)
                 ∙ sym (ap (λ (o : Outcome ℕ Shape). o >>= λ s. wants at (convert_kinds c) s (ok (convert_shape c))) t.1) in
                 subst (λ (o : Outcome ℕ Shape). Checks o x) same (w (convert_kinds c) t.0 (convert_shape c) t.2.left u.0 u.1)
-            converts_to a b g w (Result.keep at q) h simple_keep = absurd (a (keep_coded h.stands))
-            converts_to a b g w (Result.count at q) h simple_count = absurd (b (count_coded h.stands))
-            converts_to a b g w (Result.literal at v) h simple_literal = absurd (let z : ⊥ = omega (arith, literal_coded h.stands) in z)
-            converts_to a b {given = given} g w (Rattle.definitions.specs.Reader.each at _ _) h x5 = elim x5 [ ]
-            converts_to a b {given = given} g w (Rattle.definitions.specs.Reader.when at _ _ _ _) h x8 = elim x8 [ ]
-            converts_to a b {given = given} g w (Rattle.definitions.specs.Reader.choose at _ _ _) h x8 = elim x8 [ ]
-            converts_to a b {given = given} g w (Rattle.definitions.specs.Reader.pack at _) h x7 = elim x7 [ ]
+            converts_to a b g w (simple_keep {at} {q}) h = absurd (a (keep_coded h.stands))
+            converts_to a b g w (simple_count {at} {q}) h = absurd (b (count_coded h.stands))
+            converts_to a b g w (simple_literal {at} {v}) h = absurd (let z : ⊥ = omega (arith, literal_coded h.stands) in z)
 
-      pub place_refused
-          : {number place : ℕ} (x : Checked) → l ≡ located.Refused number place → PassesUp l x → GivesSimple forms shapes pool bindings row x
-      place_refused {number} {place} x e up =
-          subst (λ (y : Checked). GivesSimple forms shapes pool bindings row y) (sym (up number place e)) (λ p d m deep r env h. refuses e r h h.simple)
+      pub place_refused : {why : Refusal} → l ≡ Err why → GivesSimple forms shapes pool bindings row (Err why)
+      place_refused e p d m deep r env h = refuses e h.simple h
 
-      module _ {at_row kinds : ℕ} (e : l ≡ located.At at_row kinds) where
-        pub keep_told : code ≡ 7 → GivesSimple forms shapes pool bindings row (checked.Kinds kinds)
-        keep_told f p d m deep r env h = keeps e f r h h.simple
+      module _ {here : Binding} (e : l ≡ Ok here) where
+        pub keep_told : code ≡ 7 → GivesSimple forms shapes pool bindings row (Ok here.kinds)
+        keep_told f p d m deep r env h = keeps e f h.simple h
 
         module _ {place : ℕ} (near : place ≡ get_or forms row 0 / 2048 % 65536) (x : Checked) where
-          pub count_told : code ≡ 8 → TellsWant kinds 33 4 place x → GivesSimple forms shapes pool bindings row x
-          count_told f w p d m deep r env h = counts e near x f w r h h.simple
+          pub count_told : code ≡ 8 → TellsWant here.kinds.kinds 33 4 place x → GivesSimple forms shapes pool bindings row x
+          count_told f w p d m deep r env h = counts e near x f w h.simple h
 
           pub convert_told
-              : (code ≡ 7 → ⊥) → (code ≡ 8 → ⊥) → {given : ℕ} → TellsConversion code given → TellsWant kinds given given place x
+              : (code ≡ 7 → ⊥) → (code ≡ 8 → ⊥) → {given : ℕ} → TellsConversion code given → TellsWant here.kinds.kinds given given place x
               → GivesSimple forms shapes pool bindings row x
-          convert_told a b g w p d m deep r env h = converts_to e near x a b g w r h h.simple
+          convert_told a b g w p d m deep r env h = converts_to e near x a b g w h.simple h
 
   -- a literal
   literal_checks
-      : {operand payload kinds : ℕ} → 9 ≤ code → operand ≡ get_or forms row 0 / 32 % 64 → payload ≡ get_or forms (row + 1) 0
-      → TellsLiteral code operand payload kinds → {p : List ℕ} {d m deep : ℕ} {env : List Shape} (r : Result)
-      → MeetsSimple forms shapes pool bindings p row d m deep r env → Simple r → Checks (check r env) (checked.Kinds kinds)
+      : {operand payload : ℕ} {given : bits.Shape} → 9 ≤ code → operand ≡ get_or forms row 0 / 32 % 64 → payload ≡ get_or forms (row + 1) 0
+      → TellsLiteral code operand payload given.kinds → {p : List ℕ} {d m deep : ℕ} {env : List Shape} {r : Result}
+      → Simple r → MeetsSimple forms shapes pool bindings p row d m deep r env → Checks (check r env) (Ok given)
   unfolding check form_code form_operand
-  literal_checks l f g t (Result.convert at c q) h simple_convert =
+  literal_checks l f g t (simple_convert {at} {c} {q}) h =
       absurd (let z : ⊥ = omega (arith, convert_coded h.stands, conversion_code_le c) in z)
-  literal_checks l f g t (Result.keep at q) h simple_keep = absurd (let z : ⊥ = omega (arith, keep_coded h.stands) in z)
-  literal_checks l f g t (Result.count at q) h simple_count = absurd (let z : ⊥ = omega (arith, count_coded h.stands) in z)
-  literal_checks l f g t {p} (Result.literal at v) h simple_literal =
+  literal_checks l f g t (simple_keep {at} {q}) h = absurd (let z : ⊥ = omega (arith, keep_coded h.stands) in z)
+  literal_checks l f g t (simple_count {at} {q}) h = absurd (let z : ⊥ = omega (arith, count_coded h.stands) in z)
+  literal_checks l f g t {p} (simple_literal {at} {v}) h =
       (shape_of v, refl, t p v l (coded ∙ stands_code h.stands) (f ∙ stands_operand h.stands) (rw g (literal_stands h.stands)))
-  literal_checks {operand = operand} {payload = payload} {kinds = kinds} l f g t {p = p} {d = d} {m = m} {deep = deep} {env = env}
-      (Rattle.definitions.specs.Reader.each at _ _) h x4 = elim x4 [ ]
-  literal_checks {operand = operand} {payload = payload} {kinds = kinds} l f g t {p = p} {d = d} {m = m} {deep = deep} {env = env}
-      (Rattle.definitions.specs.Reader.when at _ _ _ _) h x7 = elim x7 [ ]
-  literal_checks {operand = operand} {payload = payload} {kinds = kinds} l f g t {p = p} {d = d} {m = m} {deep = deep} {env = env}
-      (Rattle.definitions.specs.Reader.choose at _ _ _) h x7 = elim x7 [ ]
-  literal_checks {operand = operand} {payload = payload} {kinds = kinds} l f g t {p = p} {d = d} {m = m} {deep = deep} {env = env}
-      (Rattle.definitions.specs.Reader.pack at _) h x6 = elim x6 [ ]
 
   pub literal_told
-      : {operand payload kinds : ℕ} → 9 ≤ code → operand ≡ get_or forms row 0 / 32 % 64 → payload ≡ get_or forms (row + 1) 0
-      → TellsLiteral code operand payload kinds → GivesSimple forms shapes pool bindings row (checked.Kinds kinds)
-  literal_told l f g t p d m deep r env h = literal_checks l f g t r h h.simple
+      : {operand payload : ℕ} {given : bits.Shape} → 9 ≤ code → operand ≡ get_or forms row 0 / 32 % 64 → payload ≡ get_or forms (row + 1) 0
+      → TellsLiteral code operand payload given.kinds → GivesSimple forms shapes pool bindings row (Ok given)
+  literal_told l f g t p d m deep r env h = literal_checks l f g t h.simple h

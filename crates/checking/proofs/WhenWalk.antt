@@ -5,7 +5,7 @@ use mathlib.Core.List.{List, ◌∷◌}
 use native.Mathlib.Omega.{arith}
 use lib.Bits.{bit_or}
 use lib.ListN.{length, get_or, set}
-use Rattle.definitions.specs.Outcome.{Outcome, ok, refused, ◌>>=◌}
+use Rattle.definitions.specs.Outcome.{Outcome, ok, ◌>>=◌}
 use Rattle.definitions.specs.Shape.{Shape}
 use Rattle.definitions.specs.Join.{join}
 use Rattle.definitions.specs.Reader.{Place, Test, Result}
@@ -16,14 +16,15 @@ use Rattle.shapes.specs.ShapesLaws.{kind_bits_lt, union_bits, stands_row}
 use Rattle.forms.specs.Forms.{test_code, form_code, form_operand, FormStands}
 use Rattle.forms.specs.FormsLaws.{forms_some, levels_some, stands_operand, stands_within}
 use Rattle.forms.specs.PartsLaws.{after, when_place, when_first, when_second, literal_stands}
-use Rattle.checking.specs.declared.places.Located.{Located}
-use Rattle.checking.specs.declared.places.Located.TheVariants as located
-use Rattle.checking.specs.declared.Checked.{Checked}
-use Rattle.checking.specs.declared.Checked.TheVariants as checked
+use Rattle.std.specs.Prelude.{Ok, Err}
+use Rattle.reading.specs.declared.Refusal.{Refusal}
+use Rattle.reading.specs.Refusals.{refused_as}
+use Rattle.shapes.specs.declared.Shape as bits
+use Rattle.checking.specs.declared.bindings.Binding.{Binding}
 use Rattle.checking.specs.KindSets.{TellsCut, TellsOut}
 use Rattle.checking.specs.Bindings.{Bound, binding, Kept}
 use Rattle.checking.specs.BindingsLaws.{bound_cut, bound_out, bind_kept, binds, bindings_kept}
-use Rattle.checking.specs.CheckContracts.{Locates, Checks, PlaceAsked, GivesPlace, MeetsForm, FormAsked, GivesForm, PassesUp}
+use Rattle.checking.specs.CheckContracts.{Located, Checked, Locates, Checks, PlaceAsked, GivesPlace, MeetsForm, FormAsked, GivesForm}
 use Rattle.checking.proofs.SimpleForms.{conversion_code_le, literal_code_ge}
 use Rattle.checking.proofs.FormWalk.{kept_same, kept_then, kept_less, coded_as, place_told, part_told, part_bound}
 
@@ -71,28 +72,21 @@ module _ (forms shapes pool b : List ℕ) (row d : ℕ) (when : get_or forms row
 
   pub when_ends
       : FormAsked forms shapes pool b row d → (first + 3 ≤ length forms) × (second + 3 ≤ length forms) × (d < length b)
-  when_ends h = go h.form h.meets (as_when h.meets)
+  when_ends h = go (as_when h.meets) h.meets
     where
-      go : (r : Result) → Meets h.p h.m h.deep r h.env → IsWhen r
+      go : {r : Result} → IsWhen r → Meets h.p h.m h.deep r h.env
           → (first + 3 ≤ length forms) × (second + 3 ≤ length forms) × (d < length b)
-      go (Result.when at k q r₁ r₂) m is_when = (
+      go (is_when {at} {k} {q} {r₁} {r₂}) m = (
         omega (arith, stands_within (when_first m.stands), forms_some r₁),
         omega (arith, stands_within (when_second m.stands), forms_some r₂),
         there at (length b) d k q r₁ r₂ m.room,
       )
-      go (Rattle.definitions.specs.Reader.convert at _ _) m x4 = elim x4 [ ]
-      go (Rattle.definitions.specs.Reader.keep at _) m x4 = elim x4 [ ]
-      go (Rattle.definitions.specs.Reader.count at _) m x5 = elim x5 [ ]
-      go (Rattle.definitions.specs.Reader.each at _ _) m x7 = elim x7 [ ]
-      go (Rattle.definitions.specs.Reader.choose at _ _ _) m x9 = elim x9 [ ]
-      go (Rattle.definitions.specs.Reader.literal at _) m x8 = elim x8 [ ]
-      go (Rattle.definitions.specs.Reader.pack at _) m x9 = elim x9 [ ]
 
   pub when_place_asked : FormAsked forms shapes pool b row d → PlaceAsked forms shapes pool b (row + 3)
-  when_place_asked h = go h.form h.meets (as_when h.meets)
+  when_place_asked h = go (as_when h.meets) h.meets
     where
-      go : (r : Result) → Meets h.p h.m h.deep r h.env → IsWhen r → PlaceAsked forms shapes pool b (row + 3)
-      go (Result.when at k q r₁ r₂) m is_when =
+      go : {r : Result} → IsWhen r → Meets h.p h.m h.deep r h.env → PlaceAsked forms shapes pool b (row + 3)
+      go (is_when {at} {k} {q} {r₁} {r₂}) m =
           record {
             p = h.p;
             d = d;
@@ -101,13 +95,6 @@ module _ (forms shapes pool b : List ℕ) (row d : ℕ) (when : get_or forms row
             env = h.env;
             meets = record { pooled = m.pooled; stands = when_place m.stands; bound = m.bound };
           }
-      go (Rattle.definitions.specs.Reader.convert at _ _) m x4 = elim x4 [ ]
-      go (Rattle.definitions.specs.Reader.keep at _) m x4 = elim x4 [ ]
-      go (Rattle.definitions.specs.Reader.count at _) m x5 = elim x5 [ ]
-      go (Rattle.definitions.specs.Reader.each at _ _) m x7 = elim x7 [ ]
-      go (Rattle.definitions.specs.Reader.choose at _ _ _) m x9 = elim x9 [ ]
-      go (Rattle.definitions.specs.Reader.literal at _) m x8 = elim x8 [ ]
-      go (Rattle.definitions.specs.Reader.pack at _) m x9 = elim x9 [ ]
 
   module _ (l : Located) (gives : GivesPlace forms shapes pool b (row + 3) l) where
     found
@@ -124,192 +111,125 @@ module _ (forms shapes pool b : List ℕ) (row d : ℕ) (when : get_or forms row
     behind_first k r₂ env s o = o >>= λ t₁. check r₂ (taken_out k s ∷ env) >>= λ t₂. ok (join t₁ t₂)
 
     refuses
-        : {number place : ℕ} → l ≡ located.Refused number place → {p : List ℕ} {m deep : ℕ} {env : List Shape} (r : Result) → Meets p m deep r env
-        → IsWhen r → check r env ≡ refused number place
+        : {why : Refusal} → l ≡ Err why → {p : List ℕ} {m deep : ℕ} {env : List Shape} {r : Result} → IsWhen r → Meets p m deep r env
+        → check r env ≡ refused_as why
     unfolding check ◌>>=◌
-    refuses {number} {place} e {env} (Result.when at k q r₁ r₂) h is_when =
-        ap (behind_place k r₁ r₂ env) (found h (located.Refused number place) e)
-    refuses {number = number} {place = place} e {p = p} {m = m} {deep = deep} {env = env} (Rattle.definitions.specs.Reader.convert at _ _) h x4 = elim x4 [ ]
-    refuses {number = number} {place = place} e {p = p} {m = m} {deep = deep} {env = env} (Rattle.definitions.specs.Reader.keep at _) h x4 = elim x4 [ ]
-    refuses {number = number} {place = place} e {p = p} {m = m} {deep = deep} {env = env} (Rattle.definitions.specs.Reader.count at _) h x5 = elim x5 [ ]
-    refuses {number = number} {place = place} e {p = p} {m = m} {deep = deep} {env = env} (Rattle.definitions.specs.Reader.each at _ _) h x7 = elim x7 [ ]
-    refuses {number = number} {place = place} e {p = p} {m = m} {deep = deep} {env = env} (Rattle.definitions.specs.Reader.choose at _ _ _) h x9 = elim x9 [ ]
-    refuses {number = number} {place = place} e {p = p} {m = m} {deep = deep} {env = env} (Rattle.definitions.specs.Reader.literal at _) h x8 = elim x8 [ ]
-    refuses {number = number} {place = place} e {p = p} {m = m} {deep = deep} {env = env} (Rattle.definitions.specs.Reader.pack at _) h x9 = elim x9 [ ]
+    refuses {why} e {env} (is_when {at} {k} {q} {r₁} {r₂}) h =
+        ap (behind_place k r₁ r₂ env) (found h (Err why) e)
 
-    pub when_refused
-        : {number place : ℕ} (x : Checked) → l ≡ located.Refused number place → PassesUp l x → GivesForm forms shapes pool b b row d x
-    when_refused {number} {place} x e up =
-        record {
-          told =
-              λ p m deep r env h.
-              subst (λ (y : Checked). Checks (check r env) y) (sym (up number place e)) (refuses e r h (as_when h));
-          kept = kept_same b d;
-        }
+    pub when_refused : {why : Refusal} → l ≡ Err why → GivesForm forms shapes pool b b row d (Err why)
+    when_refused e = record { told = λ p m deep r env h. refuses e (as_when h) h; kept = kept_same b d }
 
-    module _ {at_row kinds : ℕ} (e : l ≡ located.At at_row kinds) {test : ℕ} (tested : test ≡ get_or forms row 0 / 32 % 64) where
-      pub row_there : FormAsked forms shapes pool b row d → at_row + 2 ≤ length shapes
-      row_there h = go h.form h.meets (as_when h.meets)
+    module _ {here : Binding} (e : l ≡ Ok here) {test : ℕ} (tested : test ≡ get_or forms row 0 / 32 % 64) where
+      pub row_there : FormAsked forms shapes pool b row d → here.row + 2 ≤ length shapes
+      row_there h = go (as_when h.meets) h.meets
         where
-          go : (r : Result) → Meets h.p h.m h.deep r h.env → IsWhen r → at_row + 2 ≤ length shapes
-          go (Result.when at k q r₁ r₂) m is_when = stands_row (found m (located.At at_row kinds) e).2.stands
-          go (Rattle.definitions.specs.Reader.convert at _ _) m x4 = elim x4 [ ]
-          go (Rattle.definitions.specs.Reader.keep at _) m x4 = elim x4 [ ]
-          go (Rattle.definitions.specs.Reader.count at _) m x5 = elim x5 [ ]
-          go (Rattle.definitions.specs.Reader.each at _ _) m x7 = elim x7 [ ]
-          go (Rattle.definitions.specs.Reader.choose at _ _ _) m x9 = elim x9 [ ]
-          go (Rattle.definitions.specs.Reader.literal at _) m x8 = elim x8 [ ]
-          go (Rattle.definitions.specs.Reader.pack at _) m x9 = elim x9 [ ]
+          go : {r : Result} → IsWhen r → Meets h.p h.m h.deep r h.env → here.row + 2 ≤ length shapes
+          go (is_when {at} {k} {q} {r₁} {r₂}) m = stands_row (found m (Ok here) e).2.stands
 
       -- the kinds that the test leaves
       module _ {p : List ℕ} {m deep at : ℕ} {k : Test} {q : Place} {r₁ r₂ : Result} {env : List Shape} (h : Meets p m deep (Result.when at k q r₁ r₂) env) where
         abbrev place_shape : Shape
-        place_shape = (found h (located.At at_row kinds) e).0
+        place_shape = (found h (Ok here) e).0
 
         test_is : test ≡ test_code k
         unfolding form_operand
         test_is = tested ∙ stands_operand h.stands
 
-        cut_is : (c : ℕ) → TellsCut kinds test c → c ≡ kind_bits (cut_to k place_shape)
-        cut_is c t = let f = found h (located.At at_row kinds) e in t k f.0 test_is (sym f.2.left)
+        cut_is : (c : ℕ) → TellsCut here.kinds.kinds test c → c ≡ kind_bits (cut_to k place_shape)
+        cut_is c t = let f = found h (Ok here) e in t k f.0 test_is (sym f.2.left)
 
-        out_is : (c : ℕ) → TellsOut kinds test c → c ≡ kind_bits (taken_out k place_shape)
-        out_is c t = let f = found h (located.At at_row kinds) e in t k f.0 test_is (sym f.2.left)
+        out_is : (c : ℕ) → TellsOut here.kinds.kinds test c → c ≡ kind_bits (taken_out k place_shape)
+        out_is c t = let f = found h (Ok here) e in t k f.0 test_is (sym f.2.left)
 
-        cut_bound : (c : ℕ) → TellsCut kinds test c → Bound shapes p deep at_row c (cut_to k place_shape)
+        cut_bound : (c : ℕ) → TellsCut here.kinds.kinds test c → Bound shapes p deep here.row c (cut_to k place_shape)
         cut_bound c t =
             subst
-            (λ (y : ℕ). Bound shapes p deep at_row y (cut_to k place_shape))
+            (λ (y : ℕ). Bound shapes p deep here.row y (cut_to k place_shape))
             (sym (cut_is c t))
-            (bound_cut k (found h (located.At at_row kinds) e).2)
+            (bound_cut k (found h (Ok here) e).2)
 
-        out_bound : (c : ℕ) → TellsOut kinds test c → Bound shapes p deep at_row c (taken_out k place_shape)
+        out_bound : (c : ℕ) → TellsOut here.kinds.kinds test c → Bound shapes p deep here.row c (taken_out k place_shape)
         out_bound c t =
             subst
-            (λ (y : ℕ). Bound shapes p deep at_row y (taken_out k place_shape))
+            (λ (y : ℕ). Bound shapes p deep here.row y (taken_out k place_shape))
             (sym (out_is c t))
-            (bound_out k (found h (located.At at_row kinds) e).2)
+            (bound_out k (found h (Ok here) e).2)
 
-      pub few_cut : (c : ℕ) → TellsCut kinds test c → FormAsked forms shapes pool b row d → c < 128
-      few_cut c t h = go h.form h.meets (as_when h.meets)
+      pub few_cut : (c : ℕ) → TellsCut here.kinds.kinds test c → FormAsked forms shapes pool b row d → c < 128
+      few_cut c t h = go (as_when h.meets) h.meets
         where
-          go : (r : Result) → Meets h.p h.m h.deep r h.env → IsWhen r → c < 128
-          go (Result.when at k q r₁ r₂) m is_when = omega (arith, cut_is m c t, kind_bits_lt (cut_to k (place_shape m)))
-          go (Rattle.definitions.specs.Reader.convert at _ _) m x4 = elim x4 [ ]
-          go (Rattle.definitions.specs.Reader.keep at _) m x4 = elim x4 [ ]
-          go (Rattle.definitions.specs.Reader.count at _) m x5 = elim x5 [ ]
-          go (Rattle.definitions.specs.Reader.each at _ _) m x7 = elim x7 [ ]
-          go (Rattle.definitions.specs.Reader.choose at _ _ _) m x9 = elim x9 [ ]
-          go (Rattle.definitions.specs.Reader.literal at _) m x8 = elim x8 [ ]
-          go (Rattle.definitions.specs.Reader.pack at _) m x9 = elim x9 [ ]
+          go : {r : Result} → IsWhen r → Meets h.p h.m h.deep r h.env → c < 128
+          go (is_when {at} {k} {q} {r₁} {r₂}) m = omega (arith, cut_is m c t, kind_bits_lt (cut_to k (place_shape m)))
 
-      pub few_out : (c : ℕ) → TellsOut kinds test c → FormAsked forms shapes pool b row d → c < 128
-      few_out c t h = go h.form h.meets (as_when h.meets)
+      pub few_out : (c : ℕ) → TellsOut here.kinds.kinds test c → FormAsked forms shapes pool b row d → c < 128
+      few_out c t h = go (as_when h.meets) h.meets
         where
-          go : (r : Result) → Meets h.p h.m h.deep r h.env → IsWhen r → c < 128
-          go (Result.when at k q r₁ r₂) m is_when = omega (arith, out_is m c t, kind_bits_lt (taken_out k (place_shape m)))
-          go (Rattle.definitions.specs.Reader.convert at _ _) m x4 = elim x4 [ ]
-          go (Rattle.definitions.specs.Reader.keep at _) m x4 = elim x4 [ ]
-          go (Rattle.definitions.specs.Reader.count at _) m x5 = elim x5 [ ]
-          go (Rattle.definitions.specs.Reader.each at _ _) m x7 = elim x7 [ ]
-          go (Rattle.definitions.specs.Reader.choose at _ _ _) m x9 = elim x9 [ ]
-          go (Rattle.definitions.specs.Reader.literal at _) m x8 = elim x8 [ ]
-          go (Rattle.definitions.specs.Reader.pack at _) m x9 = elim x9 [ ]
+          go : {r : Result} → IsWhen r → Meets h.p h.m h.deep r h.env → c < 128
+          go (is_when {at} {k} {q} {r₁} {r₂}) m = omega (arith, out_is m c t, kind_bits_lt (taken_out k (place_shape m)))
 
       module _
-          (asked : FormAsked forms shapes pool b row d) (c : ℕ) (cut : TellsCut kinds test c) (b₁ : List ℕ) (put : b₁ ≡ set b d (binding at_row c))
+          (asked : FormAsked forms shapes pool b row d) (c : ℕ) (cut : TellsCut here.kinds.kinds test c) (b₁ : List ℕ) (put : b₁ ≡ set b d (binding here.row c))
           {at_first : ℕ} (first_is : at_first ≡ first) where
         first_meets
             : {p : List ℕ} {m deep at : ℕ} {k : Test} {q : Place} {r₁ r₂ : Result} {env : List Shape} (h : Meets p m deep (Result.when at k q r₁ r₂) env)
             → MeetsForm forms shapes pool b₁ p at_first (d + 1) 0 deep r₁ (cut_to k (place_shape h) ∷ env)
         first_meets {at} {k} {q} {r₁} {r₂} h =
             part_bound forms shapes pool h.pooled (rw first_is (when_first h.stands)) h.bound (there at (length b) d k q r₁ r₂ h.room)
-            (binds b b₁ d at_row c put (there at (length b) d k q r₁ r₂ h.room) (few_cut c cut asked) (cut_bound h c cut))
+            (binds b b₁ d here.row c put (there at (length b) d k q r₁ r₂ h.room) (few_cut c cut asked) (cut_bound h c cut))
             (first_room at (length b) d k q r₁ r₂ h.room)
 
         pub first_asked : FormAsked forms shapes pool b₁ at_first (d + 1)
-        first_asked = go asked.form asked.meets (as_when asked.meets)
+        first_asked = go (as_when asked.meets) asked.meets
           where
-            go : (r : Result) → Meets asked.p asked.m asked.deep r asked.env → IsWhen r → FormAsked forms shapes pool b₁ at_first (d + 1)
-            go (Result.when at k q r₁ r₂) m is_when =
+            go : {r : Result} → IsWhen r → Meets asked.p asked.m asked.deep r asked.env → FormAsked forms shapes pool b₁ at_first (d + 1)
+            go (is_when {at} {k} {q} {r₁} {r₂}) m =
                 record { p = asked.p; m = 0; deep = asked.deep; form = r₁; env = _; meets = first_meets m }
-            go (Rattle.definitions.specs.Reader.convert at _ _) m x4 = elim x4 [ ]
-            go (Rattle.definitions.specs.Reader.keep at _) m x4 = elim x4 [ ]
-            go (Rattle.definitions.specs.Reader.count at _) m x5 = elim x5 [ ]
-            go (Rattle.definitions.specs.Reader.each at _ _) m x7 = elim x7 [ ]
-            go (Rattle.definitions.specs.Reader.choose at _ _ _) m x9 = elim x9 [ ]
-            go (Rattle.definitions.specs.Reader.literal at _) m x8 = elim x8 [ ]
-            go (Rattle.definitions.specs.Reader.pack at _) m x9 = elim x9 [ ]
 
         module _ (b₂ : List ℕ) (part : Checked) (answer : GivesForm forms shapes pool b₁ b₂ at_first (d + 1) part) where
           kept_first : Kept b b₂ d
           kept_first =
-              kept_then (bind_kept b b₁ d at_row c put (when_ends asked).2 (few_cut c cut asked)) (kept_less b₁ b₂ d answer.kept)
+              kept_then (bind_kept b b₁ d here.row c put (when_ends asked).2 (few_cut c cut asked)) (kept_less b₁ b₂ d answer.kept)
 
           pub still_there : d < length b₂
           still_there = omega (arith, (when_ends asked).2, kept_first.same)
 
           first_refuses
-              : {number place : ℕ} → part ≡ checked.Refused number place → {p : List ℕ} {m deep : ℕ} {env : List Shape} (r : Result)
-              → Meets p m deep r env → IsWhen r → check r env ≡ refused number place
+              : {why : Refusal} → part ≡ Err why → {p : List ℕ} {m deep : ℕ} {env : List Shape} {r : Result}
+              → IsWhen r → Meets p m deep r env → check r env ≡ refused_as why
           unfolding check ◌>>=◌
-          first_refuses {number} {place} f {env} (Result.when at k q r₁ r₂) h is_when =
-              ap (behind_place k r₁ r₂ env) (found h (located.At at_row kinds) e).1
+          first_refuses {why} f {env} (is_when {at} {k} {q} {r₁} {r₂}) h =
+              ap (behind_place k r₁ r₂ env) (found h (Ok here) e).1
               ∙ ap (behind_first k r₂ env (place_shape h))
-              (part_told forms shapes pool part (checked.Refused number place) answer f (first_meets h))
-          first_refuses {number = number} {place = place} f {p = p} {m = m} {deep = deep} {env = env} (Rattle.definitions.specs.Reader.convert at _ _) h x4 =
-              elim x4 [ ]
-          first_refuses {number = number} {place = place} f {p = p} {m = m} {deep = deep} {env = env} (Rattle.definitions.specs.Reader.keep at _) h x4 =
-              elim x4 [ ]
-          first_refuses {number = number} {place = place} f {p = p} {m = m} {deep = deep} {env = env} (Rattle.definitions.specs.Reader.count at _) h x5 =
-              elim x5 [ ]
-          first_refuses {number = number} {place = place} f {p = p} {m = m} {deep = deep} {env = env} (Rattle.definitions.specs.Reader.each at _ _) h x7 =
-              elim x7 [ ]
-          first_refuses {number = number} {place = place} f {p = p} {m = m} {deep = deep} {env = env} (Rattle.definitions.specs.Reader.choose at _ _ _) h x9 =
-              elim x9 [ ]
-          first_refuses {number = number} {place = place} f {p = p} {m = m} {deep = deep} {env = env} (Rattle.definitions.specs.Reader.literal at _) h x8 =
-              elim x8 [ ]
-          first_refuses {number = number} {place = place} f {p = p} {m = m} {deep = deep} {env = env} (Rattle.definitions.specs.Reader.pack at _) h x9 =
-              elim x9 [ ]
+              (part_told forms shapes pool part (Err why) answer f (first_meets h))
 
-          pub first_refused : {number place : ℕ} → part ≡ checked.Refused number place → GivesForm forms shapes pool b b₂ row d part
-          first_refused f =
-              record {
-                told = λ p m deep r env h. subst (λ (y : Checked). Checks (check r env) y) (sym f) (first_refuses f r h (as_when h));
-                kept = kept_first;
-              }
+          pub first_refused : {why : Refusal} → part ≡ Err why → GivesForm forms shapes pool b b₂ row d (Err why)
+          first_refused f = record { told = λ p m deep r env h. first_refuses f (as_when h) h; kept = kept_first }
 
           module _
-              {given : ℕ} (f : part ≡ checked.Kinds given) (o : ℕ) (out : TellsOut kinds test o) (b₃ : List ℕ)
-              (put_out : b₃ ≡ set b₂ d (binding at_row o)) {at_second : ℕ} (second_is : at_second ≡ second) where
+              {given : bits.Shape} (f : part ≡ Ok given) (o : ℕ) (out : TellsOut here.kinds.kinds test o) (b₃ : List ℕ)
+              (put_out : b₃ ≡ set b₂ d (binding here.row o)) {at_second : ℕ} (second_is : at_second ≡ second) where
             second_Meets
                 : {p : List ℕ} {m deep at : ℕ} {k : Test} {q : Place} {r₁ r₂ : Result} {env : List Shape}
                 (h : Meets p m deep (Result.when at k q r₁ r₂) env)
                 → MeetsForm forms shapes pool b₃ p at_second (d + 1) 0 deep r₂ (taken_out k (place_shape h) ∷ env)
             second_Meets {at} {k} {q} {r₁} {r₂} h =
                 part_bound forms shapes pool h.pooled (rw second_is (when_second h.stands)) (bindings_kept h.bound kept_first) still_there
-                (binds b₂ b₃ d at_row o put_out still_there (few_out o out asked) (out_bound h o out))
+                (binds b₂ b₃ d here.row o put_out still_there (few_out o out asked) (out_bound h o out))
                 (let room = second_room at (length b) d k q r₁ r₂ h.room in omega (arith, kept_first.same))
 
             pub second_asked : FormAsked forms shapes pool b₃ at_second (d + 1)
-            second_asked = go asked.form asked.meets (as_when asked.meets)
+            second_asked = go (as_when asked.meets) asked.meets
               where
-                go : (r : Result) → Meets asked.p asked.m asked.deep r asked.env → IsWhen r → FormAsked forms shapes pool b₃ at_second (d + 1)
-                go (Result.when at k q r₁ r₂) m is_when =
+                go : {r : Result} → IsWhen r → Meets asked.p asked.m asked.deep r asked.env → FormAsked forms shapes pool b₃ at_second (d + 1)
+                go (is_when {at} {k} {q} {r₁} {r₂}) m =
                     record { p = asked.p; m = 0; deep = asked.deep; form = r₂; env = _; meets = second_Meets m }
-                go (Rattle.definitions.specs.Reader.convert at _ _) m x4 = elim x4 [ ]
-                go (Rattle.definitions.specs.Reader.keep at _) m x4 = elim x4 [ ]
-                go (Rattle.definitions.specs.Reader.count at _) m x5 = elim x5 [ ]
-                go (Rattle.definitions.specs.Reader.each at _ _) m x7 = elim x7 [ ]
-                go (Rattle.definitions.specs.Reader.choose at _ _ _) m x9 = elim x9 [ ]
-                go (Rattle.definitions.specs.Reader.literal at _) m x8 = elim x8 [ ]
-                go (Rattle.definitions.specs.Reader.pack at _) m x9 = elim x9 [ ]
 
             module _ (b₄ : List ℕ) (part₂ : Checked) (answer₂ : GivesForm forms shapes pool b₃ b₄ at_second (d + 1) part₂) where
               kept_second : Kept b b₄ d
               kept_second =
                   kept_then kept_first
-                  (kept_then (bind_kept b₂ b₃ d at_row o put_out still_there (few_out o out asked)) (kept_less b₃ b₄ d answer₂.kept))
+                  (kept_then (bind_kept b₂ b₃ d here.row o put_out still_there (few_out o out asked)) (kept_less b₃ b₄ d answer₂.kept))
 
               -- what the whole is, where the first result has its shape
               whole_is
@@ -317,61 +237,38 @@ module _ (forms shapes pool b : List ℕ) (row d : ℕ) (when : get_or forms row
                   (h : Meets p m deep (Result.when at k q r₁ r₂) env)
                   → check (Result.when at k q r₁ r₂) env
                   ≡ (check r₂ (taken_out k (place_shape h) ∷ env)
-                  >>= λ t₂. ok (join (part_told forms shapes pool part (checked.Kinds given) answer f (first_meets h)).0 t₂))
+                  >>= λ t₂. ok (join (part_told forms shapes pool part (Ok given) answer f (first_meets h)).0 t₂))
               unfolding check ◌>>=◌
               whole_is {k} {r₁} {r₂} {env} h =
-                  ap (behind_place k r₁ r₂ env) (found h (located.At at_row kinds) e).1
-                  ∙ ap (behind_first k r₂ env (place_shape h)) (part_told forms shapes pool part (checked.Kinds given) answer f (first_meets h)).1
+                  ap (behind_place k r₁ r₂ env) (found h (Ok here) e).1
+                  ∙ ap (behind_first k r₂ env (place_shape h)) (part_told forms shapes pool part (Ok given) answer f (first_meets h)).1
 
               second_refuses
-                  : {number place : ℕ} → part₂ ≡ checked.Refused number place → {p : List ℕ} {m deep : ℕ} {env : List Shape} (r : Result)
-                  → Meets p m deep r env → IsWhen r → check r env ≡ refused number place
+                  : {why : Refusal} → part₂ ≡ Err why → {p : List ℕ} {m deep : ℕ} {env : List Shape} {r : Result}
+                  → IsWhen r → Meets p m deep r env → check r env ≡ refused_as why
               unfolding ◌>>=◌
-              second_refuses {number} {place} g (Result.when at k q r₁ r₂) h is_when =
+              second_refuses {why} g (is_when {at} {k} {q} {r₁} {r₂}) h =
                   whole_is h
                   ∙ ap
-                  (λ (o : Outcome ℕ Shape). o >>= λ t₂. ok (join (part_told forms shapes pool part (checked.Kinds given) answer f (first_meets h)).0 t₂))
-                  (part_told forms shapes pool part₂ (checked.Refused number place) answer₂ g (second_Meets h))
-              second_refuses {number = number} {place = place} g {p = p} {m = m} {deep = deep} {env = env}
-                  (Rattle.definitions.specs.Reader.convert at _ _) h x4 = elim x4 [ ]
-              second_refuses {number = number} {place = place} g {p = p} {m = m} {deep = deep} {env = env} (Rattle.definitions.specs.Reader.keep at _) h x4 =
-                  elim x4 [ ]
-              second_refuses {number = number} {place = place} g {p = p} {m = m} {deep = deep} {env = env} (Rattle.definitions.specs.Reader.count at _) h x5 =
-                  elim x5 [ ]
-              second_refuses {number = number} {place = place} g {p = p} {m = m} {deep = deep} {env = env}
-                  (Rattle.definitions.specs.Reader.each at _ _) h x7 = elim x7 [ ]
-              second_refuses {number = number} {place = place} g {p = p} {m = m} {deep = deep} {env = env}
-                  (Rattle.definitions.specs.Reader.choose at _ _ _) h x9 = elim x9 [ ]
-              second_refuses {number = number} {place = place} g {p = p} {m = m} {deep = deep} {env = env}
-                  (Rattle.definitions.specs.Reader.literal at _) h x8 = elim x8 [ ]
-              second_refuses {number = number} {place = place} g {p = p} {m = m} {deep = deep} {env = env} (Rattle.definitions.specs.Reader.pack at _) h x9 =
-                  elim x9 [ ]
+                  (λ (o : Outcome ℕ Shape). o >>= λ t₂. ok (join (part_told forms shapes pool part (Ok given) answer f (first_meets h)).0 t₂))
+                  (part_told forms shapes pool part₂ (Err why) answer₂ g (second_Meets h))
 
-              pub second_refused : {number place : ℕ} → part₂ ≡ checked.Refused number place → GivesForm forms shapes pool b b₄ row d part₂
-              second_refused g =
-                  record {
-                    told = λ p m deep r env h. subst (λ (y : Checked). Checks (check r env) y) (sym g) (second_refuses g r h (as_when h));
-                    kept = kept_second;
-                  }
+              pub second_refused : {why : Refusal} → part₂ ≡ Err why → GivesForm forms shapes pool b b₄ row d (Err why)
+              second_refused g = record { told = λ p m deep r env h. second_refuses g (as_when h) h; kept = kept_second }
 
               joins
-                  : {given₂ : ℕ} → part₂ ≡ checked.Kinds given₂ → {p : List ℕ} {m deep : ℕ} {env : List Shape} (r : Result) → Meets p m deep r env
-                  → IsWhen r → Checks (check r env) (checked.Kinds (bit_or given given₂))
+                  : {given₂ both : bits.Shape} → part₂ ≡ Ok given₂ → both.kinds ≡ bit_or given.kinds given₂.kinds
+                  → {p : List ℕ} {m deep : ℕ} {env : List Shape} {r : Result} → IsWhen r → Meets p m deep r env → Checks (check r env) (Ok both)
               unfolding ◌>>=◌
-              joins {given₂} g (Result.when at k q r₁ r₂) h is_when =
-                  let t = part_told forms shapes pool part (checked.Kinds given) answer f (first_meets h) in
-                  let u = part_told forms shapes pool part₂ (checked.Kinds given₂) answer₂ g (second_Meets h) in (
+              joins {given₂} g made (is_when {at} {k} {q} {r₁} {r₂}) h =
+                  let t = part_told forms shapes pool part (Ok given) answer f (first_meets h) in
+                  let u = part_told forms shapes pool part₂ (Ok given₂) answer₂ g (second_Meets h) in (
                     join t.0 u.0,
                     whole_is h ∙ ap (λ (o : Outcome ℕ Shape). o >>= λ t₂. ok (join t.0 t₂)) u.1,
-                    sym (union_bits t.0 u.0) ∙ ap₂ (λ (x y : ℕ). bit_or x y) t.2 u.2,
+                    sym (union_bits t.0 u.0) ∙ ap₂ (λ (x y : ℕ). bit_or x y) t.2 u.2 ∙ sym made,
                   )
-              joins {given₂ = given₂} g {p = p} {m = m} {deep = deep} {env = env} (Rattle.definitions.specs.Reader.convert at _ _) h x4 = elim x4 [ ]
-              joins {given₂ = given₂} g {p = p} {m = m} {deep = deep} {env = env} (Rattle.definitions.specs.Reader.keep at _) h x4 = elim x4 [ ]
-              joins {given₂ = given₂} g {p = p} {m = m} {deep = deep} {env = env} (Rattle.definitions.specs.Reader.count at _) h x5 = elim x5 [ ]
-              joins {given₂ = given₂} g {p = p} {m = m} {deep = deep} {env = env} (Rattle.definitions.specs.Reader.each at _ _) h x7 = elim x7 [ ]
-              joins {given₂ = given₂} g {p = p} {m = m} {deep = deep} {env = env} (Rattle.definitions.specs.Reader.choose at _ _ _) h x9 = elim x9 [ ]
-              joins {given₂ = given₂} g {p = p} {m = m} {deep = deep} {env = env} (Rattle.definitions.specs.Reader.literal at _) h x8 = elim x8 [ ]
-              joins {given₂ = given₂} g {p = p} {m = m} {deep = deep} {env = env} (Rattle.definitions.specs.Reader.pack at _) h x9 = elim x9 [ ]
 
-              pub when_told : {given₂ : ℕ} → part₂ ≡ checked.Kinds given₂ → GivesForm forms shapes pool b b₄ row d (checked.Kinds (bit_or given given₂))
-              when_told g = record { told = λ p m deep r env h. joins g r h (as_when h); kept = kept_second }
+              pub when_told
+                  : {given₂ both : bits.Shape} → part₂ ≡ Ok given₂ → both.kinds ≡ bit_or given.kinds given₂.kinds
+                  → GivesForm forms shapes pool b b₄ row d (Ok both)
+              when_told g made = record { told = λ p m deep r env h. joins g made (as_when h) h; kept = kept_second }

@@ -1,7 +1,8 @@
 -- What the functions that check a reader ask and answer. Assumes nothing.
-use Rattle.std.specs.Prelude.{ℕ, ◌+◌, ◌≤◌, ◌≡◌, true, List, length}
+use Rattle.std.specs.Prelude.{ℕ, ◌+◌, ◌≤◌, ◌≡◌, true, List, length, Ok, Err}
+use Rattle.std.specs.Prelude as std
 use Rattle.definitions.specs.Bytes.{Bytes}
-use Rattle.definitions.specs.Outcome.{Outcome, ok, refused}
+use Rattle.definitions.specs.Outcome.{Outcome, ok}
 use Rattle.definitions.specs.Value.{Value}
 use Rattle.definitions.specs.Shape.{Kind, Shape, ascending, levels}
 use Rattle.definitions.specs.Join.{shape_of}
@@ -12,24 +13,32 @@ use Rattle.nodes.specs.Nodes.{number_bits, Refers}
 use Rattle.plain.specs.Table.{Used}
 use Rattle.shapes.specs.Shapes.{kind_bits, Stands}
 use Rattle.forms.specs.Forms.{conversion_code, literal_code, LiteralPayload, PlaceStands, FormStands}
-use Rattle.checking.specs.declared.places.Located.{Located}
-use Rattle.checking.specs.declared.places.Located.TheVariants as found
-use Rattle.checking.specs.declared.Checked.{Checked}
-use Rattle.checking.specs.declared.Checked.TheVariants as checked
+use Rattle.reading.specs.declared.Refusal.{Refusal}
+use Rattle.reading.specs.Refusals.{refused_as}
+use Rattle.shapes.specs.declared.Shape as bits
+use Rattle.checking.specs.declared.bindings.Binding.{Binding}
 use Rattle.checking.specs.Bindings.{Bound, Bindings, Kept}
 use Rattle.checking.specs.WantsLaws.{wanted}
 
 -- ---- what is answered
 
+-- the shape of a place, as it is bound, or why it has none
+abbrev pub Located : Type 0
+Located = std.Result Binding Refusal
+
+-- the kinds of a result, or why it has none
+abbrev pub Checked : Type 0
+Checked = std.Result bits.Shape Refusal
+
 -- what an answer tells of the shape of a place
 abbrev pub Locates : (shapes p : List ℕ) (deep : ℕ) → Outcome ℕ Shape → Located → Type 0
-Locates shapes p deep o (found.At row kinds) = (s : Shape) × (o ≡ ok s) × Bound shapes p deep row kinds s
-Locates shapes p deep o (found.Refused number place) = o ≡ refused number place
+Locates shapes p deep o (Ok b) = (s : Shape) × (o ≡ ok s) × Bound shapes p deep b.row b.kinds.kinds s
+Locates shapes p deep o (Err why) = o ≡ refused_as why
 
 -- what an answer tells of the shape of a result: its kinds alone
 abbrev pub Checks : Outcome ℕ Shape → Checked → Type 0
-Checks o (checked.Kinds kinds) = (s : Shape) × (o ≡ ok s) × (kind_bits s ≡ kinds)
-Checks o (checked.Refused number place) = o ≡ refused number place
+Checks o (Ok k) = (s : Shape) × (o ≡ ok s) × (kind_bits s ≡ k.kinds)
+Checks o (Err why) = o ≡ refused_as why
 
 -- ---- the member of a place
 
@@ -132,10 +141,6 @@ TellsConversion code kinds =
 abbrev pub TellsLiteral : (code operand payload kinds : ℕ) → Type 0
 TellsLiteral code operand payload kinds =
     (p : List ℕ) (v : Value) → 9 ≤ code → code ≡ literal_code v → operand ≡ number_bits v → LiteralPayload p v payload → kind_bits (shape_of v) ≡ kinds
-
--- the refusal of a place becomes that of a result
-abbrev pub PassesUp : Located → Checked → Type 0
-PassesUp l x = (number place : ℕ) → l ≡ found.Refused number place → x ≡ checked.Refused number place
 
 -- ---- forms without results inside
 

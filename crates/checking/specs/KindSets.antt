@@ -73,7 +73,7 @@ flags_and f g =
 
 -- ---- a set within another
 
-eqb_same : (m n x y : ℕ) → (m ≡ n → x ≡ y) → (x ≡ y → m ≡ n) → eqb m n ≡ eqb x y
+pub eqb_same : (m n x y : ℕ) → (m ≡ n → x ≡ y) → (x ≡ y → m ≡ n) → eqb m n ≡ eqb x y
 eqb_same m n x y f g = bool_eq (eqb m n) (eqb x y) (λ e. eq-eqb (f (eqb_eq e))) (λ e. eq-eqb (g (eqb_eq e)))
 
 -- the first bit of a set is in another, and those behind it

@@ -1,17 +1,17 @@
 -- Laws of what a form wants and of the member that `field` gives. Assumes nothing.
 use Rattle.std.specs.Prelude.{ℕ, ◌≡◌, refl, Bool, List, eqb}
-use Rattle.std.proofs.Common.{sym, ap₂, ◌∙◌}
+use Rattle.std.proofs.Common.{sym, ap₂, ◌∙◌, arith}
 use Rattle.std.proofs.Math.Path.{ap}
 use Rattle.std.proofs.Math.Bool.{true, false}
 use Rattle.std.proofs.Math.Option.{none, some}
-use Rattle.std.specs.Int.Bits.{bit_and}
+use Rattle.std.specs.Int.Bits.{bit_and, bit_or, or_add_and}
 use Rattle.definitions.specs.Bytes.{Bytes}
 use Rattle.definitions.specs.Outcome.{Outcome, ok, refused, ◌>>=◌}
 use Rattle.definitions.specs.Shape.{Kind, among, rank, Shape, shape, no_rec, rec_of, Fields, find, within, record_of, has, has_rec}
 use Rattle.definitions.specs.Checking.{field_kinds, wants, listed, gain_null, field_shape}
 use Rattle.laws.specs.Bools.{clash}
 use Rattle.shapes.specs.Shapes.{bit, kind_bits}
-use Rattle.checking.specs.KindSets.{flags, within_bits}
+use Rattle.checking.specs.KindSets.{flags, eqb_same, within_bits}
 
 -- ---- wants
 
@@ -19,8 +19,15 @@ use Rattle.checking.specs.KindSets.{flags, within_bits}
 abbrev pub wanted : List Kind → ℕ
 wanted ks = flags (λ k. among k ks)
 
+-- a set is within another where it adds nothing to it, or where it is all that they have in common
+pub or_and : (a b : ℕ) → eqb (bit_or a b) b ≡ eqb (bit_and a b) a
+or_and a b = eqb_same (bit_or a b) b (bit_and a b) a (λ e. omega (arith, or_add_and a b)) (λ e. omega (arith, or_add_and a b))
+
 pub within_told : (ks : List Kind) (s : Shape) (kinds w : ℕ) → kind_bits s ≡ kinds → w ≡ wanted ks → eqb (bit_and kinds w) kinds ≡ within ks s
 within_told ks s kinds w e f = ap₂ (λ (x y : ℕ). eqb (bit_and x y) x) (sym e) f ∙ within_bits ks s
+
+pub joins_told : (ks : List Kind) (s : Shape) (kinds w : ℕ) → kind_bits s ≡ kinds → w ≡ wanted ks → eqb (bit_or kinds w) w ≡ within ks s
+joins_told ks s kinds w e f = or_and kinds w ∙ within_told ks s kinds w e f
 
 module _ {A : Type 0} (at : ℕ) (ks : List Kind) (s : Shape) (out : Outcome ℕ A) where
   pub wants_met : within ks s ≡ true → wants at ks s out ≡ out

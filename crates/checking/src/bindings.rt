@@ -8,7 +8,7 @@ use shapes::Shape;
 #[derive(Clone, Copy)]
 pub struct Binding {
     pub row: usize,
-    pub kinds: u64,
+    pub kinds: Shape,
 }
 
 // The word of a slot.
@@ -25,35 +25,37 @@ fn word(bindings: &[u64], slot: usize) -> u64
 // The binding of a slot.
 pub fn bound(bindings: &[u64], slot: usize) -> Binding
     ensures row { result.row ≡ get_or bindings.now slot 0 / 128 }
-    ensures kinds { result.kinds ≡ get_or bindings.now slot 0 % 128 }
+    ensures kinds { result.kinds.kinds ≡ get_or bindings.now slot 0 % 128 }
 {
     let w = word(bindings, slot);
     Binding {
         row: (w / 128) as usize,
-        kinds: w % 128,
+        kinds: Shape { kinds: w % 128 },
     }
 }
 
 // Binds the shape at a row, with these kinds left of it.
-pub fn bind(bindings: &mut [u64], slot: usize, row: usize, kinds: u64)
+pub fn bind(bindings: &mut [u64], slot: usize, b: Binding)
     requires slot_in_bounds { slot < length bindings.old }
-    requires fits { binding row kinds < 2 ^ 64 }
-    ensures put { bindings.new ≡ set bindings.old slot (binding row kinds) }
+    requires fits { binding b.row b.kinds.kinds < 2 ^ 64 }
+    ensures put { bindings.new ≡ set bindings.old slot (binding b.row b.kinds.kinds) }
 {
-    bindings[slot] = kinds + 128 * (row as u64);
+    bindings[slot] = b.kinds.kinds + 128 * (b.row as u64);
 }
 
 // Binds the element of the shape at a row, of which these kinds are left: nothing, where list is not.
-pub fn bind_element(bindings: &mut [u64], slot: usize, shapes: &[u64], row: usize, kinds: u64)
+pub fn bind_element(bindings: &mut [u64], slot: usize, shapes: &[u64], of: Binding)
     requires slot_in_bounds { slot < length bindings.old }
-    requires there { SomeBound shapes.now row kinds }
+    requires there { SomeBound shapes.now of.row of.kinds.kinds }
     requires small { length shapes.now < 2 ^ 56 }
-    ensures element { BindsElement shapes.now bindings.old bindings.new slot row kinds }
+    ensures element { BindsElement shapes.now bindings.old bindings.new slot of.row of.kinds.kinds }
 {
-    if shapes::has(Shape { kinds }, Shape::LIST) {
-        let element = shapes::kinds(shapes, row + 2);
-        bind(bindings, slot, row + 2, element.kinds);
+    if of.kinds.has(Shape::LIST) {
+        let row = of.row + 2;
+        let kinds = shapes::kinds(shapes, row);
+        bind(bindings, slot, Binding { row, kinds });
     } else {
-        bind(bindings, slot, row, Shape::NOTHING.kinds);
+        let kinds = Shape::NOTHING;
+        bind(bindings, slot, Binding { kinds, ..of });
     }
 }

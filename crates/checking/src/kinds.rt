@@ -1,9 +1,23 @@
 // Sets of kinds: what a form wants and gives, and what `when` leaves.
-ghost use Rattle.std.specs.Prelude.{◌≡◌, ◌<◌, eqb};
-ghost use Rattle.std.specs.Int.Bits.{bit_and};
+ghost use Rattle.std.specs.Prelude.{◌<◌};
 ghost use Rattle.checking.specs.KindSets.{TellsTest, TellsCut, TellsOut, TellsGain};
 
 use shapes::Shape;
+
+// The kinds of numbers.
+pub const NUMBERS: Shape = Shape {
+    kinds: Shape::INT.kinds | Shape::DEC.kinds,
+};
+
+// The kinds of what has elements: null reads as none.
+pub const LISTS: Shape = Shape {
+    kinds: Shape::LIST.kinds | Shape::NULL.kinds,
+};
+
+// The kinds of what has members: null reads as none.
+pub const RECORDS: Shape = Shape {
+    kinds: Shape::REC.kinds | Shape::NULL.kinds,
+};
 
 // The code of the test `num`; that of every other test is the place of its kind's bit.
 const NUM: u64 = 3;
@@ -11,50 +25,48 @@ const NUM: u64 = 3;
 // The code of the test `int`.
 const INT: u64 = 2;
 
-// Whether kinds are all among others.
-pub fn within(kinds: u64, wanted: u64) -> bool
-    ensures told { result ≡ eqb (bit_and kinds wanted) kinds }
-{
-    kinds & wanted == kinds
-}
-
 // The kinds that a test means.
-fn test_kinds(test: u64) -> u64
-    ensures told { TellsTest test result }
-    ensures small { result < 128 }
+fn test_kinds(test: u64) -> Shape
+    ensures told { TellsTest test result.kinds }
+    ensures small { result.kinds < 128 }
 {
     if test == NUM {
-        return Shape::INT.kinds | Shape::DEC.kinds;
+        return NUMBERS;
     }
-    if test < 7 { 1 << test } else { 0 }
+    if test < 7 {
+        Shape { kinds: 1 << test }
+    } else {
+        Shape::NOTHING
+    }
 }
 
 // Of these kinds those that a test means.
-pub fn cut(kinds: u64, test: u64) -> u64
-    ensures told { TellsCut kinds test result }
+pub fn cut(kinds: Shape, test: u64) -> Shape
+    ensures told { TellsCut kinds.kinds test result.kinds }
 {
-    kinds & test_kinds(test)
+    Shape {
+        kinds: kinds.kinds & test_kinds(test).kinds,
+    }
 }
 
 // Of these kinds those that a test does not mean; where there are decimals, `int` leaves int.
-pub fn taken_out(kinds: u64, test: u64) -> u64
-    ensures told { TellsOut kinds test result }
+pub fn taken_out(kinds: Shape, test: u64) -> Shape
+    ensures told { TellsOut kinds.kinds test result.kinds }
 {
-    if test != INT {
-        return kinds & (127 - test_kinds(test));
-    }
-    if shapes::has(Shape { kinds }, Shape::DEC) {
+    if test == INT && kinds.has(Shape::DEC) {
         return kinds;
     }
-    kinds & (127 - Shape::INT.kinds)
+    Shape {
+        kinds: kinds.kinds & (127 - test_kinds(test).kinds),
+    }
 }
 
 // These kinds, with null where those of the place have it.
-pub fn gain_null(kinds: u64, place: u64) -> u64
-    ensures told { TellsGain kinds place result }
+pub fn gain_null(kinds: Shape, place: Shape) -> Shape
+    ensures told { TellsGain kinds.kinds place.kinds result.kinds }
 {
-    if shapes::has(Shape { kinds: place }, Shape::NULL) {
-        return kinds | Shape::NULL.kinds;
+    if place.has(Shape::NULL) {
+        return kinds.union(Shape::NULL);
     }
     kinds
 }

@@ -1,65 +1,47 @@
 // Forms without results inside: what they want of their place, and what they give.
 ghost use Rattle.std.specs.Prelude.{◌≡◌, ◌%◌, ◌<◌, get_or};
-ghost use Rattle.checking.specs.CheckContracts.{TellsWant, TellsConversion, TellsLiteral, PassesUp, SimpleAsked, GivesSimple};
+ghost use Rattle.checking.specs.CheckContracts.{TellsWant, TellsConversion, TellsLiteral, SimpleAsked, GivesSimple};
 
-use crate::{Checked, kinds, places};
-use places::Located;
+use crate::{kinds, places};
+use reading::{Cause, Refusal};
 use shapes::Shape;
 
-// The refusal of a place.
-pub fn refusal(found: Located) -> Checked
-    ensures passed { PassesUp found result }
-{
-    match found {
-        Located::At { row: _, kinds } => Checked::Kinds { kinds },
-        Located::Refused { number, place } => Checked::Refused { number, place },
-    }
-}
-
 // What a form gives where the kinds are among those that it wants; else refusal 9 at its place.
-pub fn want(kinds: u64, wanted: u64, given: u64, place: usize) -> Checked
-    ensures told { TellsWant kinds wanted given place result }
+pub fn want(kinds: Shape, wanted: Shape, given: Shape, place: usize) -> Result<Shape, Refusal>
+    ensures told { TellsWant kinds.kinds wanted.kinds given.kinds place result }
 {
-    if kinds::within(kinds, wanted) {
-        return Checked::Kinds { kinds: given };
+    if kinds.is_within(wanted) {
+        return Ok(given);
     }
-    Checked::Refused { number: 9, place }
+    Err(Refusal {
+        cause: Cause::UnwantedKind,
+        place,
+    })
 }
 
 // The kinds that a conversion wants, and gives.
-pub fn conversion_kinds(code: u64) -> u64
-    ensures told { TellsConversion code result }
+pub fn conversion_kinds(code: u64) -> Shape
+    ensures told { TellsConversion code result.kinds }
 {
-    if code == forms::INT {
-        return Shape::INT.kinds;
+    match code {
+        forms::INT => Shape::INT,
+        forms::DEC => kinds::NUMBERS,
+        forms::BOOL => Shape::BOOL,
+        _ => Shape::TEXT,
     }
-    if code == forms::DEC {
-        return Shape::INT.kinds | Shape::DEC.kinds;
-    }
-    if code == forms::BOOL {
-        return Shape::BOOL.kinds;
-    }
-    Shape::TEXT.kinds
 }
 
 // The kinds of a literal.
-pub fn literal_kinds(code: u64, operand: u64, payload: u64) -> u64
-    ensures told { TellsLiteral code operand payload result }
+pub fn literal_kinds(code: u64, operand: u64, payload: u64) -> Shape
+    ensures told { TellsLiteral code operand payload result.kinds }
 {
-    if code == forms::NUM {
-        return if nodes::is_int(operand, payload) {
-            Shape::INT.kinds
-        } else {
-            Shape::INT.kinds | Shape::DEC.kinds
-        };
+    match code {
+        forms::NUM if nodes::is_int(operand, payload) => Shape::INT,
+        forms::NUM => kinds::NUMBERS,
+        forms::STR => Shape::TEXT,
+        forms::NONE => Shape::NULL,
+        _ => Shape::BOOL,
     }
-    if code == forms::STR {
-        return Shape::TEXT.kinds;
-    }
-    if code == forms::NONE {
-        return Shape::NULL.kinds;
-    }
-    Shape::BOOL.kinds
 }
 
 // Checks a form whose one part is a place.
@@ -70,30 +52,22 @@ fn check_place(
     shapes: &[u64],
     pool: &[u64],
     bindings: &[u64],
-) -> Checked
+) -> Result<Shape, Refusal>
     requires simple_asked { SimpleAsked forms.now shapes.now pool.now bindings.now row }
     requires coded { code ≡ get_or forms.now row 0 % 32 }
     requires placed { code < 9 }
     ensures checked { GivesSimple forms.now shapes.now pool.now bindings.now row result }
 {
-    let found = places::locate(forms, row + 3, shapes, pool, bindings);
-    let Located::At { row: _, kinds } = found else {
-        return refusal(found);
-    };
-    if code == forms::KEEP {
-        return Checked::Kinds { kinds };
-    }
+    let found = places::locate(forms, row + 3, shapes, pool, bindings)?;
     let place = forms::place(forms, row);
+    if code == forms::KEEP {
+        return Ok(found.kinds);
+    }
     if code == forms::COUNT {
-        return want(
-            kinds,
-            Shape::LIST.kinds | Shape::NULL.kinds,
-            Shape::INT.kinds,
-            place,
-        );
+        return want(found.kinds, kinds::LISTS, Shape::INT, place);
     }
     let converted = conversion_kinds(code);
-    want(kinds, converted, converted, place)
+    want(found.kinds, converted, converted, place)
 }
 
 // Checks a form that has no results inside.
@@ -103,7 +77,7 @@ pub fn check_simple(
     shapes: &[u64],
     pool: &[u64],
     bindings: &[u64],
-) -> Checked
+) -> Result<Shape, Refusal>
     requires { SimpleAsked forms.now shapes.now pool.now bindings.now row }
     ensures checked { GivesSimple forms.now shapes.now pool.now bindings.now row result }
 {
@@ -111,7 +85,5 @@ pub fn check_simple(
     if code < forms::EACH {
         return check_place(forms, row, code, shapes, pool, bindings);
     }
-    Checked::Kinds {
-        kinds: literal_kinds(code, forms::operand(forms, row), forms::payload(forms, row)),
-    }
+    Ok(literal_kinds(code, forms::operand(forms, row), forms::payload(forms, row)))
 }

@@ -8,7 +8,7 @@ ghost use Rattle.definitions.specs.Operations.{source};
 ghost use Rattle.documents.specs.Documents.{DocumentRoom, JudgesDocument, ReadsAs};
 
 use definitions::{Format, Limits};
-use json_reader::DocumentRead;
+use reading::{Cause, Extent, Refusal};
 
 // Reads a JSON document that is short enough. It begins no more values than its bytes and what may be open pay for, and asks for
 // room for no more.
@@ -18,7 +18,7 @@ fn read_json(
     pool: &mut [u64],
     top: usize,
     limits: Limits,
-) -> DocumentRead
+) -> Result<Extent, Refusal>
     requires document_room { DocumentRoom document.now nodes.old pool.old top limits }
     requires short { length document.now ≤ limits.bytes }
     ensures read { ReadsAs read_json limits document.now pool.old nodes.new pool.new top result }
@@ -35,16 +35,16 @@ pub fn read(
     pool: &mut [u64],
     top: usize,
     limits: Limits,
-) -> DocumentRead
+) -> Result<Extent, Refusal>
     requires { DocumentRoom document.now nodes.old pool.old top limits }
     ensures judged { JudgesDocument (source format) limits document.now pool.old nodes.new pool.new
         top result }
 {
     if limits.bytes < document.len() {
-        return DocumentRead::Refused {
-            number: 2,
+        return Err(Refusal {
+            cause: Cause::TextTooLong,
             place: 0,
-        };
+        });
     }
     match format {
         Format::Json => read_json(document, nodes, pool, top, limits),

@@ -13,27 +13,23 @@ use Rattle.definitions.specs.Reader.{place_bindings, result_words, want_step}
 use Rattle.forms.specs.Forms.{PlaceRows}
 use Rattle.tokens.specs.TokenRead.{word_in}
 use Rattle.tokens.specs.Expecting.{Kept}
-use Rattle.form_reader.specs.declared.reading.Cursor.{Cursor}
-use Rattle.form_reader.specs.declared.reading.Part.{Part}
-use Rattle.form_reader.specs.declared.reading.Part.TheVariants.{Done, Refused}
+use Rattle.std.specs.Prelude as std
+use Rattle.std.specs.Prelude.{Some, None, Ok, Err}
+use Rattle.reading.specs.declared.Cursor.{Cursor}
+use Rattle.reading.specs.declared.Refusal.{Refusal}
 use Rattle.form_reader.specs.declared.opening.Begun.{Begun}
-use Rattle.form_reader.specs.declared.opening.Begun.TheVariants as BegunIs
 use Rattle.form_reader.specs.declared.operands.Operand.{Operand}
-use Rattle.form_reader.specs.declared.operands.Operand.TheVariants as OperandIs
 use Rattle.form_reader.specs.declared.heads.Worded.{Worded}
-use Rattle.form_reader.specs.declared.heads.Worded.TheVariants as WordedIs
-use Rattle.form_reader.specs.declared.heads.Row.{Row}
 use Rattle.form_reader.specs.declared.heads.Headed.{Headed}
-use Rattle.form_reader.specs.declared.heads.Headed.TheVariants as HeadedIs
 use Rattle.form_reader.specs.FormWords.{use_code, use_operand, ResultSays}
 use Rattle.form_reader.specs.FormLeads.{Lead, next, LeadHeld, place_held, if_held, pack_held, literal_held, Half, placing, bare, after}
 use Rattle.form_reader.specs.FormLeads.{HalfHeld, placing_held, bare_if, bare_pack, bare_literal}
 use Rattle.tokens.specs.Expecting.{TextPlaced}
-use Rattle.form_reader.specs.FormParts.{Job, reading, Within, PlaceWithin, Ready, OpensAt, WantsWord, WordWasRead, BegunAnswer}
-use Rattle.form_reader.specs.FormParts.{BeginsForm, OperandRead, OperandAnswer, ReadsOperand, PlaceDone, PlaceAnswer, ReadsPlace}
-use Rattle.form_reader.specs.FormParts.{ResultBegun, WordedAnswer, BeginsResult, HeadRead, HeadAnswer, ReadsHead, ReadsLead}
+use Rattle.form_reader.specs.FormParts.{Job, reading, Within, PlaceWithin, Ready, OpensAt, WantsWord, WordWasRead}
+use Rattle.form_reader.specs.FormParts.{BeginsForm, OperandRead, ReadsOperand, PlaceDone, ReadsPlace}
+use Rattle.form_reader.specs.FormParts.{ResultBegun, BeginsResult, HeadRead, ReadsHead, ReadsLead}
 use Rattle.form_reader.proofs.WordTables.{result_none, Known, result_some}
-use Rattle.form_reader.proofs.Steps.{word_goes, word_misplaced}
+use Rattle.form_reader.proofs.Steps.{Misplaced, word_goes, word_misplaced}
 use Rattle.form_reader.proofs.PoolGrowth.{kept_before}
 
 -- ---- the bracket and the word
@@ -50,71 +46,65 @@ length_word : (text : Bytes) (at end : ℕ) → at ≤ end → end ≤ length te
 unfolding word_in
 length_word text at end h l = length-take-le (end - at) (drop at text) (omega (arith, length-drop at text))
 
-module _ (values left : ℕ) (c : Cursor) {text : Bytes} {b : Begun} (y : BeginsForm text values left c b) where
-  pub result_refused
-      : {number place : ℕ} → b ≡ BegunIs.Refused number place
-      → BeginsResult text values left c (WordedIs.Refused number place)
-  result_refused e =
+module _ (values left : ℕ) (c : Cursor) {text : Bytes} where
+  pub result_refused : {r : Refusal} → BeginsForm text values left c (Err r) → BeginsResult text values left c (Err r)
+  result_refused y =
       record {
         answer = λ x o w.
-            subst (BegunAnswer text values left c) e y.answer x (result_open o) (depth o) (λ q. result_word q o)
+            y.answer x (result_open o) (depth o) (λ q. result_word q o)
             (λ q v. where_some (look_word result_words v) (λ f. go (want (f q o)))) (opens_result o) (λ q. wants_result q o) w;
       }
 
-  module _ {place at end : ℕ} (e : b ≡ BegunIs.Word place at end) where
-    pub worded : WordWasRead text values left c place at end
-    worded = subst (BegunAnswer text values left c) e y.answer
+  module _ {b : Begun} (worded : WordWasRead text values left c b) {j : std.Option ℕ} (s : ResultSays (word_in text b.word.place b.word.end) j) where
+    pub result_unknown : {r : Refusal} → (j ≡ None) × Misplaced r b.word.place → BeginsResult text values left c (Err r)
+    unfolding where_some
+    result_unknown i =
+        record {
+          answer = λ x o w.
+              worded.bracket.run x (result_open o) (depth o) (λ q. result_word q o) (opens_result o) w
+              ∙ word_misplaced x (suc c.begun) (result_word b.place o) (wants_result b.place o) worded.found (rw (result_none s i.0)) i.1;
+        }
 
-    module _ {k : ℕ} (s : ResultSays (word_in text at end) k) where
-      pub result_unknown : k ≡ 0 → BeginsResult text values left c (WordedIs.Refused 7 at)
-      unfolding where_some
-      result_unknown i =
-          record {
-            answer = λ x o w.
-                worded.bracket.run x (result_open o) (depth o) (λ q. result_word q o) (opens_result o) w
-                ∙ word_misplaced x (suc c.begun) (result_word place o) (wants_result place o) worded.found (rw (result_none s i));
-          }
-
-      pub result_known
-          : (k ≡ 0 → ⊥)
-          → BeginsResult text values left c (WordedIs.Form k place (record { at = end; begun = c.begun + 1; top = c.top }))
-      unfolding where_some
-      result_known i =
-          let known : Known (word_in text at end) k = result_some s i in
-          let f = worded.found in
-          let long = length_word text at end (omega (arith, f.ahead)) f.within in
-          record {
-            answer =
-                record {
-                  behind = known.behind;
-                  started = known.started;
-                  run = λ x o w.
-                      worded.bracket.run x (result_open o) (depth o) (λ q. result_word q o) (opens_result o) w
-                      ∙ word_goes x (suc c.begun) (result_word place o) (wants_result place o) f (rw known.found)
-                      ∙ ap (λ (n : ℕ). reading x n text (want (known.behind place o)) end) (let j : suc c.begun ≡ c.begun + 1 = omega arith in j);
-                  begun = omega arith;
-                  top = refl;
-                  ahead = omega (arith, worded.bracket.ahead, f.from, f.ahead);
-                  longer = λ j. omega (arith, worded.bracket.ahead, f.from, f.ahead, known.longer j, long);
-                  within = f.within;
-                  near = worded.bracket.within;
-                  limit = worded.bracket.begun;
-                  nested = worded.bracket.nested;
-                };
-          }
+    pub result_known
+        : {k : ℕ} → j ≡ Some k
+        → BeginsResult text values left c
+        (Ok (record { code = k; place = b.place; to = record { at = b.word.end; begun = c.begun + 1; top = c.top } }))
+    unfolding where_some
+    result_known {k} i =
+        let known : Known (word_in text b.word.place b.word.end) k = result_some s i in
+        let f = worded.found in
+        let long = length_word text b.word.place b.word.end (omega (arith, f.ahead)) f.within in
+        record {
+          answer =
+              record {
+                behind = known.behind;
+                started = known.started;
+                run = λ x o w.
+                    worded.bracket.run x (result_open o) (depth o) (λ q. result_word q o) (opens_result o) w
+                    ∙ word_goes x (suc c.begun) (result_word b.place o) (wants_result b.place o) f (rw known.found)
+                    ∙ ap (λ (n : ℕ). reading x n text (want (known.behind b.place o)) b.word.end) (let j : suc c.begun ≡ c.begun + 1 = omega arith in j);
+                begun = omega arith;
+                top = refl;
+                ahead = omega (arith, worded.bracket.ahead, f.from, f.ahead);
+                longer = λ j. omega (arith, worded.bracket.ahead, f.from, f.ahead, known.longer j, long);
+                within = f.within;
+                near = worded.bracket.within;
+                limit = worded.bracket.begun;
+                nested = worded.bracket.nested;
+              };
+        }
 
 -- ---- the operand
 
-module _ (values left : ℕ) (c : Cursor) {text : Bytes} (p : List ℕ) {b : Worded} (y : BeginsResult text values left c b) where
-  pub head_refused
-      : {number place : ℕ} → b ≡ WordedIs.Refused number place → ReadsHead text p p values left c (HeadedIs.Refused number place)
-  head_refused e = record { answer = subst (WordedAnswer text values left c) e y.answer; kept = record { size = refl; front = refl } }
+module _ (values left : ℕ) (c : Cursor) {text : Bytes} (p : List ℕ) where
+  pub head_refused : {r : Refusal} → BeginsResult text values left c (Err r) → ReadsHead text p p values left c (Err r)
+  head_refused y = record { answer = y.answer; kept = record { size = refl; front = refl } }
 
-  module _ {code place : ℕ} {from : Cursor} (e : b ≡ WordedIs.Form code place from) where
-    begun : ResultBegun text values left c code place from
-    begun = subst (WordedAnswer text values left c) e y.answer
+  module _ {w : Worded} (y : BeginsResult text values left c (Ok w)) where
+    begun : ResultBegun text values left c w.code w.place w.to
+    begun = y.answer
 
-    pub operand_room : TextPlaced text p c.at c.top → TextPlaced text p from.at from.top
+    pub operand_room : TextPlaced text p c.at c.top → TextPlaced text p w.to.at w.to.top
     operand_room r =
         record {
           short = r.short;
@@ -123,36 +113,32 @@ module _ (values left : ℕ) (c : Cursor) {text : Bytes} (p : List ℕ) {b : Wor
           small = omega (arith, r.small, begun.top, begun.ahead);
         }
 
-    module _ {p' : List ℕ} {n : Operand} (z : ReadsOperand text p p' code from n) where
-      all_kept : Kept p p' c.top
-      all_kept = subst (Kept p p') begun.top z.kept
+    module _ {p' : List ℕ} where
+      all_kept : Kept p p' w.to.top → Kept p p' c.top
+      all_kept k = subst (Kept p p') begun.top k
 
       pub operand_refused
-          : {at : ℕ} → n ≡ OperandIs.Refused at → ReadsHead text p p' values left c (HeadedIs.Refused 7 at)
-      operand_refused i =
+          : {r : Refusal} → ReadsOperand text p p' w.code w.to (Err r) → ReadsHead text p p' values left c (Err r)
+      operand_refused z =
           record {
-            answer = λ x o w.
-                begun.run x o w
-                ∙ subst (OperandAnswer begun.behind code text p' from) i (z.answer begun.behind begun.started) x from.begun place o;
-            kept = all_kept;
+            answer = λ x o v. begun.run x o v ∙ z.answer begun.behind begun.started x w.to.begun w.place o;
+            kept = all_kept z.kept;
           }
 
       pub head_read
-          : {operand payload : ℕ} {to : Cursor} → n ≡ OperandIs.Read operand payload to
+          : {n : Operand} → ReadsOperand text p p' w.code w.to (Ok n)
           → ReadsHead text p p' values left c
-          (HeadedIs.Form (record { code = code; operand = operand; payload = payload; place = place }) to)
-      head_read {operand} {payload} {to} i =
-          let d : OperandRead begun.behind code text p' from operand payload to =
-          subst (OperandAnswer begun.behind code text p' from) i (z.answer begun.behind begun.started)
-          in
+          (Ok (record { row = record { code = w.code; operand = n.operand; place = w.place; size = 0; payload = n.payload; name = 0 }; to = n.to }))
+      head_read {n} z =
+          let d : OperandRead begun.behind w.code text p' w.to n.operand n.payload n.to = z.answer begun.behind begun.started in
           record {
             answer =
                 record {
                   half = d.half;
-                  run = λ x o w.
-                      begun.run x o w
-                      ∙ d.run x from.begun place o
-                      ∙ ap (λ (m : ℕ). reading x m text (want (after d.half place o)) to.at) (sym d.begun);
+                  run = λ x o v.
+                      begun.run x o v
+                      ∙ d.run x w.to.begun w.place o
+                      ∙ ap (λ (m : ℕ). reading x m text (want (after d.half w.place o)) n.to.at) (sym d.begun);
                   held = d.held;
                   begun = d.begun ∙ begun.begun;
                   ahead = omega (arith, begun.ahead, d.ahead);
@@ -165,7 +151,7 @@ module _ (values left : ℕ) (c : Cursor) {text : Bytes} (p : List ℕ) {b : Wor
                   limit = begun.limit;
                   nested = begun.nested;
                 };
-            kept = all_kept;
+            kept = all_kept z.kept;
           }
 
 -- ---- the place
@@ -211,23 +197,21 @@ in_result_within at u h w =
     record { limited = record { most = w.limited.most; nests = omega (arith, w.limited.nests) }; bindings = w.bindings }
 
 module _
-    (left : ℕ) {values bound : ℕ} (c : Cursor) {text : Bytes} {forms p₀ p : List ℕ} {b : Headed} (r₀ : Ready text forms p₀ values bound c)
-    (y : ReadsHead text p₀ p values left c b) where
+    (left : ℕ) {values bound : ℕ} (c : Cursor) {text : Bytes} {forms p₀ p : List ℕ} (r₀ : Ready text forms p₀ values bound c) where
   pub lead_refused
-      : {number place : ℕ} → b ≡ HeadedIs.Refused number place
-      → ReadsLead left values bound text forms p₀ forms p c (HeadedIs.Refused number place)
-  lead_refused e =
+      : {r : Refusal} → ReadsHead text p₀ p values left c (Err r) → ReadsLead left values bound text forms p₀ forms p c (Err r)
+  lead_refused y =
       record {
-        answer = λ x o w. subst (HeadAnswer text p values left c) e y.answer x o w.limited;
+        answer = λ x o w. y.answer x o w.limited;
         sized = record { forms_kept = refl; pool_kept = y.kept.size };
       }
 
-  module _ {row : Row} {from : Cursor} (e : b ≡ HeadedIs.Form row from) where
-    pub head : HeadRead text p values left c row from
-    head = subst (HeadAnswer text p values left c) e y.answer
+  module _ {h : Headed} (y : ReadsHead text p₀ p values left c (Ok h)) where
+    head : HeadRead text p values left c h.row h.to
+    head = y.answer
 
     -- none comes
-    pub lead_bare : 11 ≤ row.code → ReadsLead left values bound text forms p₀ forms p c (HeadedIs.Form row from)
+    pub lead_bare : 11 ≤ h.row.code → ReadsLead left values bound text forms p₀ forms p c (Ok h)
     unfolding after
     lead_bare i =
         let d = half_bare bound head.held i in
@@ -237,7 +221,7 @@ module _
                 lead = d.lead;
                 run = λ x o w.
                     head.run x o w.limited
-                    ∙ ap (λ (h : Half). reading x from.begun text (want (after h row.place o)) from.at) d.same;
+                    ∙ ap (λ (f : Half). reading x h.to.begun text (want (after f h.row.place o)) h.to.at) d.same;
                 rows = [];
                 held = d.held;
                 goes =
@@ -259,7 +243,7 @@ module _
           sized = record { forms_kept = refl; pool_kept = y.kept.size };
         }
 
-    pub place_ready : Ready text forms p values bound from
+    pub place_ready : Ready text forms p values bound h.to
     place_ready =
         record {
           short = r₀.short;
@@ -272,36 +256,34 @@ module _
           small = omega (arith, r₀.small, head.room, head.begun);
         }
 
-    module _ (i : row.code < 11) {forms' p' : List ℕ} {q : Part} (z : ReadsPlace (left - 1) values bound text forms p forms' p' from q) where
+    module _ (i : h.row.code < 11) where
       to_place
           : (x : Job) (o : Around) → Within x o values left bound
           → reading x c.begun text (want (result_open o)) c.at
-          ≡ reading x from.begun text (want (place_open (in_result row.place (half_placing head.held i).with_use o))) from.at
+          ≡ reading x h.to.begun text (want (place_open (in_result h.row.place (half_placing head.held i).with_use o))) h.to.at
       unfolding after
       to_place x o w =
           head.run x o w.limited
-          ∙ ap (λ (h : Half). reading x from.begun text (want (after h row.place o)) from.at) (half_placing head.held i).same
+          ∙ ap (λ (f : Half). reading x h.to.begun text (want (after f h.row.place o)) h.to.at) (half_placing head.held i).same
 
       pub lead_place_refused
-          : {number at : ℕ} → q ≡ Refused number at
-          → ReadsLead left values bound text forms p₀ forms' p' c (HeadedIs.Refused number at)
-      lead_place_refused f =
+          : {forms' p' : List ℕ} {r : Refusal} → ReadsPlace (left - 1) values bound text forms p forms' p' h.to (Err r)
+          → ReadsLead left values bound text forms p₀ forms' p' c (Err r)
+      lead_place_refused z =
           record {
             answer = λ x o w.
                 to_place x o w
-                ∙ subst (PlaceAnswer (λ v. place_open v) (left - 1) values bound text forms p forms' p' from.begun from) f z.answer x
-                (in_result row.place (half_placing head.held i).with_use o)
-                (in_result_within row.place (half_placing head.held i).with_use head.nested w);
+                ∙ z.answer x (in_result h.row.place (half_placing head.held i).with_use o)
+                (in_result_within h.row.place (half_placing head.held i).with_use head.nested w);
             sized = record { forms_kept = z.sized.forms_kept; pool_kept = z.sized.pool_kept ∙ y.kept.size };
           }
 
       pub lead_placed
-          : {to : Cursor} → q ≡ Done to → ReadsLead left values bound text forms p₀ forms' p' c (HeadedIs.Form row to)
+          : {forms' p' : List ℕ} {to : Cursor} → ReadsPlace (left - 1) values bound text forms p forms' p' h.to (Ok to)
+          → ReadsLead left values bound text forms p₀ forms' p' c (Ok (record { row = h.row; to = to }))
       unfolding put_place next
-      lead_placed {to} f =
-          let d : PlaceDone (λ v. place_open v) (left - 1) values bound text forms p forms' p' from.begun from to =
-          subst (PlaceAnswer (λ v. place_open v) (left - 1) values bound text forms p forms' p' from.begun from) f z.answer
-          in
+      lead_placed {forms'} {p'} {to} z =
+          let d : PlaceDone (λ v. place_open v) (left - 1) values bound text forms p forms' p' h.to.begun h.to to = z.answer in
           let u = half_placing head.held i in
           record {
             answer =
@@ -309,7 +291,7 @@ module _
                   lead = Lead.with_place u.with_use d.place;
                   run = λ x o w.
                       to_place x o w
-                      ∙ d.run x (in_result row.place u.with_use o) (in_result_within row.place u.with_use head.nested w);
+                      ∙ d.run x (in_result h.row.place u.with_use o) (in_result_within h.row.place u.with_use head.nested w);
                   rows = d.rows;
                   held = lead_of u.coded u.tested u.empty d.held;
                   goes =

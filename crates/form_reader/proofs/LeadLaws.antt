@@ -39,6 +39,8 @@ pub parts_none : (code : ℕ) → (code ≡ 9 → ⊥) → (code ≡ 10 → ⊥)
 unfolding parts_of
 parts_none code e f g = rw (ne_eqb code 9 e, parts_of) (rw (ne_eqb code 10 f, parts_of) (rw (ne_eqb code 11 g, parts_of)))
 
+pub ruleset parts_told = (parts_each, parts_when, parts_if, parts_none)
+
 pub bound_each : (code bound : ℕ) → code ≡ 9 → bound + 1 ≡ inner_bound code bound
 unfolding inner_bound
 bound_each code bound e = rw e (omega arith)
@@ -50,6 +52,8 @@ bound_when code bound e = rw e (omega arith)
 pub bound_other : (code bound : ℕ) → (code ≡ 9 → ⊥) → (code ≡ 10 → ⊥) → bound ≡ inner_bound code bound
 unfolding inner_bound
 bound_other code bound e f = rw (ne_eqb code 9 e, inner_bound) (rw (ne_eqb code 10 f, inner_bound))
+
+pub ruleset bounds_told = (bound_each, bound_when, bound_other)
 
 -- at most one binding more
 pub inner_le : (code bound : ℕ) → (bound ≤ inner_bound code bound) × (inner_bound code bound ≤ bound + 1)

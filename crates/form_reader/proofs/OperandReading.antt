@@ -19,30 +19,23 @@ use Rattle.nodes.specs.Nodes.{sign_bit, number_bits, reference, Refers}
 use Rattle.nodes.specs.StandingLaws.{text_refers}
 use Rattle.number.specs.NumberWrite.{as_number}
 use Rattle.number.specs.NumberWord.{WordMeans, WordAnswer}
-use Rattle.number.specs.declared.word.WordRead.{WordRead}
-use Rattle.number.specs.declared.word.WordRead.TheVariants as WordIs
+use Rattle.number.specs.declared.word.Decimal.{Decimal}
 use Rattle.forms.specs.Forms.{test_code, literal_code, null_payload, yes_payload, no_payload, number_payload, text_payload}
 use Rattle.tokens.specs.TokenRead.{word_in, Found, FoundText}
-use Rattle.tokens.specs.Expecting.{WordAnswer as SpelledAnswer, ExpectsWord, QuotedAnswer, ExpectsText}
-use Rattle.tokens.specs.declared.expect.Spelled.{Spelled}
-use Rattle.tokens.specs.declared.expect.Spelled.TheVariants as SpelledIs
-use Rattle.tokens.specs.declared.expect.Quotation.{Quotation}
-use Rattle.tokens.specs.declared.expect.Quotation.TheVariants as QuotationIs
-use Rattle.form_reader.specs.declared.reading.Cursor.{Cursor}
-use Rattle.form_reader.specs.declared.operands.Slot.{Slot}
-use Rattle.form_reader.specs.declared.operands.Slot.TheVariants as SlotIs
-use Rattle.form_reader.specs.declared.operands.Index.TheVariants as IndexIs
-use Rattle.form_reader.specs.declared.operands.Name.{Name}
-use Rattle.form_reader.specs.declared.operands.Name.TheVariants as NameIs
+use Rattle.tokens.specs.Expecting.{a_text, a_word, Kept, Misses}
+use Rattle.std.specs.Prelude as std
+use Rattle.std.specs.Prelude.{Some, None, Ok, Err}
+use Rattle.reading.specs.declared.Cursor.{Cursor}
+use Rattle.reading.specs.declared.Refusal.{Refusal}
+use Rattle.form_reader.specs.declared.operands.Payload.{Payload}
 use Rattle.form_reader.specs.declared.operands.Operand.{Operand}
-use Rattle.form_reader.specs.declared.operands.Operand.TheVariants as OperandIs
 use Rattle.form_reader.specs.FormWords.{test_or_none, use_code, use_operand, Started, starts_use, starts_when, starts_if, starts_num}
 use Rattle.form_reader.specs.FormWords.{starts_str, starts_yes, starts_no, starts_none, starts_pack}
 use Rattle.form_reader.specs.FormLeads.{Lead, next, Half, placing, bare, after, HalfHeld, placing_held, bare_if, bare_pack, bare_literal}
 use Rattle.tokens.specs.Expecting.{TextPlaced}
-use Rattle.form_reader.specs.FormParts.{reading, WantsWord, WantsText, index_of, SlotAnswer, ReadsIndex, TextRead, TextAnswer}
+use Rattle.form_reader.specs.FormParts.{reading, WantsWord, WantsText, index_of, SlotAnswer, ReadsIndex, TextRead}
 use Rattle.form_reader.specs.FormParts.{ReadsText, OperandRead, OperandAnswer, ReadsTest, ReadsNumber, ReadsOperand}
-use Rattle.form_reader.proofs.Steps.{word_goes, word_misplaced, no_word, text_goes, no_text}
+use Rattle.form_reader.proofs.Steps.{Misplaced, word_goes, word_misplaced, no_word, text_goes, no_text}
 
 -- a cursor that only goes on in the text
 abbrev pub ahead_to : Cursor → ℕ → Cursor
@@ -80,19 +73,13 @@ wants_str : (at : ℕ) (o : Around) → WantsText (str_text at o) (λ s. literal
 unfolding want_step
 wants_str at o = record { does = λ t. refl }
 
-module _ (c : Cursor) {text : Bytes} {s : Spelled} (y : ExpectsWord text c.at s) where
-  pub word_found : {place end : ℕ} → s ≡ SpelledIs.At place end → Found text c.at (word (word_in text place end)) place end
-  word_found e = subst (SpelledAnswer text c.at) e y.answer
-
+module _ (c : Cursor) {text : Bytes} where
   -- ---- N of `it`
 
-  pub index_missing : (bound : ℕ) {place : ℕ} → s ≡ SpelledIs.Missing place → ReadsIndex text bound c (IndexIs.Refused place)
-  index_missing bound e =
-      record {
-        answer = λ x n at o b. no_word x n (it_index at o) (wants_index at o) (subst (SpelledAnswer text c.at) e y.answer);
-      }
+  pub index_missing : (bound : ℕ) {r : Refusal} → Misses a_word text c.at r → ReadsIndex text bound c (Err r)
+  index_missing bound m = record { answer = λ x n at o b. no_word x n (it_index at o) (wants_index at o) m }
 
-  module _ (bound : ℕ) {place end : ℕ} (e : s ≡ SpelledIs.At place end) where
+  module _ (bound : ℕ) {place end : ℕ} (f : Found text c.at (word (word_in text place end)) place end) where
     step_is
         : (at : ℕ) (o : PlaceAround) → place_bindings o ≡ bound
         → where_some (word_number (word_in text place end)) (λ d. index_step at o d) ≡ stepped (index_of bound (word_in text place end)) at o
@@ -114,145 +101,130 @@ module _ (c : Cursor) {text : Bytes} {s : Spelled} (y : ExpectsWord text c.at s)
             ∙ fit d (index_fits bound d)
 
     pub index_wrong
-        : {i : Slot} → SlotAnswer bound (word_in text place end) i → i ≡ SlotIs.Nothing
-        → ReadsIndex text bound c (IndexIs.Refused place)
+        : (i : std.Option ℕ) {r : Refusal} → SlotAnswer bound (word_in text place end) i → (i ≡ None) × Misplaced r place
+        → ReadsIndex text bound c (Err r)
     unfolding stepped
-    index_wrong z f =
-        let none_there : index_of bound (word_in text place end) ≡ none = subst (SlotAnswer bound (word_in text place end)) f z in
+    index_wrong i z h =
+        let none_there : index_of bound (word_in text place end) ≡ none = subst (SlotAnswer bound (word_in text place end)) h.0 z in
         record {
           answer = λ x n at o b.
-              word_misplaced x n (it_index at o) (wants_index at o) (word_found e)
-              (step_is at o b ∙ ap (λ (m : Option ℕ). stepped m at o) none_there);
+              word_misplaced x n (it_index at o) (wants_index at o) f
+              (step_is at o b ∙ ap (λ (m : Option ℕ). stepped m at o) none_there) h.1;
         }
 
     pub index_right
-        : {i : Slot} {k : ℕ} → SlotAnswer bound (word_in text place end) i → i ≡ SlotIs.Of k
-        → ReadsIndex text bound c (IndexIs.Read k (ahead_to c end))
+        : (i : std.Option ℕ) {k : ℕ} → SlotAnswer bound (word_in text place end) i → i ≡ Some k
+        → ReadsIndex text bound c (Ok (record { value = k; to = ahead_to c end }))
     unfolding stepped
-    index_right {k} z f =
-        let found = subst (SlotAnswer bound (word_in text place end)) f z in
+    index_right i {k} z h =
+        let found = subst (SlotAnswer bound (word_in text place end)) h z in
         record {
           answer =
               record {
                 index = found.index;
                 run = λ x n at o b.
-                    word_goes x n (it_index at o) (wants_index at o) (word_found e)
+                    word_goes x n (it_index at o) (wants_index at o) f
                     (step_is at o b ∙ ap (λ (m : Option ℕ). stepped m at o) found.spelled);
                 slotted = found.slotted;
                 bounded = found.bounded;
                 begun = refl;
                 top = refl;
-                ahead = omega (arith, (word_found e).from, (word_found e).ahead);
-                within = (word_found e).within;
+                ahead = omega (arith, f.from, f.ahead);
+                within = f.within;
               };
         }
 
   -- ---- K of `when`
 
-  pub test_missing : {place : ℕ} → s ≡ SpelledIs.Missing place → ReadsTest text c (OperandIs.Refused place)
-  test_missing e =
-      record {
-        answer = λ p x n at o. no_word x n (when_test at o) (wants_test at o) (subst (SpelledAnswer text c.at) e y.answer);
-      }
+  pub test_missing : {r : Refusal} → Misses a_word text c.at r → ReadsTest text c (Err r)
+  test_missing m = record { answer = λ p x n at o. no_word x n (when_test at o) (wants_test at o) m }
 
-  module _ {place end k : ℕ} (e : s ≡ SpelledIs.At place end) (z : k ≡ test_or_none (look_word test_words (word_in text place end))) where
-    test_code_lt : (t : Test) → test_code t < 7
-    unfolding test_code
-    test_code_lt Test.null = omega arith
-    test_code_lt Test.bool = omega arith
-    test_code_lt Test.int = omega arith
-    test_code_lt Test.num = omega arith
-    test_code_lt Test.text = omega arith
-    test_code_lt Test.list = omega arith
-    test_code_lt Test.rec = omega arith
-
-    pub test_wrong : 7 ≤ k → ReadsTest text c (OperandIs.Refused place)
+  module _
+      {place end : ℕ} {j : std.Option ℕ} (f : Found text c.at (word (word_in text place end)) place end)
+      (z : j ≡ test_or_none (look_word test_words (word_in text place end))) where
+    pub test_wrong : {r : Refusal} → (j ≡ None) × Misplaced r place → ReadsTest text c (Err r)
     unfolding where_some test_or_none
     test_wrong h =
         record {
           answer = λ p x n at o.
-              word_misplaced x n (when_test at o) (wants_test at o) (word_found e)
-              (pick (look_word test_words (word_in text place end)) z at o);
+              word_misplaced x n (when_test at o) (wants_test at o) f
+              (pick (look_word test_words (word_in text place end)) (sym h.0 ∙ z) at o) h.1;
         }
       where
-        pick : (m : Option Test) → k ≡ test_or_none m → (at : ℕ) (o : Around)
+        pick : (m : Option Test) → None ≡ test_or_none m → (at : ℕ) (o : Around)
             → where_some {Q = State} m (λ t. go (want (place_open (in_result at (tests t) o)))) ≡ misplaced
         pick none i at o = refl
-        pick (some t) i at o = absurd (let q : ⊥ = omega (arith, test_code_lt t) in q)
+        pick (some t) i at o = absurd (cc)
 
-    pub test_right : k < 7 → ReadsTest text c (OperandIs.Read k 0 (ahead_to c end))
+    pub test_right : {k : ℕ} → j ≡ Some k → ReadsTest text c (Ok (record { operand = k; payload = 0; to = ahead_to c end }))
     unfolding where_some test_or_none after use_code use_operand
-    test_right h = record { answer = λ p. pick p (look_word test_words (word_in text place end)) refl z }
+    test_right {k} h =
+        record { answer = λ p. pick p (look_word test_words (word_in text place end)) refl (sym h ∙ z) }
       where
         pick
-            : (p : List ℕ) (m : Option Test) → look_word test_words (word_in text place end) ≡ m → k ≡ test_or_none m
+            : (p : List ℕ) (m : Option Test) → look_word test_words (word_in text place end) ≡ m → Some k ≡ test_or_none m
             → OperandRead (λ at o. when_test at o) 10 text p c k 0 (ahead_to c end)
-        pick p none f i = absurd (let q : ⊥ = omega arith in q)
-        pick p (some t) f i =
+        pick p none e i = absurd (cc)
+        pick p (some t) e i =
+            let same : k ≡ test_code t = cc in
             record {
               half = placing (tests t);
-              run = λ x n at o. word_goes x n (when_test at o) (wants_test at o) (word_found e) (rw f);
-              held = rw i (placing_held {u = tests t} (omega arith));
+              run = λ x n at o. word_goes x n (when_test at o) (wants_test at o) f (rw e);
+              held = rw same (placing_held {u = tests t} (omega arith));
               begun = refl;
-              ahead = omega (arith, (word_found e).from, (word_found e).ahead);
-              within = (word_found e).within;
+              ahead = omega (arith, f.from, f.ahead);
+              within = f.within;
               grows = omega arith;
-              room = omega (arith, (word_found e).from, (word_found e).ahead);
+              room = omega (arith, f.from, f.ahead);
               bare = inl refl;
             }
 
   -- ---- N of `num`
 
-  pub number_missing : {place : ℕ} → s ≡ SpelledIs.Missing place → ReadsNumber text c (OperandIs.Refused place)
-  number_missing e =
-      record {
-        answer = λ p x n at o. no_word x n (num_number at o) (wants_number at o) (subst (SpelledAnswer text c.at) e y.answer);
-      }
+  pub number_missing : {r : Refusal} → Misses a_word text c.at r → ReadsNumber text c (Err r)
+  number_missing m = record { answer = λ p x n at o. no_word x n (num_number at o) (wants_number at o) m }
 
-  module _ {place end : ℕ} (e : s ≡ SpelledIs.At place end) where
-    pub number_wrong
-        : {r : WordRead} → WordAnswer (word_in text place end) r → r ≡ WordIs.Nothing → ReadsNumber text c (OperandIs.Refused place)
+  module _
+      {place end : ℕ} (d : std.Option Decimal) (f : Found text c.at (word (word_in text place end)) place end)
+      (z : WordAnswer (word_in text place end) d) where
+    pub number_wrong : {r : Refusal} → (d ≡ None) × Misplaced r place → ReadsNumber text c (Err r)
     unfolding where_some
-    number_wrong z f =
-        let none_there : word_number (word_in text place end) ≡ none = subst (WordAnswer (word_in text place end)) f z in
-        record {
-          answer = λ p x n at o. word_misplaced x n (num_number at o) (wants_number at o) (word_found e) (rw none_there);
-        }
+    number_wrong h =
+        let none_there : word_number (word_in text place end) ≡ none = subst (WordAnswer (word_in text place end)) h.0 z in
+        record { answer = λ p x n at o. word_misplaced x n (num_number at o) (wants_number at o) f (rw none_there) h.1 }
 
-    pub number_right
-        : {r : WordRead} {negative : Bool} {coefficient scale bits : ℕ} → WordAnswer (word_in text place end) r
-        → r ≡ WordIs.Number negative coefficient scale → bits ≡ sign_bit negative + 2 * scale
-        → ReadsNumber text c (OperandIs.Read bits coefficient (ahead_to c end))
-    unfolding where_some literal_step after next literal_code number_bits most_scale
-    number_right {negative} {coefficient} {scale} z f g =
-        let means : WordMeans (word_in text place end) (as_number negative coefficient scale) =
-        subst (WordAnswer (word_in text place end)) f z
-        in
-        record {
-          answer = λ p.
-              record {
-                half = bare (Lead.saying (Value.number (as_number negative coefficient scale)));
-                run = λ x n at o.
-                    word_goes x n (num_number at o) (wants_number at o) (word_found e)
-                    (rw means.spelled (ap (λ (v : Number). go (want (Want.result_close (Result.literal at (Value.number v)) o))) (sym means.meaning)));
-                held =
-                    rw g
-                    (bare_literal (number_payload {x = as_number negative coefficient scale})
-                    (omega (arith, sign_small negative, means.bounded.scale)) (omega arith));
-                begun = refl;
-                ahead = omega (arith, (word_found e).from, (word_found e).ahead);
-                within = (word_found e).within;
-                grows = omega arith;
-                room = omega (arith, (word_found e).from, (word_found e).ahead);
-                bare = inl refl;
-              };
-        }
+    module _ {n : Decimal} (h : d ≡ Some n) where
+      means : WordMeans (word_in text place end) (as_number n.negative n.coefficient n.scale)
+      means = subst (WordAnswer (word_in text place end)) h z
 
-pub scale_small
-    : (w : Bytes) {r : WordRead} {negative : Bool} {coefficient scale : ℕ} → WordAnswer w r
-    → r ≡ WordIs.Number negative coefficient scale → scale ≤ 9
-unfolding most_scale
-scale_small w z f = (subst (WordAnswer w) f z).bounded.scale
+      pub scale_small : n.scale ≤ 9
+      unfolding most_scale
+      scale_small = means.bounded.scale
+
+      pub number_right
+          : {bits : ℕ} → bits ≡ sign_bit n.negative + 2 * n.scale
+          → ReadsNumber text c (Ok (record { operand = bits; payload = n.coefficient; to = ahead_to c end }))
+      unfolding where_some literal_step after next literal_code number_bits most_scale
+      number_right g =
+          let number = as_number n.negative n.coefficient n.scale in
+          record {
+            answer = λ p.
+                record {
+                  half = bare (Lead.saying (Value.number number));
+                  run = λ x m at o.
+                      word_goes x m (num_number at o) (wants_number at o) f
+                      (rw means.spelled (ap (λ (v : Number). go (want (Want.result_close (Result.literal at (Value.number v)) o))) (sym means.meaning)));
+                  held =
+                      rw g
+                      (bare_literal (number_payload {x = number}) (omega (arith, sign_small n.negative, means.bounded.scale)) (omega arith));
+                  begun = refl;
+                  ahead = omega (arith, f.from, f.ahead);
+                  within = f.within;
+                  grows = omega arith;
+                  room = omega (arith, f.from, f.ahead);
+                  bare = inl refl;
+                };
+          }
 
 -- ---- texts
 
@@ -271,18 +243,14 @@ module _ (c : Cursor) {text : Bytes} {p : List ℕ} {end n : ℕ} where
     omega (arith, t.shorter, t.found.within, r.short),
   )
 
-module _ (c : Cursor) {text : Bytes} {p₀ p : List ℕ} {q : Quotation} (y : ExpectsText text c.at p₀ p c.top q) where
-  pub text_found : {place end n : ℕ} → q ≡ QuotationIs.At place end n → FoundText text c.at p c.top place end n
-  text_found e = subst (QuotedAnswer text c.at p c.top) e y.answer
-
-  pub text_missing : {place : ℕ} → q ≡ QuotationIs.Missing place → ReadsText text p₀ p c (NameIs.Refused place)
-  text_missing e = record { answer = subst (QuotedAnswer text c.at p c.top) e y.answer; kept = y.kept }
+module _ (c : Cursor) {text : Bytes} {p₀ p : List ℕ} (kept : Kept p₀ p c.top) where
+  pub text_missing : {r : Refusal} → Misses a_text text c.at r → ReadsText text p₀ p c (Err r)
+  text_missing m = record { answer = m; kept = kept }
 
   pub text_right
-      : {place end n k : ℕ} → q ≡ QuotationIs.At place end n → k ≡ reference c.top n
-      → ReadsText text p₀ p c (NameIs.Read k (record { at = end; begun = c.begun; top = c.top + (n + 7) / 8 }))
-  text_right {place} {n} e g =
-      let t = text_found e in
+      : {place end n k : ℕ} → FoundText text c.at p c.top place end n → k ≡ reference c.top n
+      → ReadsText text p₀ p c (Ok (record { value = k; to = record { at = end; begun = c.begun; top = c.top + (n + 7) / 8 } }))
+  text_right {place} {n} t g =
       record {
         answer =
             record {
@@ -294,7 +262,7 @@ module _ (c : Cursor) {text : Bytes} {p₀ p : List ℕ} {q : Quotation} (y : Ex
               grows = omega arith;
               room = omega (arith, t.found.from, t.shorter);
             };
-        kept = y.kept;
+        kept = kept;
       }
 
 -- ---- what stands behind the word of a result
@@ -334,40 +302,39 @@ str_started starts_pack i = absurd (let z : ⊥ = omega arith in z)
 
 -- an answer for one code and what comes behind its word is one for another name of these
 answer_for
-    : {code k : ℕ} {f g : ℕ → Around → Want} (text : Bytes) (p : List ℕ) (c : Cursor) (r : Operand) → code ≡ k → f ≡ g
+    : {code k : ℕ} {f g : ℕ → Around → Want} (text : Bytes) (p : List ℕ) (c : Cursor) (r : std.Result Operand Refusal) → code ≡ k → f ≡ g
     → OperandAnswer g k text p c r → OperandAnswer f code text p c r
 answer_for {k} {f} text p c r e i a =
     subst (λ (n : ℕ). OperandAnswer f n text p c r) (sym e)
     (subst (λ (h : ℕ → Around → Want). OperandAnswer h k text p c r) (sym i) a)
 
 module _ (c : Cursor) {text : Bytes} (p : List ℕ) {code : ℕ} where
-  pub test_operand : {r : Operand} → ReadsTest text c r → code ≡ 10 → ReadsOperand text p p code c r
+  pub test_operand : {r : std.Result Operand Refusal} → ReadsTest text c r → code ≡ 10 → ReadsOperand text p p code c r
   test_operand {r} y e = record { answer = λ f s. answer_for text p c r e (when_started s e) (y.answer p); kept = record { size = refl; front = refl } }
 
-  pub number_operand : {r : Operand} → ReadsNumber text c r → code ≡ 12 → ReadsOperand text p p code c r
+  pub number_operand : {r : std.Result Operand Refusal} → ReadsNumber text c r → code ≡ 12 → ReadsOperand text p p code c r
   number_operand {r} y e = record { answer = λ f s. answer_for text p c r e (num_started s e) (y.answer p); kept = record { size = refl; front = refl } }
 
 module _ (c : Cursor) {text : Bytes} {p₀ p : List ℕ} {code : ℕ} where
   pub str_refused
-      : {n : Name} {place : ℕ} → ReadsText text p₀ p c n → n ≡ NameIs.Refused place → code ≡ 13
-      → ReadsOperand text p₀ p code c (OperandIs.Refused place)
-  str_refused {place} y i e =
+      : {r : Refusal} → ReadsText text p₀ p c (Err r) → code ≡ 13 → ReadsOperand text p₀ p code c (Err r)
+  str_refused {r} y e =
       record {
         answer = λ f s.
-            answer_for text p c (OperandIs.Refused place) e (str_started s e)
-            (λ x m at o. no_text x m (str_text at o) (wants_str at o) (subst (TextAnswer text p c) i y.answer));
+            answer_for text p c (Err r) e (str_started s e)
+            (λ x m at o. no_text x m (str_text at o) (wants_str at o) y.answer);
         kept = y.kept;
       }
 
   pub str_read
-      : {n : Name} {k : ℕ} {to : Cursor} → ReadsText text p₀ p c n → n ≡ NameIs.Read k to → code ≡ 13
-      → ReadsOperand text p₀ p code c (OperandIs.Read 0 k to)
+      : {said : Payload} → ReadsText text p₀ p c (Ok said) → code ≡ 13
+      → ReadsOperand text p₀ p code c (Ok (record { operand = 0; payload = said.value; to = said.to }))
   unfolding literal_step after next literal_code number_bits
-  str_read {k} {to} y i e =
-      let t : TextRead text p c k to = subst (TextAnswer text p c) i y.answer in
+  str_read {said} y e =
+      let t : TextRead text p c said.value said.to = y.answer in
       record {
         answer = λ f s.
-            answer_for text p c (OperandIs.Read 0 k to) e (str_started s e)
+            answer_for text p c (Ok (record { operand = 0; payload = said.value; to = said.to })) e (str_started s e)
             (record {
               half = bare (Lead.saying (Value.text t.bytes));
               run = λ x m at o. text_goes x m (str_text at o) (wants_str at o) t.found refl;
@@ -424,6 +391,6 @@ module _ (c : Cursor) {text : Bytes} {p : List ℕ} (inside : c.at ≤ length te
   plain starts_none i j k = nothing _ (bare (Lead.saying Value.null)) (λ at o. refl) (bare_literal null_payload (omega arith) (omega arith))
   plain starts_pack i j k = nothing _ (bare Lead.packing) (λ at o. refl) bare_pack
 
-  pub no_Operand
-      : {code : ℕ} → (code ≡ 10 → ⊥) → (code ≡ 12 → ⊥) → (code ≡ 13 → ⊥) → ReadsOperand text p p code c (OperandIs.Read 0 0 c)
-  no_Operand i j k = record { answer = λ f s. plain s i j k; kept = record { size = refl; front = refl } }
+  pub no_operand
+      : {code : ℕ} → (code ≡ 10 → ⊥) → (code ≡ 12 → ⊥) → (code ≡ 13 → ⊥) → ReadsOperand text p p code c (Ok (record { operand = 0; payload = 0; to = c }))
+  no_operand i j k = record { answer = λ f s. plain s i j k; kept = record { size = refl; front = refl } }

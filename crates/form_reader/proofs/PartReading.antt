@@ -13,22 +13,19 @@ use Rattle.definitions.specs.Reader.{result_close, use_result, want, put_result,
 use Rattle.pool.specs.Pool.{text_in}
 use Rattle.nodes.specs.Nodes.{reference}
 use Rattle.forms.specs.Forms.{PairRows, PairsStand, PairsHeld}
-use Rattle.tokens.specs.TokenRead.{Found}
-use Rattle.tokens.specs.Expecting.{a_closing, a_text, sort, Lacks, BracketAnswer, ExpectsClosing, QuotedAnswer, ExpectsText}
-use Rattle.tokens.specs.declared.expect.Bracket.{Bracket}
-use Rattle.tokens.specs.declared.expect.Bracket.TheVariants as BracketIs
-use Rattle.tokens.specs.declared.expect.Quotation.{Quotation}
-use Rattle.tokens.specs.declared.expect.Quotation.TheVariants as QuotationIs
-use Rattle.form_reader.specs.declared.reading.Cursor.{Cursor}
-use Rattle.form_reader.specs.declared.reading.Part.{Part}
-use Rattle.form_reader.specs.declared.reading.Part.TheVariants.{Done, Refused}
+use Rattle.tokens.specs.TokenRead.{FoundText}
+use Rattle.tokens.specs.Expecting.{a_closing, a_text, sort, Kept, Misses}
+use Rattle.std.specs.Prelude as std
+use Rattle.std.specs.Prelude.{Ok, Err}
+use Rattle.reading.specs.declared.Cursor.{Cursor}
+use Rattle.reading.specs.declared.Refusal.{Refusal}
 use Rattle.form_reader.specs.declared.parts.Turn.{Turn}
-use Rattle.form_reader.specs.declared.parts.Turn.TheVariants.{More, Stop}
+use Rattle.form_reader.specs.declared.parts.Turn.TheVariants.{More, End}
 use Rattle.form_reader.specs.FormLeads.{Lead, lead_code, named, inner_bound, next, Filled, packed, whole}
-use Rattle.form_reader.specs.FormParts.{Job, reading, ClosesAt, CloseAnswer, ClosesForm, SoFar, debt, TurnIs, PairsKnown}
+use Rattle.form_reader.specs.FormParts.{Job, reading, Closed, ClosesForm, SoFar, debt, TurnIs, PairsKnown}
 use Rattle.form_reader.specs.FormParts.{PairTurns, PartsKnown, Turns}
-use Rattle.form_reader.proofs.Steps.{goes_on, misplaced_found, no_pair}
-use Rattle.form_reader.proofs.OperandReading.{quoted_refers, text_found}
+use Rattle.form_reader.proofs.Steps.{ClosesAt, Misplaced, goes_on, misplaced_found, closes_on, no_end, no_pair}
+use Rattle.form_reader.proofs.OperandReading.{quoted_refers}
 use Rattle.form_reader.proofs.LeadLaws.{next_frame, next_close, parts_in_order, among_in_order, pack_lead}
 
 -- ---- pairs
@@ -44,10 +41,10 @@ no_step at ps o (word u) h i = refl
 no_step at ps o broken h i = refl
 
 module _ (first : ℕ) (c : Cursor) {text : Bytes} {forms p₀ : List ℕ} (k₀ : PairsKnown text forms p₀ first c) where
-  module _ {p : List ℕ} {q : Quotation} (y : ExpectsText text c.at p₀ p c.top q) where
+  module _ {p : List ℕ} (k : Kept p₀ p c.top) where
     used_length : length (take c.top p) ≡ c.top
     used_length =
-        length-take-le c.top p (omega (arith, k₀.placed.texts, k₀.placed.within, y.kept.size))
+        length-take-le c.top p (omega (arith, k₀.placed.texts, k₀.placed.within, k.size))
 
     used_front : take (length (take c.top p)) p ≡ take c.top p
     used_front = ap (λ (n : ℕ). take n p) used_length
@@ -65,7 +62,7 @@ module _ (first : ℕ) (c : Cursor) {text : Bytes} {forms p₀ : List ℕ} (k₀
           rows = s.rows;
           rest = drop (3 * c.begun) forms;
           encoded =
-              subst (λ (u : List ℕ). PairRows u s.bound (pairs_onto ps no_pairs) s.rows) (sym y.kept.front)
+              subst (λ (u : List ℕ). PairRows u s.bound (pairs_onto ps no_pairs) s.rows) (sym k.front)
               (parts_in_order s.held);
           placed =
               ap (drop (3 * first))
@@ -89,7 +86,7 @@ module _ (first : ℕ) (c : Cursor) {text : Bytes} {forms p₀ : List ℕ} (k₀
         }
 
     module _
-        {place end n : ℕ} (e : q ≡ QuotationIs.At place end n) {b : Bool}
+        {place end n : ℕ} (f : FoundText text c.at p c.top place end n) {b : Bool}
         (told
         : (u : List ℕ) (d : ℕ) (ps : Pairs) → take (length u) p ≡ u → length u < 65536 → PairsStand forms u (3 * first) (3 * c.begun) d ps
         → b ≡ among_pairs (text_in p c.top n) ps) where
@@ -99,22 +96,20 @@ module _ (first : ℕ) (c : Cursor) {text : Bytes} {forms p₀ : List ℕ} (k₀
           told (take c.top p) s.bound (pairs_onto ps no_pairs) used_front used_small (pairs_stand ps s)
           ∙ among_in_order (text_in p c.top n) ps
 
-      pub pair_twice : {t : Turn} → b ≡ true → t ≡ Stop (Refused 7 place) → PairTurns text forms p₀ p first c t
+      pub pair_twice : {r : Refusal} → b ≡ true → Misplaced r place → PairTurns text forms p₀ p first c (Err r)
       unfolding next want_step pack_step where_true at_place
-      pair_twice h i =
-          subst (PairTurns text forms p₀ p first c) (sym i)
-          (record {
-            answer = λ ps s x m at o.
-                misplaced_found x m (pack_name at ps o) (text_found c y e).found (rw (sym (is_among ps s) ∙ h));
-            kept = y.kept;
-          })
+      pair_twice h m =
+          record {
+            answer = λ ps s x i at o.
+                misplaced_found x i (pack_name at ps o) f.found (rw (sym (is_among ps s) ∙ h)) m;
+            kept = k;
+          }
 
       pub pair_next
           : {name : ℕ} → b ≡ false → name ≡ reference c.top n
-          → PairTurns text forms p₀ p first c (More (record { at = end; begun = c.begun; top = c.top + (n + 7) / 8 }) name 0)
+          → PairTurns text forms p₀ p first c (Ok (More (record { at = end; begun = c.begun; top = c.top + (n + 7) / 8 }) name 0))
       unfolding next want_step pack_step where_true at_place use_result bindings binds inner_bound lead_code named debt
       pair_next h g =
-          let f = text_found c y e in
           record {
             answer = λ ps s.
                 record {
@@ -131,47 +126,35 @@ module _ (first : ℕ) (c : Cursor) {text : Bytes} {forms p₀ : List ℕ} (k₀
                   grows = omega arith;
                   room = omega (arith, f.found.from, f.shorter);
                 };
-            kept = y.kept;
+            kept = k;
           }
 
-    module _ {place : ℕ} (e : q ≡ QuotationIs.Missing place) where
-      lacks_text : Lacks a_text text c.at place
-      lacks_text = subst (QuotedAnswer text c.at p c.top) e y.answer
+    pub pack_closed : {to : Cursor} → ClosesForm text c (Ok to) → PairTurns text forms p₀ p first c (Ok (End to))
+    unfolding next want_step pack_step whole at_place
+    pack_closed {to} z =
+        let closed : Closed text c to = z.answer in
+        record {
+          answer = λ ps s.
+              record {
+                run = λ x m at o. goes_on x m (pack_name at ps o) closed.found refl;
+                filled = packed refl;
+                begun = closed.begun;
+                top = closed.top;
+                further = closed.further;
+                within = closed.within;
+              };
+          kept = k;
+        }
 
-      module _ {b : Bracket} (z : ExpectsClosing text c.at b) where
-        pub pack_end : {at : ℕ} → b ≡ BracketIs.At at → Found text c.at closing at (at + 1)
-        pack_end i = subst (BracketAnswer a_closing closing text c.at) i z.answer
-
-        pub pack_closed
-            : {at : ℕ} → b ≡ BracketIs.At at
-            → PairTurns text forms p₀ p first c (Stop (Done (record { at = at + 1; begun = c.begun; top = c.top })))
-        unfolding next want_step pack_step whole at_place
-        pack_closed i =
-            let f = pack_end i in
-            record {
-              answer = λ ps s.
-                  record {
-                    run = λ x m at o. goes_on x m (pack_name at ps o) f refl;
-                    filled = packed refl;
-                    begun = refl;
-                    top = refl;
-                    further = omega (arith, f.from);
-                    within = f.within;
-                  };
-              kept = y.kept;
-            }
-
-        pub pack_open
-            : {at : ℕ} {t : Turn} → b ≡ BracketIs.Missing at → t ≡ Stop (Refused 7 at) → PairTurns text forms p₀ p first c t
-        unfolding next want_step at_place
-        pack_open i j =
-            subst (PairTurns text forms p₀ p first c) (sym j)
-            (record {
-              answer = λ ps s x m at o.
-                  no_pair x m text c.at (pack_name at ps o) lacks_text (subst (BracketAnswer a_closing closing text c.at) i z.answer)
-                  (λ t v h g. no_step at ps o t h g);
-              kept = y.kept;
-            })
+    pub pack_open
+        : {e r : Refusal} → Misses a_text text c.at e → ClosesForm text c (Err r) → PairTurns text forms p₀ p first c (Err r)
+    unfolding next want_step at_place
+    pack_open l z =
+        record {
+          answer = λ ps s x m at o.
+              no_pair x m text c.at (pack_name at ps o) l z.answer (λ t v h g. no_step at ps o t h g);
+          kept = k;
+        }
 
 -- ---- any result
 
@@ -180,7 +163,7 @@ unfolding want_step
 closes_result r o = record { does = λ t. refl }
 
 module _ (code more first : ℕ) (c : Cursor) {text : Bytes} {forms p₀ : List ℕ} (k₀ : PartsKnown text forms p₀ code more first c) where
-  pub part_next : 0 < more → Turns text forms p₀ p₀ code more first c (More c 0 (more - 1))
+  pub part_next : 0 < more → Turns text forms p₀ p₀ code more first c (Ok (More c 0 (more - 1)))
   part_next h =
       record {
         answer = λ lead ps d f s.
@@ -213,7 +196,7 @@ module _ (code more first : ℕ) (c : Cursor) {text : Bytes} {forms p₀ : List 
             (pack_lead k₀.lead (k₀.coded ∙ e)) k₀.so_far;
       }
 
-  pub pair_turn : {p : List ℕ} {r : Turn} → code ≡ 17 → PairTurns text forms p₀ p first c r → Turns text forms p₀ p code more first c r
+  pub pair_turn : {p : List ℕ} {r : std.Result Turn Refusal} → code ≡ 17 → PairTurns text forms p₀ p first c r → Turns text forms p₀ p code more first c r
   pair_turn {p} {r} e y =
       record {
         answer = λ lead ps d f s.
@@ -223,33 +206,39 @@ module _ (code more first : ℕ) (c : Cursor) {text : Bytes} {forms p₀ : List 
         kept = y.kept;
       }
 
-  pub part_end
-      : (r : Part) → (code ≡ 17 → ⊥) → more ≤ 0 → ClosesForm text c r → Turns text forms p₀ p₀ code more first c (Stop r)
-  part_end r e i y = record { answer = λ lead ps d f s. pick lead ps d f r y.answer; kept = record { size = refl; front = refl } }
-    where
-      none_left : more ≡ 0
-      none_left = omega arith
+  module _ (e : code ≡ 17 → ⊥) (i : more ≤ 0) where
+    none_left : more ≡ 0
+    none_left = omega arith
 
-      to_bracket
-          : (lead : Lead) (ps : Pairs) → lead_code lead ≡ code → Filled lead ps more → (x : Job) (m at : ℕ) (o : Around)
-          → reading x m text (want (next lead ps at o)) c.at ≡ reading x m text (want (result_close (whole at lead ps) o)) c.at
-      to_bracket lead ps d f x m at o =
-          ap (λ (w : Want). reading x m text (want w) c.at) (next_close f none_left (λ k. e (sym d ∙ k)) at o)
+    to_bracket
+        : (lead : Lead) (ps : Pairs) → lead_code lead ≡ code → Filled lead ps more → (x : Job) (m at : ℕ) (o : Around)
+        → reading x m text (want (next lead ps at o)) c.at ≡ reading x m text (want (result_close (whole at lead ps) o)) c.at
+    to_bracket lead ps d f x m at o =
+        ap (λ (w : Want). reading x m text (want w) c.at) (next_close f none_left (λ k. e (sym d ∙ k)) at o)
 
-      pick
-          : (lead : Lead) (ps : Pairs) → lead_code lead ≡ code → Filled lead ps more → (r' : Part) → CloseAnswer text c r'
-          → TurnIs lead ps text p₀ c (Stop r')
-      pick lead ps d f (Done to) z =
-          record {
-            run = λ x m at o.
-                to_bracket lead ps d f x m at o
-                ∙ z.run x m (result_close (whole at lead ps) o) (put_result (whole at lead ps) o) (closes_result (whole at lead ps) o);
-            filled = subst (λ (k : ℕ). Filled lead ps k) none_left f;
-            begun = z.begun;
-            top = z.top;
-            further = z.further;
-            within = z.within;
-          }
-      pick lead ps d f (Refused number place) z = λ x m at o.
-          to_bracket lead ps d f x m at o
-          ∙ z x m (result_close (whole at lead ps) o) (put_result (whole at lead ps) o) (closes_result (whole at lead ps) o)
+    pub part_end : {to : Cursor} → ClosesForm text c (Ok to) → Turns text forms p₀ p₀ code more first c (Ok (End to))
+    part_end {to} z =
+        let closed : Closed text c to = z.answer in
+        record {
+          answer = λ lead ps d f s.
+              record {
+                run = λ x m at o.
+                    to_bracket lead ps d f x m at o
+                    ∙ closes_on x m (result_close (whole at lead ps) o) (closes_result (whole at lead ps) o) closed.found;
+                filled = subst (λ (k : ℕ). Filled lead ps k) none_left f;
+                begun = closed.begun;
+                top = closed.top;
+                further = closed.further;
+                within = closed.within;
+              };
+          kept = record { size = refl; front = refl };
+        }
+
+    pub part_open : {r : Refusal} → ClosesForm text c (Err r) → Turns text forms p₀ p₀ code more first c (Err r)
+    part_open z =
+        record {
+          answer = λ lead ps d f s x m at o.
+              to_bracket lead ps d f x m at o
+              ∙ no_end x m (result_close (whole at lead ps) o) (closes_result (whole at lead ps) o) z.answer;
+          kept = record { size = refl; front = refl };
+        }

@@ -14,22 +14,19 @@ use Rattle.forms.specs.Forms.{place_code, place_at, head_of, PlaceRows, it_row, 
 use Rattle.forms.specs.FormsLaws.{length_place_rows}
 use Rattle.tokens.specs.TokenRead.{word_in}
 use Rattle.tokens.specs.Expecting.{Kept}
-use Rattle.form_reader.specs.declared.reading.Cursor.{Cursor}
-use Rattle.form_reader.specs.declared.reading.Part.{Part}
-use Rattle.form_reader.specs.declared.reading.Part.TheVariants.{Done, Refused}
+use Rattle.std.specs.Prelude as std
+use Rattle.std.specs.Prelude.{Some, None, Ok, Err}
+use Rattle.reading.specs.declared.Cursor.{Cursor}
+use Rattle.reading.specs.declared.Refusal.{Refusal}
 use Rattle.form_reader.specs.declared.opening.Begun.{Begun}
-use Rattle.form_reader.specs.declared.opening.Begun.TheVariants as BegunIs
-use Rattle.form_reader.specs.declared.operands.Index.{Index}
-use Rattle.form_reader.specs.declared.operands.Index.TheVariants as IndexIs
-use Rattle.form_reader.specs.declared.operands.Name.{Name}
-use Rattle.form_reader.specs.declared.operands.Name.TheVariants as NameIs
+use Rattle.form_reader.specs.declared.operands.Payload.{Payload}
 use Rattle.form_reader.specs.FormWords.{PlaceSays, says_it, says_field, says_no_place}
 use Rattle.tokens.specs.Expecting.{TextPlaced}
 use Rattle.form_reader.specs.FormParts.{Job, reading, PlaceWithin, Ready, Sized, WantsText, OpensAt, WantsWord, WordWasRead}
-use Rattle.form_reader.specs.FormParts.{BegunAnswer, BeginsForm, ClosesAt, Closed, CloseAnswer, ClosesForm, IndexRead, IndexAnswer}
-use Rattle.form_reader.specs.FormParts.{ReadsIndex, TextRead, TextAnswer, ReadsText, BehindBracket, PlaceDone, PlaceAnswer, ReadsIt}
+use Rattle.form_reader.specs.FormParts.{BeginsForm, Closed, ClosesForm, IndexRead}
+use Rattle.form_reader.specs.FormParts.{ReadsIndex, TextRead, ReadsText, BehindBracket, PlaceDone, PlaceAnswer, ReadsIt}
 use Rattle.form_reader.specs.FormParts.{ReadsField, ReadsPlace}
-use Rattle.form_reader.proofs.Steps.{word_goes, word_misplaced, text_goes, no_text}
+use Rattle.form_reader.proofs.Steps.{ClosesAt, Misplaced, word_goes, word_misplaced, text_goes, no_text, closes_on, no_end}
 use Rattle.nodes.specs.RowLaws.{with_row, length_with_row, row_put}
 use Rattle.form_reader.proofs.PoolGrowth.{refers_later, kept_before}
 
@@ -66,23 +63,18 @@ ready_placed r =
 -- ---- `it`
 
 module _
-    (values bound place : ℕ) (c : Cursor) {text : Bytes} {forms p : List ℕ} {i : Index} (b : BehindBracket text forms p values bound place c)
-    (y : ReadsIndex text bound c i) where
+    (values bound place : ℕ) (c : Cursor) {text : Bytes} {forms p : List ℕ} (b : BehindBracket text forms p values bound place c) where
   same_forms : Sized forms p forms p
   same_forms = record { forms_kept = refl; pool_kept = refl }
 
-  pub index_refused : {at : ℕ} → i ≡ IndexIs.Refused at → ReadsIt values bound text forms p forms p place c (Refused 7 at)
-  index_refused {at} e =
-      record {
-        answer = λ left x o w. subst (IndexAnswer text bound c) e y.answer x c.begun place o w.bindings;
-        sized = same_forms;
-      }
+  pub index_refused : {r : Refusal} → ReadsIndex text bound c (Err r) → ReadsIt values bound text forms p forms p place c (Err r)
+  index_refused y = record { answer = λ left x o w. y.answer x c.begun place o w.bindings; sized = same_forms }
 
-  module _ {s : ℕ} {mid : Cursor} (e : i ≡ IndexIs.Read s mid) where
-    index : IndexRead text bound c s mid
-    index = subst (IndexAnswer text bound c) e y.answer
+  module _ {s : Payload} (y : ReadsIndex text bound c (Ok s)) where
+    index : IndexRead text bound c s.value s.to
+    index = y.answer
 
-    pub it_room : TextPlaced text p mid.at mid.top
+    pub it_room : TextPlaced text p s.to.at s.to.top
     it_room =
         let r = ready_placed b.ready in
         record {
@@ -92,63 +84,59 @@ module _
           small = omega (arith, r.small, index.ahead, index.top);
         }
 
-    module _ {r : Part} (z : ClosesForm text mid r) where
-      pub it_open : {number at : ℕ} → r ≡ Refused number at → ReadsIt values bound text forms p forms p place c r
-      it_open {number} {at} f =
-          subst (ReadsIt values bound text forms p forms p place c) (sym f)
-          (record {
-            answer = λ left x o w.
-                index.run x c.begun place o w.bindings
-                ∙ subst (CloseAnswer text mid) f z.answer x c.begun (Want.place_close (Place.it place index.index) o)
-                (put_place (Place.it place index.index) o) (closes_place (Place.it place index.index) o);
-            sized = same_forms;
-          })
+    pub it_open : {r : Refusal} → ClosesForm text s.to (Err r) → ReadsIt values bound text forms p forms p place c (Err r)
+    it_open z =
+        record {
+          answer = λ left x o w.
+              index.run x c.begun place o w.bindings
+              ∙ no_end x c.begun (Want.place_close (Place.it place index.index) o) (closes_place (Place.it place index.index) o) z.answer;
+          sized = same_forms;
+        }
 
-      pub it_row_room : 3 * (c.begun - 1) + 3 ≤ length forms
-      it_row_room = omega (arith, b.begun, b.ready.limit, b.ready.rows)
+    pub it_row_room : 3 * (c.begun - 1) + 3 ≤ length forms
+    it_row_room = omega (arith, b.begun, b.ready.limit, b.ready.rows)
 
-      pub it_read
-          : {to : Cursor} {forms' : List ℕ} → r ≡ Done to → forms' ≡ with_row forms (c.begun - 1) (head_of 1 0 place 3) s 0
-          → ReadsIt values bound text forms p forms' p place c r
-      unfolding place_code place_at place_forms
-      it_read {to} {forms'} f g =
-          let closed : Closed text mid to = subst (CloseAnswer text mid) f z.answer in
-          let q = Place.it place index.index in
-          let here : to.begun ≡ suc (c.begun - 1) = omega (arith, b.begun, closed.begun, index.begun) in
-          subst (ReadsIt values bound text forms p forms' p place c) (sym f)
-          (record {
-            answer = λ left.
-                record {
-                  place = q;
-                  run = λ x o w.
-                      index.run x c.begun place o w.bindings
-                      ∙ closed.run x c.begun (Want.place_close q o) (put_place q o) (closes_place q o)
-                      ∙ ap (λ (n : ℕ). reading x n text (put_place q o) to.at) (sym (closed.begun ∙ index.begun));
-                  rows = head_of 1 0 place 3 ∷ s ∷ 0 ∷ [];
-                  held =
-                      subst (λ (k : ℕ). PlaceRows (take to.top p) bound q (head_of 1 0 place 3 ∷ k ∷ 0 ∷ [])) (sym index.slotted)
-                      (it_row (record { word = refl; short = omega arith; near = b.near }) index.bounded);
-                  goes =
-                      record {
-                        table =
-                            ap (λ (t : List ℕ). take (3 * to.begun) t) g
-                            ∙ row_put forms (c.begun - 1) (head_of 1 0 place 3) s 0 it_row_room forms [] to.begun (omega (arith, here)) it_row_room
-                            (ap (λ (n : ℕ). take (3 * n) forms) here ∙ sym (append-nil (take (3 * suc (c.begun - 1)) forms)));
-                        counted = omega (arith, here);
-                        limit = omega (arith, closed.begun, index.begun, b.ready.limit);
-                        kept = record { size = refl; front = refl };
-                      };
-                  ahead = omega (arith, index.ahead, closed.further);
-                  within = closed.within;
-                  grows = omega (arith, index.top, closed.top);
-                  room = omega (arith, index.top, closed.top, index.begun, closed.begun, index.ahead, closed.further);
-                };
-            sized =
-                record {
-                  forms_kept = ap length g ∙ length_with_row forms (c.begun - 1) (head_of 1 0 place 3) s 0 it_row_room;
-                  pool_kept = refl;
-                };
-          })
+    pub it_read
+        : {to : Cursor} {forms' : List ℕ} → ClosesForm text s.to (Ok to)
+        → forms' ≡ with_row forms (c.begun - 1) (head_of 1 0 place 3) s.value 0 → ReadsIt values bound text forms p forms' p place c (Ok to)
+    unfolding place_code place_at place_forms
+    it_read {to} {forms'} z g =
+        let closed : Closed text s.to to = z.answer in
+        let q = Place.it place index.index in
+        let here : to.begun ≡ suc (c.begun - 1) = omega (arith, b.begun, closed.begun, index.begun) in
+        record {
+          answer = λ left.
+              record {
+                place = q;
+                run = λ x o w.
+                    index.run x c.begun place o w.bindings
+                    ∙ closes_on x c.begun (Want.place_close q o) (closes_place q o) closed.found
+                    ∙ ap (λ (n : ℕ). reading x n text (put_place q o) to.at) (sym (closed.begun ∙ index.begun));
+                rows = head_of 1 0 place 3 ∷ s.value ∷ 0 ∷ [];
+                held =
+                    subst (λ (k : ℕ). PlaceRows (take to.top p) bound q (head_of 1 0 place 3 ∷ k ∷ 0 ∷ [])) (sym index.slotted)
+                    (it_row (record { word = refl; short = omega arith; near = b.near }) index.bounded);
+                goes =
+                    record {
+                      table =
+                          ap (λ (t : List ℕ). take (3 * to.begun) t) g
+                          ∙ row_put forms (c.begun - 1) (head_of 1 0 place 3) s.value 0 it_row_room forms [] to.begun (omega (arith, here)) it_row_room
+                          (ap (λ (n : ℕ). take (3 * n) forms) here ∙ sym (append-nil (take (3 * suc (c.begun - 1)) forms)));
+                      counted = omega (arith, here);
+                      limit = omega (arith, closed.begun, index.begun, b.ready.limit);
+                      kept = record { size = refl; front = refl };
+                    };
+                ahead = omega (arith, index.ahead, closed.further);
+                within = closed.within;
+                grows = omega (arith, index.top, closed.top);
+                room = omega (arith, index.top, closed.top, index.begun, closed.begun, index.ahead, closed.further);
+              };
+          sized =
+              record {
+                forms_kept = ap length g ∙ length_with_row forms (c.begun - 1) (head_of 1 0 place 3) s.value 0 it_row_room;
+                pool_kept = refl;
+              };
+        }
 
 -- ---- `field`
 
@@ -177,20 +165,20 @@ in_field_within at n w =
     record { limited = record { most = w.limited.most; nests = omega (arith, w.limited.nests) }; bindings = w.bindings }
 
 module _
-    (left : ℕ) {values bound place : ℕ} (c : Cursor) {text : Bytes} {forms p₀ p : List ℕ} {i : Name}
-    (b : BehindBracket text forms p₀ values bound place c) (y : ReadsText text p₀ p c i) where
-  pub name_refused : {at : ℕ} → i ≡ NameIs.Refused at → ReadsField left values bound text forms p₀ forms p place c (Refused 7 at)
-  name_refused {at} e =
+    (left : ℕ) {values bound place : ℕ} (c : Cursor) {text : Bytes} {forms p₀ p : List ℕ}
+    (b : BehindBracket text forms p₀ values bound place c) where
+  pub name_refused : {r : Refusal} → ReadsText text p₀ p c (Err r) → ReadsField left values bound text forms p₀ forms p place c (Err r)
+  name_refused y =
       record {
-        answer = λ x o w. no_text x c.begun (field_name place o) (wants_name place o) (subst (TextAnswer text p c) e y.answer);
+        answer = λ x o w. no_text x c.begun (field_name place o) (wants_name place o) y.answer;
         sized = record { forms_kept = refl; pool_kept = y.kept.size };
       }
 
-  module _ {k : ℕ} {from : Cursor} (e : i ≡ NameIs.Read k from) where
-    name : TextRead text p c k from
-    name = subst (TextAnswer text p c) e y.answer
+  module _ {t : Payload} (y : ReadsText text p₀ p c (Ok t)) where
+    name : TextRead text p c t.value t.to
+    name = y.answer
 
-    pub field_ready : Ready text forms p values bound from
+    pub field_ready : Ready text forms p values bound t.to
     field_ready =
         let r = b.ready in
         record {
@@ -208,185 +196,177 @@ module _
     to_place
         : (x : Job) (o : PlaceAround)
         → reading x c.begun text (want (field_name place o)) c.at
-        ≡ reading x from.begun text (want (place_open (in_field place name.bytes o))) from.at
+        ≡ reading x t.to.begun text (want (place_open (in_field place name.bytes o))) t.to.at
     to_place x o =
         text_goes x c.begun (field_name place o) (wants_name place o) name.found refl
-        ∙ ap (λ (n : ℕ). reading x n text (want (place_open (in_field place name.bytes o))) from.at) (sym name.begun)
+        ∙ ap (λ (n : ℕ). reading x n text (want (place_open (in_field place name.bytes o))) t.to.at) (sym name.begun)
 
-    module _ {forms' p' : List ℕ} {q : Part} (z : ReadsPlace left values bound text forms p forms' p' from q) where
+    module _ {forms' p' : List ℕ} where
       pub place_refused
-          : {number at : ℕ} → q ≡ Refused number at → ReadsField left values bound text forms p₀ forms' p' place c q
-      place_refused f =
-          subst (ReadsField left values bound text forms p₀ forms' p' place c) (sym f)
-          (record {
-            answer = λ x o w.
-                to_place x o
-                ∙ subst (PlaceAnswer (λ u. place_open u) left values bound text forms p forms' p' from.begun from) f z.answer x
-                (in_field place name.bytes o) (in_field_within place name.bytes w);
+          : {r : Refusal} → ReadsPlace left values bound text forms p forms' p' t.to (Err r)
+          → ReadsField left values bound text forms p₀ forms' p' place c (Err r)
+      place_refused z =
+          record {
+            answer = λ x o w. to_place x o ∙ z.answer x (in_field place name.bytes o) (in_field_within place name.bytes w);
             sized = record { forms_kept = z.sized.forms_kept; pool_kept = z.sized.pool_kept ∙ y.kept.size };
-          })
+          }
 
-      module _ {behind : Cursor} (f : q ≡ Done behind) where
-        inner : PlaceDone (λ u. place_open u) left values bound text forms p forms' p' from.begun from behind
-        inner = subst (PlaceAnswer (λ u. place_open u) left values bound text forms p forms' p' from.begun from) f z.answer
+      module _ {behind : Cursor} (z : ReadsPlace left values bound text forms p forms' p' t.to (Ok behind)) where
+        inner : PlaceDone (λ u. place_open u) left values bound text forms p forms' p' t.to.begun t.to behind
+        inner = z.answer
 
         pub behind_ready : Ready text forms' p' values bound behind
         behind_ready =
             ready_at bound behind field_ready z.sized inner.within inner.goes.limit
             (omega (arith, field_ready.shallow, inner.goes.counted)) (omega (arith, inner.room))
 
-        module _ {r : Part} (v : ClosesForm text behind r) where
-          -- the bracket behind it must come
-          to_end
-              : (x : Job) (o : PlaceAround) → PlaceWithin x o values (suc left) bound
-              → reading x c.begun text (want (field_name place o)) c.at
-              ≡ reading x behind.begun text (want (Want.place_close (Place.field place name.bytes inner.place) o)) behind.at
-          unfolding put_place
-          to_end x o w =
-              to_place x o ∙ inner.run x (in_field place name.bytes o) (in_field_within place name.bytes w)
+        -- the bracket behind it must come
+        to_end
+            : (x : Job) (o : PlaceAround) → PlaceWithin x o values (suc left) bound
+            → reading x c.begun text (want (field_name place o)) c.at
+            ≡ reading x behind.begun text (want (Want.place_close (Place.field place name.bytes inner.place) o)) behind.at
+        unfolding put_place
+        to_end x o w =
+            to_place x o ∙ inner.run x (in_field place name.bytes o) (in_field_within place name.bytes w)
 
-          whole_place : Place
-          whole_place = Place.field place name.bytes inner.place
+        whole_place : Place
+        whole_place = Place.field place name.bytes inner.place
 
-          pool_size : length p' ≡ length p₀
-          pool_size = z.sized.pool_kept ∙ y.kept.size
+        pool_size : length p' ≡ length p₀
+        pool_size = z.sized.pool_kept ∙ y.kept.size
 
-          pub field_open : {number at : ℕ} → r ≡ Refused number at → ReadsField left values bound text forms p₀ forms' p' place c r
-          unfolding whole_place
-          field_open g =
-              subst (ReadsField left values bound text forms p₀ forms' p' place c) (sym g)
+        pub field_open
+            : {r : Refusal} → ClosesForm text behind (Err r) → ReadsField left values bound text forms p₀ forms' p' place c (Err r)
+        unfolding whole_place
+        field_open v =
+            record {
+              answer = λ x o w.
+                  to_end x o w
+                  ∙ no_end x behind.begun (Want.place_close whole_place o) (closes_place whole_place o) v.answer;
+              sized = record { forms_kept = z.sized.forms_kept; pool_kept = pool_size };
+            }
+
+        module _ {to : Cursor} (v : ClosesForm text behind (Ok to)) where
+          closed : Closed text behind to
+          closed = v.answer
+
+          -- bounds for the row
+          pub field_bounds
+              : (3 * (c.begun - 1) + 3 ≤ length forms') × (3 * (c.begun - 1) ≤ 3 * to.begun) × (to.begun ≤ 32768) × (0 < c.begun) × (place < 65536)
+          field_bounds = (
+            omega (arith, b.begun, b.ready.limit, b.ready.rows, z.sized.forms_kept),
+            omega (arith, b.begun, name.begun, inner.goes.counted, closed.begun),
+            omega (arith, closed.begun, inner.goes.limit, b.ready.few),
+            b.begun,
+            b.near,
+          )
+
+          size : ℕ
+          size = 3 * to.begun - 3 * (c.begun - 1)
+
+          head : ℕ
+          head = head_of 2 0 place size
+
+          held : PlaceRows (take to.top p') bound whole_place (head ∷ t.value ∷ 0 ∷ inner.rows)
+          unfolding place_code place_at place_forms whole_place head size
+          held =
+              let later : Kept p p' t.to.top = inner.goes.kept in
+              let sized : size ≡ 3 * place_forms whole_place =
+              omega (arith, length_place_rows inner.held, inner.goes.counted, closed.begun, name.begun, b.begun)
+              in
+              field_rows
               (record {
-                answer = λ x o w.
-                    to_end x o w
-                    ∙ subst (CloseAnswer text behind) g v.answer x behind.begun (Want.place_close whole_place o) (put_place whole_place o)
-                    (closes_place whole_place o);
-                sized = record { forms_kept = z.sized.forms_kept; pool_kept = pool_size };
+                word = ap (λ (s : ℕ). head_of 2 0 place s) sized;
+                short = omega arith;
+                near = b.near;
               })
+              (refers_later later to.top (omega (arith, inner.grows, closed.top)) name.refers)
+              (subst (λ (n : ℕ). PlaceRows (take n p') bound inner.place inner.rows) (sym closed.top) inner.held)
 
-          module _ {to : Cursor} (g : r ≡ Done to) where
-            closed : Closed text behind to
-            closed = subst (CloseAnswer text behind) g v.answer
-
-            -- bounds for the row
-            pub field_bounds
-                : (3 * (c.begun - 1) + 3 ≤ length forms') × (3 * (c.begun - 1) ≤ 3 * to.begun) × (to.begun ≤ 32768) × (0 < c.begun) × (place < 65536)
-            field_bounds = (
-              omega (arith, b.begun, b.ready.limit, b.ready.rows, z.sized.forms_kept),
-              omega (arith, b.begun, name.begun, inner.goes.counted, closed.begun),
-              omega (arith, closed.begun, inner.goes.limit, b.ready.few),
-              b.begun,
-              b.near,
-            )
-
-            size : ℕ
-            size = 3 * to.begun - 3 * (c.begun - 1)
-
-            head : ℕ
-            head = head_of 2 0 place size
-
-            held : PlaceRows (take to.top p') bound whole_place (head ∷ k ∷ 0 ∷ inner.rows)
-            unfolding place_code place_at place_forms whole_place head size
-            held =
-                let later : Kept p p' from.top = inner.goes.kept in
-                let sized : size ≡ 3 * place_forms whole_place =
-                omega (arith, length_place_rows inner.held, inner.goes.counted, closed.begun, name.begun, b.begun)
-                in
-                field_rows
-                (record {
-                  word = ap (λ (s : ℕ). head_of 2 0 place s) sized;
-                  short = omega arith;
-                  near = b.near;
-                })
-                (refers_later later to.top (omega (arith, inner.grows, closed.top)) name.refers)
-                (subst (λ (n : ℕ). PlaceRows (take n p') bound inner.place inner.rows) (sym closed.top) inner.held)
-
-            pub field_read
-                : {forms'' : List ℕ} → forms'' ≡ with_row forms' (c.begun - 1) (head_of 2 0 place (3 * to.begun - 3 * (c.begun - 1))) k 0
-                → ReadsField left values bound text forms p₀ forms'' p' place c (Done to)
-            unfolding whole_place head size
-            field_read {forms''} h =
-                let here : c.begun ≡ suc (c.begun - 1) = omega (arith, b.begun) in
-                let room = field_bounds.0 in
-                record {
-                  answer =
-                      record {
-                        place = whole_place;
-                        run = λ x o w.
-                            to_end x o w
-                            ∙ closed.run x behind.begun (Want.place_close whole_place o) (put_place whole_place o) (closes_place whole_place o)
-                            ∙ ap (λ (n : ℕ). reading x n text (put_place whole_place o) to.at) (sym closed.begun);
-                        rows = head ∷ k ∷ 0 ∷ inner.rows;
-                        held = held;
-                        goes =
-                            record {
-                              table =
-                                  ap (λ (t : List ℕ). take (3 * to.begun) t) h
-                                  ∙ row_put forms' (c.begun - 1) head k 0 room forms inner.rows to.begun
-                                  (omega (arith, here, closed.begun, name.begun, inner.goes.counted))
-                                  (omega (arith, b.begun, b.ready.limit, b.ready.rows))
-                                  (ap (λ (n : ℕ). take (3 * n) forms') closed.begun
-                                  ∙ inner.goes.table
-                                  ∙ ap (λ (n : ℕ). take (3 * n) forms ++ inner.rows) (name.begun ∙ here));
-                              counted = omega (arith, here, closed.begun, name.begun, inner.goes.counted);
-                              limit = omega (arith, closed.begun, inner.goes.limit);
-                              kept =
-                                  kept_before y.kept inner.goes.kept name.grows;
-                            };
-                        ahead = omega (arith, name.found.from, name.found.ahead, inner.ahead, closed.further);
-                        within = closed.within;
-                        grows = omega (arith, name.grows, inner.grows, closed.top);
-                        room =
-                            omega (arith, here, name.room, inner.room, closed.top, closed.begun, closed.further, name.begun);
-                      };
-                  sized =
-                      record {
-                        forms_kept = ap length h ∙ length_with_row forms' (c.begun - 1) head k 0 room ∙ z.sized.forms_kept;
-                        pool_kept = pool_size;
-                      };
-                }
+          pub field_read
+              : {forms'' : List ℕ} → forms'' ≡ with_row forms' (c.begun - 1) (head_of 2 0 place (3 * to.begun - 3 * (c.begun - 1))) t.value 0
+              → ReadsField left values bound text forms p₀ forms'' p' place c (Ok to)
+          unfolding whole_place head size
+          field_read {forms''} h =
+              let here : c.begun ≡ suc (c.begun - 1) = omega (arith, b.begun) in
+              let room = field_bounds.0 in
+              record {
+                answer =
+                    record {
+                      place = whole_place;
+                      run = λ x o w.
+                          to_end x o w
+                          ∙ closes_on x behind.begun (Want.place_close whole_place o) (closes_place whole_place o) closed.found
+                          ∙ ap (λ (n : ℕ). reading x n text (put_place whole_place o) to.at) (sym closed.begun);
+                      rows = head ∷ t.value ∷ 0 ∷ inner.rows;
+                      held = held;
+                      goes =
+                          record {
+                            table =
+                                ap (λ (s : List ℕ). take (3 * to.begun) s) h
+                                ∙ row_put forms' (c.begun - 1) head t.value 0 room forms inner.rows to.begun
+                                (omega (arith, here, closed.begun, name.begun, inner.goes.counted))
+                                (omega (arith, b.begun, b.ready.limit, b.ready.rows))
+                                (ap (λ (n : ℕ). take (3 * n) forms') closed.begun
+                                ∙ inner.goes.table
+                                ∙ ap (λ (n : ℕ). take (3 * n) forms ++ inner.rows) (name.begun ∙ here));
+                            counted = omega (arith, here, closed.begun, name.begun, inner.goes.counted);
+                            limit = omega (arith, closed.begun, inner.goes.limit);
+                            kept =
+                                kept_before y.kept inner.goes.kept name.grows;
+                          };
+                      ahead = omega (arith, name.found.from, name.found.ahead, inner.ahead, closed.further);
+                      within = closed.within;
+                      grows = omega (arith, name.grows, inner.grows, closed.top);
+                      room =
+                          omega (arith, here, name.room, inner.room, closed.top, closed.begun, closed.further, name.begun);
+                    };
+                sized =
+                    record {
+                      forms_kept = ap length h ∙ length_with_row forms' (c.begun - 1) head t.value 0 room ∙ z.sized.forms_kept;
+                      pool_kept = pool_size;
+                    };
+              }
 
 -- ---- a place
 
-it_said : {w : Bytes} {k : ℕ} → PlaceSays w k → k ≡ 1 → look_word place_words w ≡ some (λ at o. it_index at o)
-it_said (says_it e) i = e
-it_said (says_field e) i = absurd (let z : ⊥ = omega arith in z)
-it_said (says_no_place e) i = absurd (let z : ⊥ = omega arith in z)
+it_said
+    : {w : Bytes} {j : std.Option ℕ} {k : ℕ} → PlaceSays w j → j ≡ Some k → k ≡ 1 → look_word place_words w ≡ some (λ at o. it_index at o)
+it_said (says_it e) i h = e
+it_said {k} (says_field e) i h = absurd (let m : k ≡ 2 = cc in let z : ⊥ = omega arith in z)
+it_said (says_no_place e) i h = absurd (cc)
 
-field_said : {w : Bytes} {k : ℕ} → PlaceSays w k → k ≡ 2 → look_word place_words w ≡ some (λ at o. field_name at o)
-field_said (says_it e) i = absurd (let z : ⊥ = omega arith in z)
-field_said (says_field e) i = e
-field_said (says_no_place e) i = absurd (let z : ⊥ = omega arith in z)
+field_said
+    : {w : Bytes} {j : std.Option ℕ} {k : ℕ} → PlaceSays w j → j ≡ Some k → (k ≡ 1 → ⊥) → look_word place_words w ≡ some (λ at o. field_name at o)
+field_said {k} (says_it e) i h = absurd (let m : k ≡ 1 = cc in h m)
+field_said (says_field e) i h = e
+field_said (says_no_place e) i h = absurd (cc)
 
-none_said : {w : Bytes} {k : ℕ} → PlaceSays w k → (k ≡ 1 → ⊥) → (k ≡ 2 → ⊥) → look_word place_words w ≡ none
-none_said (says_it e) i j = absurd (i refl)
-none_said (says_field e) i j = absurd (j refl)
-none_said (says_no_place e) i j = e
+none_said : {w : Bytes} {j : std.Option ℕ} → PlaceSays w j → j ≡ None → look_word place_words w ≡ none
+none_said (says_it e) i = absurd (cc)
+none_said (says_field e) i = absurd (cc)
+none_said (says_no_place e) i = e
 
 module _
-    (left : ℕ) {values bound : ℕ} (c : Cursor) {text : Bytes} {forms p : List ℕ} {b : Begun} (r₀ : Ready text forms p values bound c)
-    (y : BeginsForm text values left c b) where
+    (left : ℕ) {values bound : ℕ} (c : Cursor) {text : Bytes} {forms p : List ℕ} (r₀ : Ready text forms p values bound c) where
   pub begin_refused
-      : {number place : ℕ} → b ≡ BegunIs.Refused number place
-      → ReadsPlace left values bound text forms p forms p c (Refused number place)
-  begin_refused e =
+      : {r : Refusal} → BeginsForm text values left c (Err r) → ReadsPlace left values bound text forms p forms p c (Err r)
+  begin_refused y =
       record {
         answer = λ x o w.
-            subst (BegunAnswer text values left c) e y.answer x (place_open o) (place_depth o) (λ q. place_word q o)
+            y.answer x (place_open o) (place_depth o) (λ q. place_word q o)
             (λ q v. where_some (look_word place_words v) (λ f. go (want (f q o)))) (opens_place o) (λ q. wants_place q o) w.limited;
         sized = record { forms_kept = refl; pool_kept = refl };
       }
 
-  module _ {place at end : ℕ} (e : b ≡ BegunIs.Word place at end) where
-    pub worded : WordWasRead text values left c place at end
-    worded = subst (BegunAnswer text values left c) e y.answer
-
+  module _ {b : Begun} (worded : WordWasRead text values left c b) where
     -- behind the word
     inside : Cursor
-    inside = record { at = end; begun = c.begun + 1; top = c.top }
+    inside = record { at = b.word.end; begun = c.begun + 1; top = c.top }
 
-    pub behind_word : BehindBracket text forms p values bound place (record { at = end; begun = c.begun + 1; top = c.top })
+    pub behind_word : BehindBracket text forms p values bound b.place (record { at = b.word.end; begun = c.begun + 1; top = c.top })
     behind_word =
-        let ahead : c.at + 2 ≤ end = omega (arith, worded.bracket.ahead, worded.found.from, worded.found.ahead) in
+        let ahead : c.at + 2 ≤ b.word.end = omega (arith, worded.bracket.ahead, worded.found.from, worded.found.ahead) in
         record {
           ready =
               record {
@@ -407,39 +387,40 @@ module _
 
     to_word
         : (x : Job) (o : PlaceAround) → PlaceWithin x o values left bound
-        → reading x c.begun text (want (place_open o)) c.at ≡ reading x (suc c.begun) text (want (place_word place o)) (place + 1)
+        → reading x c.begun text (want (place_open o)) c.at ≡ reading x (suc c.begun) text (want (place_word b.place o)) (b.place + 1)
     to_word x o w = worded.bracket.run x (place_open o) (place_depth o) (λ q. place_word q o) (opens_place o) w.limited
 
     -- behind a word of the table
     to_inside
-        : (f : ℕ → PlaceAround → Want) → look_word place_words (word_in text at end) ≡ some f → (x : Job) (o : PlaceAround)
+        : (f : ℕ → PlaceAround → Want) → look_word place_words (word_in text b.word.place b.word.end) ≡ some f → (x : Job) (o : PlaceAround)
         → PlaceWithin x o values left bound
-        → reading x c.begun text (want (place_open o)) c.at ≡ reading x inside.begun text (want (f place o)) inside.at
+        → reading x c.begun text (want (place_open o)) c.at ≡ reading x inside.begun text (want (f b.place o)) inside.at
     unfolding inside where_some
     to_inside f g x o w =
         to_word x o w
-        ∙ word_goes x (suc c.begun) (place_word place o) (wants_place place o) worded.found (rw g)
-        ∙ ap (λ (n : ℕ). reading x n text (want (f place o)) end) (let i : suc c.begun ≡ c.begun + 1 = omega arith in i)
+        ∙ word_goes x (suc c.begun) (place_word b.place o) (wants_place b.place o) worded.found (rw g)
+        ∙ ap (λ (n : ℕ). reading x n text (want (f b.place o)) b.word.end) (let i : suc c.begun ≡ c.begun + 1 = omega arith in i)
 
     pub no_place
-        : {k : ℕ} → PlaceSays (word_in text at end) k → (k ≡ 1 → ⊥) → (k ≡ 2 → ⊥)
-        → ReadsPlace left values bound text forms p forms p c (Refused 7 at)
+        : {j : std.Option ℕ} {r : Refusal} → PlaceSays (word_in text b.word.place b.word.end) j → (j ≡ None) × Misplaced r b.word.place
+        → ReadsPlace left values bound text forms p forms p c (Err r)
     unfolding where_some
-    no_place s i j =
+    no_place s h =
         record {
           answer = λ x o w.
               to_word x o w
-              ∙ word_misplaced x (suc c.begun) (place_word place o) (wants_place place o) worded.found (rw (none_said s i j));
+              ∙ word_misplaced x (suc c.begun) (place_word b.place o) (wants_place b.place o) worded.found (rw (none_said s h.0)) h.1;
           sized = record { forms_kept = refl; pool_kept = refl };
         }
 
     -- what is read behind the word is what is read from the bracket on
     onward
-        : (forms' p' : List ℕ) (f : ℕ → PlaceAround → Want) → look_word place_words (word_in text at end) ≡ some f → (r : Part)
-        → PlaceAnswer (λ o. f place o) left values bound text forms p forms' p' (inside.begun - 1) inside r
+        : (forms' p' : List ℕ) (f : ℕ → PlaceAround → Want) → look_word place_words (word_in text b.word.place b.word.end) ≡ some f
+        → (r : std.Result Cursor Refusal)
+        → PlaceAnswer (λ o. f b.place o) left values bound text forms p forms' p' (inside.begun - 1) inside r
         → PlaceAnswer (λ o. place_open o) left values bound text forms p forms' p' c.begun c r
     unfolding inside
-    onward forms' p' f g (Done to) d =
+    onward forms' p' f g (Ok to) d =
         let first : inside.begun - 1 ≡ c.begun = omega arith in
         record {
           place = d.place;
@@ -459,31 +440,33 @@ module _
           room =
               omega (arith, d.room, first, worded.bracket.ahead, worded.found.from, worded.found.ahead);
         }
-    onward forms' p' f g (Refused number at') d = λ x o w. to_inside f g x o w ∙ d x o w
+    onward forms' p' f g (Err r) d = λ x o w. to_inside f g x o w ∙ d x o w
 
-    module _ {forms' p' : List ℕ} {k : ℕ} {r : Part} (s : PlaceSays (word_in text at end) k) where
+    module _
+        {forms' p' : List ℕ} {j : std.Option ℕ} {k : ℕ} {r : std.Result Cursor Refusal} (s : PlaceSays (word_in text b.word.place b.word.end) j)
+        (i : j ≡ Some k) where
       pub it_placed
-          : k ≡ 1 → ReadsIt values bound text forms p forms' p' place (record { at = end; begun = c.begun + 1; top = c.top }) r
+          : k ≡ 1 → ReadsIt values bound text forms p forms' p' b.place (record { at = b.word.end; begun = c.begun + 1; top = c.top }) r
           → ReadsPlace left values bound text forms p forms' p' c r
       unfolding inside
-      it_placed i d =
+      it_placed h d =
           record {
-            answer = onward forms' p' (λ q o. it_index q o) (it_said s i) r (d.answer left);
+            answer = onward forms' p' (λ q o. it_index q o) (it_said s i h) r (d.answer left);
             sized = d.sized;
           }
 
       pub field_placed
-          : k ≡ 2
-          → ReadsField (left - 1) values bound text forms p forms' p' place (record { at = end; begun = c.begun + 1; top = c.top }) r
+          : (k ≡ 1 → ⊥)
+          → ReadsField (left - 1) values bound text forms p forms' p' b.place (record { at = b.word.end; begun = c.begun + 1; top = c.top }) r
           → ReadsPlace left values bound text forms p forms' p' c r
       unfolding inside
-      field_placed i d =
+      field_placed h d =
           let deep : suc (left - 1) ≡ left = omega (arith, worded.bracket.nested) in
           record {
             answer =
-                onward forms' p' (λ q o. field_name q o) (field_said s i) r
+                onward forms' p' (λ q o. field_name q o) (field_said s i h) r
                 (subst
-                (λ (n : ℕ). PlaceAnswer (λ o. field_name place o) n values bound text forms p forms' p' (inside.begun - 1) inside r)
+                (λ (n : ℕ). PlaceAnswer (λ o. field_name b.place o) n values bound text forms p forms' p' (inside.begun - 1) inside r)
                 deep d.answer);
             sized = d.sized;
           }

@@ -17,20 +17,19 @@ use Rattle.laws.specs.Tests.{eqb_eq, eqb_ne}
 use Rattle.forms.specs.Forms.{head_of, FormRows}
 use Rattle.forms.specs.FormsLaws.{length_form_rows}
 use Rattle.tokens.specs.Expecting.{Kept}
-use Rattle.form_reader.specs.declared.reading.Cursor.{Cursor}
-use Rattle.form_reader.specs.declared.reading.Part.{Part}
-use Rattle.form_reader.specs.declared.reading.Part.TheVariants.{Done, Refused}
-use Rattle.form_reader.specs.declared.heads.Row.{Row}
+use Rattle.std.specs.Prelude as std
+use Rattle.std.specs.Prelude.{Ok, Err}
+use Rattle.reading.specs.declared.Cursor.{Cursor}
+use Rattle.reading.specs.declared.Refusal.{Refusal}
 use Rattle.form_reader.specs.declared.heads.Headed.{Headed}
-use Rattle.form_reader.specs.declared.heads.Headed.TheVariants as HeadedIs
 use Rattle.form_reader.specs.declared.parts.Turn.{Turn}
-use Rattle.form_reader.specs.declared.parts.Turn.TheVariants.{More, Stop}
+use Rattle.form_reader.specs.declared.parts.Turn.TheVariants.{More, End}
 use Rattle.form_reader.specs.FormWords.{use_operand}
-use Rattle.form_reader.specs.FormLeads.{Lead, lead_code, named, parts_of, inner_bound, next, Filled, whole, LeadHeld, place_held, if_held}
+use Rattle.form_reader.specs.FormLeads.{Lead, lead_code, named, parts_of, inner_bound, Filled, whole, LeadHeld, place_held, if_held}
 use Rattle.form_reader.specs.FormLeads.{pack_held, literal_held, NameWord, PartsBefore, none_before, part_before}
 use Rattle.form_reader.specs.FormParts.{Job, reading, Within, Ready, Goes, Sized, SoFar, debt, TurnIs, PartsKnown, Turns, LeadRead}
-use Rattle.form_reader.specs.FormParts.{LeadAnswer, ReadsLead, PartsReady, ResultDone, ResultAnswer, ReadsResult, PartsDone}
-use Rattle.form_reader.specs.FormParts.{PartsAnswer, ReadsParts, PartBegun, TurnAnswer}
+use Rattle.form_reader.specs.FormParts.{ReadsLead, PartsReady, ResultDone, ReadsResult, PartsDone}
+use Rattle.form_reader.specs.FormParts.{ReadsParts, PartBegun, TurnAnswer, PartsGone}
 use Rattle.nodes.specs.RowLaws.{with_row, length_with_row, row_put}
 use Rattle.form_reader.proofs.PoolGrowth.{refers_later, place_rows_later, form_rows_later}
 use Rattle.form_reader.proofs.PoolGrowth.{literal_payload_later, kept_before}
@@ -96,106 +95,149 @@ lead_later k n h (literal_held x s) = literal_held (literal_payload_later k n h 
 
 -- ---- the results inside a result
 
--- what is left to read
-abbrev pub to_read : Bytes → Turn → ℕ
-to_read text (More from name more) = suc (length text - from.at)
-to_read text (Stop r) = 0
-
--- before the first of them
-module _ {values bound code : ℕ} (c : Cursor) {text : Bytes} {forms p₀ : List ℕ} (r₀ : PartsReady text forms p₀ values bound code c) where
-  so_far_none : (lead : Lead) → SoFar forms (take c.top p₀) c.begun c.begun lead no_pairs
-  so_far_none lead =
+module _
+    {left values bound code : ℕ} (c : Cursor) {text : Bytes} {s₀ p₀ : List ℕ} (r₀ : PartsReady text s₀ p₀ values bound code c) where
+  -- before the first of them
+  pub none_gone
+      : {n : ℕ} (lead : Lead) → lead_code lead ≡ code → n ≡ parts_of code → PartsGone lead left values bound text s₀ p₀ s₀ p₀ c c n
+  none_gone lead e f =
       record {
-        bound = bound;
-        rows = [];
-        held = none_before;
-        table = sym (append-nil (take (3 * c.begun) forms));
-        counted = omega arith;
-        inside = omega (arith, r₀.ready.limit, r₀.ready.rows);
+        parts = no_pairs;
+        filled =
+            subst (λ (k : ℕ). Filled lead no_pairs k) (sym f) (subst (λ (k : ℕ). Filled lead no_pairs (parts_of k)) e (start_filled lead));
+        read =
+            record {
+              run = λ x at o w. refl;
+              rows = [];
+              held = none_before;
+              goes =
+                  record {
+                    table = sym (append-nil (take (3 * c.begun) s₀));
+                    counted = omega arith;
+                    limit = r₀.ready.limit;
+                    kept = record { size = refl; front = refl };
+                  };
+              ahead = omega arith;
+              within = r₀.ready.within;
+              grows = omega arith;
+            };
+        room = omega arith;
+        sized = record { forms_kept = refl; pool_kept = refl };
       }
 
-  filled_none : (lead : Lead) → lead_code lead ≡ code → {n : ℕ} → n ≡ parts_of code → Filled lead no_pairs n
-  filled_none lead e f =
-      subst (λ (k : ℕ). Filled lead no_pairs k) (sym f) (subst (λ (k : ℕ). Filled lead no_pairs (parts_of k)) e (start_filled lead))
+  -- behind some of them
+  module _
+      {lead : Lead} (e₀ : lead_code lead ≡ code) {s p : List ℕ} {to : Cursor} {more : ℕ}
+      (g : PartsGone lead left values bound text s₀ p₀ s p c to more) where
+    so_far : SoFar s (take to.top p) c.begun to.begun lead g.parts
+    so_far =
+        let r = g.read in
+        record {
+          bound = inner_bound (lead_code lead) bound;
+          rows = r.rows;
+          held = r.held;
+          table =
+              r.goes.table
+              ∙ ap (λ (t : List ℕ). t ++ r.rows)
+              (sym
+              (front_rows s₀ s r.rows c.begun to.begun (omega (arith, r.goes.counted)) (omega (arith, r₀.ready.limit, r₀.ready.rows))
+              r.goes.table));
+          counted = r.goes.counted;
+          inside = omega (arith, r.goes.limit, r₀.ready.rows, g.sized.forms_kept);
+        }
 
-  pub start_known : {n : ℕ} → n ≡ parts_of code → PartsKnown text forms p₀ code n c.begun c
-  start_known f =
-      record {
-        placed = ready_placed r₀.ready;
-        few = omega (arith, r₀.ready.limit, r₀.ready.few);
-        lead = r₀.lead;
-        coded = r₀.coded;
-        pairs = no_pairs;
-        filled = filled_none r₀.lead r₀.coded f;
-        so_far = so_far_none r₀.lead;
-      }
+    pub next_known : PartsKnown text s p code more c.begun to
+    next_known =
+        record {
+          placed =
+              ready_placed
+              (ready_at bound to r₀.ready g.sized g.read.within g.read.goes.limit
+              (omega (arith, r₀.ready.shallow, g.read.goes.counted)) g.room);
+          few = omega (arith, g.read.goes.limit, r₀.ready.few);
+          lead = lead;
+          coded = e₀;
+          pairs = g.parts;
+          filled = g.filled;
+          so_far = so_far;
+        }
 
-  pub parts_start
-      : (left : ℕ) {n : ℕ} {p : List ℕ} {t : Turn} → n ≡ parts_of code → Turns text forms p₀ p code n c.begun c t → (lead : Lead)
-      → lead_code lead ≡ code → TurnAnswer lead left values bound text forms p₀ forms p c t
-  parts_start left {n} {p} {t} f y lead e = pick t (y.answer lead no_pairs e (filled_none lead e f) (so_far_none lead))
-    where
-      same : Sized forms p₀ forms p
-      same = record { forms_kept = refl; pool_kept = y.kept.size }
+    module _ {p' : List ℕ} {t : std.Result Turn Refusal} (z : Turns text s p p' code more c.begun to t) where
+      turn_is : TurnIs lead g.parts text p' to t
+      turn_is = z.answer lead g.parts e₀ g.filled so_far
 
-      still : (u : Cursor) → u.begun ≡ c.begun → Goes values forms p₀ forms p c.begun c u []
-      still u i =
-          record {
-            table = ap (λ (m : ℕ). take (3 * m) forms) i ∙ sym (append-nil (take (3 * c.begun) forms));
-            counted = omega (arith, i);
-            limit = omega (arith, i, r₀.ready.limit);
-            kept = y.kept;
-          }
+      pub turned : TurnAnswer lead left values bound text s₀ p₀ s p' c t
+      turned = pick t turn_is
+        where
+          then_sized : Sized s₀ p₀ s p'
+          then_sized = sized_then g.sized (record { forms_kept = refl; pool_kept = z.kept.size })
 
-      pick : (u : Turn) → TurnIs lead no_pairs text p c u → TurnAnswer lead left values bound text forms p₀ forms p c u
-      pick (More from name more) z =
-          record {
-            bytes = z.bytes;
-            frame = z.frame;
-            parts = no_pairs;
-            read =
-                record {
-                  run = λ x at o w.
-                      z.run x c.begun at o
-                      ∙ ap (λ (m : ℕ). reading x m text (want (result_open (in_form at z.frame o))) from.at) (sym z.begun);
-                  rows = [];
-                  held = none_before;
-                  goes = still from z.begun;
-                  ahead = z.ahead;
-                  within = z.within;
-                  grows = z.grows;
-                };
-            then = z.then;
-            filled = z.filled;
-            binding = λ at o i. z.binding at bound o i;
-            word = z.word;
-            room = omega (arith, z.room, z.begun);
-            sized = same;
-          }
-      pick (Stop (Done to)) z =
-          record {
-            answer =
-                record {
-                  parts = no_pairs;
-                  filled = z.filled;
-                  read =
-                      record {
-                        run = λ x at o w.
-                            z.run x c.begun at o
-                            ∙ ap (λ (m : ℕ). reading x m text (put_result (whole at lead no_pairs) o) to.at) (sym z.begun);
-                        rows = [];
-                        held = none_before;
-                        goes = still to z.begun;
-                        ahead = omega (arith, z.further);
-                        within = z.within;
-                        grows = omega (arith, z.top);
-                      };
-                  room = omega (arith, z.top, z.begun, z.further);
-                  further = z.further;
-                };
-            sized = same;
-          }
-      pick (Stop (Refused number place)) z = record { answer = λ x at o w. z x c.begun at o; sized = same }
+          on : (u : Cursor) → u.begun ≡ to.begun → Goes values s₀ p₀ s p' c.begun c u g.read.rows
+          on u k = goes_on_alone u g.read.goes z.kept g.read.grows k
+
+          pick : (u : std.Result Turn Refusal) → TurnIs lead g.parts text p' to u → TurnAnswer lead left values bound text s₀ p₀ s p' c u
+          pick (Ok (More u n k)) a =
+              record {
+                bytes = a.bytes;
+                frame = a.frame;
+                parts = g.parts;
+                read =
+                    record {
+                      run = λ x at o w.
+                          g.read.run x at o w
+                          ∙ a.run x to.begun at o
+                          ∙ ap (λ (j : ℕ). reading x j text (want (result_open (in_form at a.frame o))) u.at) (sym a.begun);
+                      rows = g.read.rows;
+                      held = parts_later z.kept u.top a.grows g.read.held;
+                      goes = on u a.begun;
+                      ahead = omega (arith, g.read.ahead, a.ahead);
+                      within = a.within;
+                      grows = omega (arith, g.read.grows, a.grows);
+                    };
+                then = a.then;
+                filled = a.filled;
+                binding = λ at o j. a.binding at bound o j;
+                word = a.word;
+                room = omega (arith, g.room, a.room, a.begun);
+                sized = then_sized;
+              }
+          pick (Ok (End u)) a =
+              record {
+                answer =
+                    record {
+                      parts = g.parts;
+                      filled = a.filled;
+                      read =
+                          record {
+                            run = λ x at o w.
+                                g.read.run x at o w
+                                ∙ a.run x to.begun at o
+                                ∙ ap (λ (j : ℕ). reading x j text (put_result (whole at lead g.parts) o) u.at) (sym a.begun);
+                            rows = g.read.rows;
+                            held = parts_later z.kept u.top (omega (arith, a.top)) g.read.held;
+                            goes = on u a.begun;
+                            ahead = omega (arith, g.read.ahead, a.further);
+                            within = a.within;
+                            grows = omega (arith, g.read.grows, a.top);
+                          };
+                      room = omega (arith, g.room, a.top, a.begun, a.further);
+                      further = omega (arith, g.read.ahead, a.further);
+                    };
+                sized = then_sized;
+              }
+          pick (Err r) a = record { answer = λ x at o w. g.read.run x at o w ∙ a x to.begun at o; sized = then_sized }
+
+    -- the next one, and where it begins
+    module _
+        {p' : List ℕ} {t : Turn} {from : Cursor} {name others : ℕ} (z : Turns text s p p' code more c.begun to (Ok t))
+        (i : t ≡ More from name others) where
+      at_more : Turns text s p p' code more c.begun to (Ok (More from name others))
+      at_more = subst (λ (u : Turn). Turns text s p p' code more c.begun to (Ok u)) i z
+
+      pub part_begun : PartBegun lead left values bound text s₀ p₀ s p' c from name others
+      part_begun = turned at_more
+
+      pub part_ahead : to.at ≤ from.at
+      part_ahead = (turn_is at_more).ahead
 
 in_part
     : {x : Job} {o : Around} {values left bound inner : ℕ} (at : ℕ) (f : Frame) → Within x o values (suc left) bound
@@ -208,9 +250,6 @@ module _
     {left values bound code name more inner : ℕ} (lead : Lead) (c from : Cursor) {text : Bytes} {s₀ p₀ s p : List ℕ}
     (r₀ : PartsReady text s₀ p₀ values bound code c) (e₀ : lead_code lead ≡ code) (e₁ : inner ≡ inner_bound code bound)
     (m : PartBegun lead left values bound text s₀ p₀ s p c from name more) where
-  inside_first : 3 * c.begun ≤ length s₀
-  inside_first = omega (arith, r₀.ready.limit, r₀.ready.rows)
-
   pub part_ready : Ready text s p values inner from
   part_ready = ⊎_elim pack other (tell (eqb code 17))
     where
@@ -243,174 +282,62 @@ module _
           let free : debt lead ≡ 0 = debt_none lead (λ i. eqb_ne h (sym e₀ ∙ i)) in
           build (omega (arith, r₀.ready.texts, m.room, m.sized.pool_kept)) (omega (arith, r₀.ready.small, m.room))
 
-  module _ {s' p' : List ℕ} {r : Part} (y : ReadsResult left values inner text s p s' p' name from r) where
-    within_part
-        : (x : Job) (at : ℕ) (o : Around) → Within x o values (suc left) bound
-        → Within x (in_form at m.frame o) values left inner
-    within_part x at o w =
-        in_part at m.frame w (m.binding at o w.bindings ∙ ap (λ (k : ℕ). inner_bound k bound) e₀ ∙ sym e₁)
+  within_part
+      : (x : Job) (at : ℕ) (o : Around) → Within x o values (suc left) bound
+      → Within x (in_form at m.frame o) values left inner
+  within_part x at o w =
+      in_part at m.frame w (m.binding at o w.bindings ∙ ap (λ (k : ℕ). inner_bound k bound) e₀ ∙ sym e₁)
 
-    pub part_refused : {number place : ℕ} → r ≡ Refused number place → ReadsParts lead left values bound text s₀ p₀ s' p' c r
-    part_refused i =
-        subst (ReadsParts lead left values bound text s₀ p₀ s' p' c) (sym i)
-        (record {
-          answer = λ x at o w.
-              m.read.run x at o w
-              ∙ subst (ResultAnswer left values inner text s p s' p' name from) i y.answer x (in_form at m.frame o)
-              (within_part x at o w);
+  pub part_refused
+      : {s' p' : List ℕ} {r : Refusal} → ReadsResult left values inner text s p s' p' name from (Err r)
+      → ReadsParts lead left values bound text s₀ p₀ s' p' c (Err r)
+  part_refused y =
+      record {
+        answer = λ x at o w. m.read.run x at o w ∙ y.answer x (in_form at m.frame o) (within_part x at o w);
+        sized = sized_then m.sized y.sized;
+      }
+
+  module _ {s' p' : List ℕ} {to : Cursor} (y : ReadsResult left values inner text s p s' p' name from (Ok to)) where
+    part_done : ResultDone left values inner text s p s' p' name from to
+    part_done = y.answer
+
+    parts : Pairs
+    parts = pair m.bytes part_done.form m.parts
+
+    -- it has been read
+    pub part_gone : PartsGone lead left values bound text s₀ p₀ s' p' c to more
+    unfolding put_result parts
+    part_gone =
+        let d = part_done in
+        record {
+          parts = parts;
+          filled = m.filled d.form;
+          read =
+              record {
+                run = λ x at o w.
+                    m.read.run x at o w
+                    ∙ d.run x (in_form at m.frame o) (within_part x at o w)
+                    ∙ ap (λ (k : Want). reading x to.begun text (want k) to.at) (m.then d.form at o);
+                rows = m.read.rows ++ d.rows;
+                held =
+                    part_before (parts_later d.goes.kept to.top d.grows m.read.held)
+                    (word_later (named lead) m.bytes name d.goes.kept to.top d.grows m.word)
+                    (subst (λ (k : ℕ). FormRows (take to.top p') k name d.form d.rows)
+                    (e₁ ∙ ap (λ (k : ℕ). inner_bound k bound) (sym e₀)) d.held);
+                goes = goes_then m.read.goes d.goes m.read.grows;
+                ahead = omega (arith, m.read.ahead, d.further);
+                within = d.within;
+                grows = omega (arith, m.read.grows, d.grows);
+              };
+          room = omega (arith, m.room, d.room, debt_le lead);
           sized = sized_then m.sized y.sized;
-        })
+        }
 
-    module _ {to : Cursor} (i : r ≡ Done to) where
-      pub part_done : ResultDone left values inner text s p s' p' name from to
-      part_done = subst (ResultAnswer left values inner text s p s' p' name from) i y.answer
+    pub part_further : from.at < to.at
+    part_further = part_done.further
 
-      all_sized : Sized s₀ p₀ s' p'
-      all_sized = sized_then m.sized y.sized
-
-      pub behind_ready : Ready text s' p' values inner to
-      behind_ready =
-          let d = part_done in
-          ready_at inner to part_ready y.sized d.within d.goes.limit
-          (omega (arith, part_ready.shallow, d.goes.counted)) (omega (arith, d.room))
-
-      parts : Pairs
-      parts = pair m.bytes part_done.form m.parts
-
-      rows : List ℕ
-      rows = m.read.rows ++ part_done.rows
-
-      held : PartsBefore (take to.top p') (inner_bound (lead_code lead) bound) (named lead) parts rows
-      unfolding parts rows
-      held =
-          let d = part_done in
-          part_before (parts_later d.goes.kept to.top d.grows m.read.held)
-          (word_later (named lead) m.bytes name d.goes.kept to.top d.grows m.word)
-          (subst (λ (k : ℕ). FormRows (take to.top p') k name d.form d.rows)
-          (e₁ ∙ ap (λ (k : ℕ). inner_bound k bound) (sym e₀)) d.held)
-
-      goes : Goes values s₀ p₀ s' p' c.begun c to rows
-      unfolding rows
-      goes = goes_then m.read.goes part_done.goes m.read.grows
-
-      so_far : SoFar s' (take to.top p') c.begun to.begun lead parts
-      unfolding rows
-      so_far =
-          record {
-            bound = inner_bound (lead_code lead) bound;
-            rows = rows;
-            held = held;
-            table =
-                goes.table
-                ∙ ap (λ (t : List ℕ). t ++ rows)
-                (sym (front_rows s₀ s' rows c.begun to.begun (omega (arith, goes.counted)) inside_first goes.table));
-            counted = goes.counted;
-            inside = omega (arith, goes.limit, r₀.ready.rows, all_sized.forms_kept);
-          }
-
-      pub next_known : PartsKnown text s' p' code more c.begun to
-      unfolding parts
-      next_known =
-          record {
-            placed = ready_placed behind_ready;
-            few = omega (arith, goes.limit, r₀.ready.few);
-            lead = lead;
-            coded = e₀;
-            pairs = parts;
-            filled = m.filled part_done.form;
-            so_far = so_far;
-          }
-
-      to_behind
-          : (x : Job) (at : ℕ) (o : Around) → Within x o values (suc left) bound
-          → reading x c.begun text (want (next lead no_pairs at o)) c.at
-          ≡ reading x to.begun text (want (next lead parts at o)) to.at
-      unfolding put_result parts
-      to_behind x at o w =
-          m.read.run x at o w
-          ∙ part_done.run x (in_form at m.frame o) (within_part x at o w)
-          ∙ ap (λ (k : Want). reading x to.begun text (want k) to.at) (m.then part_done.form at o)
-
-      pub part_read
-          : {p'' : List ℕ} {t : Turn} → Turns text s' p' p'' code more c.begun to t
-          → TurnAnswer lead left values bound text s₀ p₀ s' p'' c t
-      unfolding parts
-      part_read {p''} {t} z = pick t (z.answer lead parts e₀ (m.filled part_done.form) so_far)
-        where
-          then_sized : Sized s₀ p₀ s' p''
-          then_sized = sized_then all_sized (record { forms_kept = refl; pool_kept = z.kept.size })
-
-          on : (u : Cursor) → u.begun ≡ to.begun → Goes values s₀ p₀ s' p'' c.begun c u rows
-          on u k = goes_on_alone u goes z.kept (omega (arith, m.read.grows, part_done.grows)) k
-
-          pick : (u : Turn) → TurnIs lead parts text p'' to u → TurnAnswer lead left values bound text s₀ p₀ s' p'' c u
-          pick (More u n k) a =
-              record {
-                bytes = a.bytes;
-                frame = a.frame;
-                parts = parts;
-                read =
-                    record {
-                      run = λ x at o w.
-                          to_behind x at o w
-                          ∙ a.run x to.begun at o
-                          ∙ ap (λ (j : ℕ). reading x j text (want (result_open (in_form at a.frame o))) u.at) (sym a.begun);
-                      rows = rows;
-                      held = parts_later z.kept u.top a.grows held;
-                      goes = on u a.begun;
-                      ahead = omega (arith, m.read.ahead, part_done.further, a.ahead);
-                      within = a.within;
-                      grows = omega (arith, m.read.grows, part_done.grows, a.grows);
-                    };
-                then = a.then;
-                filled = a.filled;
-                binding = λ at o j. a.binding at bound o j;
-                word = a.word;
-                room = omega (arith, m.room, part_done.room, a.room, a.begun, debt_le lead);
-                sized = then_sized;
-              }
-          pick (Stop (Done u)) a =
-              record {
-                answer =
-                    record {
-                      parts = parts;
-                      filled = a.filled;
-                      read =
-                          record {
-                            run = λ x at o w.
-                                to_behind x at o w
-                                ∙ a.run x to.begun at o
-                                ∙ ap (λ (j : ℕ). reading x j text (put_result (whole at lead parts) o) u.at) (sym a.begun);
-                            rows = rows;
-                            held = parts_later z.kept u.top (omega (arith, a.top)) held;
-                            goes = on u a.begun;
-                            ahead = omega (arith, m.read.ahead, part_done.further, a.further);
-                            within = a.within;
-                            grows = omega (arith, m.read.grows, part_done.grows, a.top);
-                          };
-                      room = omega (arith, m.room, part_done.room, a.top, a.begun, a.further, debt_le lead);
-                      further = omega (arith, m.read.ahead, part_done.further, a.further);
-                    };
-                sized = then_sized;
-              }
-          pick (Stop (Refused number place)) a =
-              record { answer = λ x at o w. to_behind x at o w ∙ a x to.begun at o; sized = then_sized }
-
-      -- and less is left to read
-      pub part_less
-          : {p'' : List ℕ} {t : Turn} → Turns text s' p' p'' code more c.begun to t → to_read text t < suc (length text - from.at)
-      unfolding parts
-      part_less {p''} {t} z = pick t (z.answer lead parts e₀ (m.filled part_done.form) so_far)
-        where
-          pick : (u : Turn) → TurnIs lead parts text p'' to u → to_read text u < suc (length text - from.at)
-          pick (More u n k) a = omega (arith, part_done.further, part_done.within, a.ahead, a.within)
-          pick (Stop r') a = omega arith
-
-pub turns_from
-    : {text : Bytes} {forms p p' : List ℕ} {code more first n : ℕ} {c : Cursor} {t : Turn} → n ≡ first
-    → Turns text forms p p' code more first c t → Turns text forms p p' code more n c t
-turns_from {text} {forms} {p} {p'} {code} {more} {c} {t} e y =
-    subst (λ (k : ℕ). Turns text forms p p' code more k c t) (sym e) y
+    pub part_within : to.at ≤ length text
+    part_within = part_done.within
 
 -- ---- a result
 
@@ -435,129 +362,127 @@ nested_left h w =
     record { limited = record { most = w.limited.most; nests = omega (arith, w.limited.nests) }; bindings = w.bindings }
 
 module _
-    {left values bound : ℕ} (name : ℕ) (c : Cursor) {text : Bytes} {forms p₀ s p : List ℕ} {b : Headed} (r₀ : Ready text forms p₀ values bound c)
-    (y : ReadsLead left values bound text forms p₀ s p c b) where
+    {left values bound : ℕ} (name : ℕ) (c : Cursor) {text : Bytes} {forms p₀ s p : List ℕ} (r₀ : Ready text forms p₀ values bound c) where
   pub head_refused
-      : {number place : ℕ} → b ≡ HeadedIs.Refused number place → ReadsResult left values bound text forms p₀ s p name c (Refused number place)
-  head_refused e =
-      record { answer = subst (LeadAnswer left values bound text forms p₀ s p c) e y.answer; sized = y.sized }
+      : {r : Refusal} → ReadsLead left values bound text forms p₀ s p c (Err r)
+      → ReadsResult left values bound text forms p₀ s p name c (Err r)
+  head_refused y = record { answer = y.answer; sized = y.sized }
 
-  module _ {row : Row} {behind : Cursor} (e : b ≡ HeadedIs.Form row behind) where
-    pub led : LeadRead left values bound text forms p₀ s p c row behind
-    led = subst (LeadAnswer left values bound text forms p₀ s p c) e y.answer
+  module _ {h : Headed} (y : ReadsLead left values bound text forms p₀ s p c (Ok h)) where
+    led : LeadRead left values bound text forms p₀ s p c h.row h.to
+    led = y.answer
 
-    pub parts_ready : PartsReady text s p values bound row.code behind
+    pub parts_ready : PartsReady text s p values bound h.row.code h.to
     parts_ready =
-        let more : c.begun + 1 ≤ behind.begun = omega (arith, led.goes.counted) in
+        let more : c.begun + 1 ≤ h.to.begun = omega (arith, led.goes.counted) in
         record {
           ready =
-              ready_at bound behind r₀ y.sized led.within led.goes.limit (omega (arith, r₀.shallow)) (omega (arith, led.room));
+              ready_at bound h.to r₀ y.sized led.within led.goes.limit (omega (arith, r₀.shallow)) (omega (arith, led.room));
           lead = led.lead;
           coded = held_code led.held;
-          inner = omega (arith, (inner_le row.code bound).1, r₀.shallow);
+          inner = omega (arith, (inner_le h.row.code bound).1, r₀.shallow);
           spare = λ k. omega (arith, led.bare k, r₀.texts, y.sized.pool_kept);
           spare_small = λ k. omega (arith, led.bare k, r₀.small);
         }
 
+    pub parts_refused
+        : {s' p' : List ℕ} {r : Refusal}
+        → ((l : Lead) → lead_code l ≡ h.row.code → ReadsParts l (left - 1) values bound text s p s' p' h.to (Err r))
+        → ReadsResult left values bound text forms p₀ s' p' name c (Err r)
+    parts_refused z =
+        let of_lead = z led.lead (held_code led.held) in
+        record {
+          answer = λ x o w. led.run x o w ∙ of_lead.answer x h.row.place o (nested_left led.nested w);
+          sized = sized_then y.sized of_lead.sized;
+        }
+
     module _
-        {s' p' : List ℕ} {r : Part}
-        (z : (l : Lead) → lead_code l ≡ row.code → ReadsParts l (left - 1) values bound text s p s' p' behind r) where
-      of_lead : ReadsParts led.lead (left - 1) values bound text s p s' p' behind r
+        {s' p' : List ℕ} {to : Cursor}
+        (z : (l : Lead) → lead_code l ≡ h.row.code → ReadsParts l (left - 1) values bound text s p s' p' h.to (Ok to)) where
+      of_lead : ReadsParts led.lead (left - 1) values bound text s p s' p' h.to (Ok to)
       of_lead = z led.lead (held_code led.held)
 
       all_kept : Sized forms p₀ s' p'
       all_kept = sized_then y.sized of_lead.sized
 
-      pub parts_refused : {number place : ℕ} → r ≡ Refused number place → ReadsResult left values bound text forms p₀ s' p' name c r
-      parts_refused i =
-          subst (ReadsResult left values bound text forms p₀ s' p' name c) (sym i)
-          (record {
-            answer = λ x o w.
-                led.run x o w
-                ∙ subst (PartsAnswer led.lead (left - 1) values bound text s p s' p' behind) i of_lead.answer x row.place o
-                (nested_left led.nested w);
-            sized = all_kept;
-          })
+      done : PartsDone led.lead (left - 1) values bound text s p s' p' h.to to
+      done = of_lead.answer
 
-      module _ {to : Cursor} (i : r ≡ Done to) where
-        done : PartsDone led.lead (left - 1) values bound text s p s' p' behind to
-        done = subst (PartsAnswer led.lead (left - 1) values bound text s p s' p' behind) i of_lead.answer
+      both : Goes values forms p₀ s' p' (suc c.begun) c to (led.rows ++ done.read.rows)
+      both = goes_then led.goes done.read.goes led.grows
 
-        both : Goes values forms p₀ s' p' (suc c.begun) c to (led.rows ++ done.read.rows)
-        both = goes_then led.goes done.read.goes led.grows
+      -- bounds for the row
+      pub row_bounds
+          : (c.begun < to.begun) × (to.begun ≤ 32768) × (3 * c.begun + 3 ≤ length s') × (h.row.code < 32) × (h.row.operand < 64) × (h.row.place < 65536)
+      row_bounds = (
+        omega (arith, both.counted),
+        omega (arith, both.limit, r₀.few),
+        omega (arith, both.counted, both.limit, r₀.rows, all_kept.forms_kept),
+        (held_small led.held).0,
+        (held_small led.held).1,
+        omega (arith, led.near, r₀.short),
+      )
 
-        -- bounds for the row
-        pub row_bounds
-            : (c.begun < to.begun) × (to.begun ≤ 32768) × (3 * c.begun + 3 ≤ length s') × (row.code < 32) × (row.operand < 64) × (row.place < 65536)
-        row_bounds = (
-          omega (arith, both.counted),
-          omega (arith, both.limit, r₀.few),
-          omega (arith, both.counted, both.limit, r₀.rows, all_kept.forms_kept),
-          (held_small led.held).0,
-          (held_small led.held).1,
-          omega (arith, led.near, r₀.short),
-        )
+      form : Result
+      form = whole h.row.place led.lead done.parts
 
-        form : Result
-        form = whole row.place led.lead done.parts
+      all_rows : List ℕ
+      all_rows =
+          head_of h.row.code h.row.operand h.row.place (3 * result_forms form)
+          ∷ h.row.payload
+          ∷ name
+          ∷ (led.rows ++ done.read.rows)
 
-        all_rows : List ℕ
-        all_rows =
-            head_of row.code row.operand row.place (3 * result_forms form)
-            ∷ row.payload
-            ∷ name
-            ∷ (led.rows ++ done.read.rows)
+      rows_held : FormRows (take to.top p') bound name form all_rows
+      unfolding form all_rows
+      rows_held =
+          whole_rows h.row.place name (lead_later done.read.goes.kept to.top done.read.grows led.held) done.filled refl
+          (subst (λ (k : ℕ). PartsBefore (take to.top p') (inner_bound k bound) (named led.lead) done.parts done.read.rows)
+          (held_code led.held) done.read.held)
+          row_bounds.5
 
-        rows_held : FormRows (take to.top p') bound name form all_rows
-        unfolding form all_rows
-        rows_held =
-            whole_rows row.place name (lead_later done.read.goes.kept to.top done.read.grows led.held) done.filled refl
-            (subst (λ (k : ℕ). PartsBefore (take to.top p') (inner_bound k bound) (named led.lead) done.parts done.read.rows)
-            (held_code led.held) done.read.held)
-            row_bounds.5
+      size_is : 3 * (to.begun - c.begun) ≡ 3 * result_forms form
+      unfolding all_rows
+      size_is = omega (arith, length_form_rows rows_held, both.counted)
 
-        size_is : 3 * (to.begun - c.begun) ≡ 3 * result_forms form
-        unfolding all_rows
-        size_is = omega (arith, length_form_rows rows_held, both.counted)
-
-        pub result_read
-            : {s'' : List ℕ}
-            → s''
-            ≡ with_row s' c.begun (head_of row.code row.operand row.place (3 * (to.begun - c.begun))) row.payload name
-            → ReadsResult left values bound text forms p₀ s'' p' name c (Done to)
-        unfolding form all_rows
-        result_read g =
-            let h = head_of row.code row.operand row.place (3 * (to.begun - c.begun)) in
-            let room : 3 * c.begun + 3 ≤ length s' = row_bounds.2 in
-            record {
-              answer =
-                  record {
-                    form = form;
-                    run = λ x o w. led.run x o w ∙ done.read.run x row.place o (nested_left led.nested w);
-                    rows = all_rows;
-                    held = rows_held;
-                    goes =
-                        record {
-                          table =
-                              ap (λ (t : List ℕ). take (3 * to.begun) t) g
-                              ∙ row_put s' c.begun h row.payload name room forms (led.rows ++ done.read.rows) to.begun
-                              row_bounds.0 (omega (arith, r₀.rows, both.counted, both.limit)) both.table
-                              ∙ ap
-                              (λ (n : ℕ). take (3 * c.begun) forms
-                              ++ (head_of row.code row.operand row.place n ∷ row.payload ∷ name ∷ (led.rows ++ done.read.rows)))
-                              size_is;
-                          counted = omega (arith, both.counted);
-                          limit = both.limit;
-                          kept = both.kept;
-                        };
-                    further = omega (arith, led.ahead, done.further);
-                    within = done.read.within;
-                    grows = omega (arith, led.grows, done.read.grows);
-                    room = omega (arith, led.room, done.room);
-                  };
-              sized =
-                  record {
-                    forms_kept = ap length g ∙ length_with_row s' c.begun h row.payload name room ∙ all_kept.forms_kept;
-                    pool_kept = all_kept.pool_kept;
-                  };
-            }
+      pub result_read
+          : {s'' : List ℕ}
+          → s''
+          ≡ with_row s' c.begun (head_of h.row.code h.row.operand h.row.place (3 * (to.begun - c.begun))) h.row.payload name
+          → ReadsResult left values bound text forms p₀ s'' p' name c (Ok to)
+      unfolding form all_rows
+      result_read g =
+          let w = head_of h.row.code h.row.operand h.row.place (3 * (to.begun - c.begun)) in
+          let room : 3 * c.begun + 3 ≤ length s' = row_bounds.2 in
+          record {
+            answer =
+                record {
+                  form = form;
+                  run = λ x o v. led.run x o v ∙ done.read.run x h.row.place o (nested_left led.nested v);
+                  rows = all_rows;
+                  held = rows_held;
+                  goes =
+                      record {
+                        table =
+                            ap (λ (t : List ℕ). take (3 * to.begun) t) g
+                            ∙ row_put s' c.begun w h.row.payload name room forms (led.rows ++ done.read.rows) to.begun
+                            row_bounds.0 (omega (arith, r₀.rows, both.counted, both.limit)) both.table
+                            ∙ ap
+                            (λ (n : ℕ). take (3 * c.begun) forms
+                            ++ (head_of h.row.code h.row.operand h.row.place n ∷ h.row.payload ∷ name ∷ (led.rows ++ done.read.rows)))
+                            size_is;
+                        counted = omega (arith, both.counted);
+                        limit = both.limit;
+                        kept = both.kept;
+                      };
+                  further = omega (arith, led.ahead, done.further);
+                  within = done.read.within;
+                  grows = omega (arith, led.grows, done.read.grows);
+                  room = omega (arith, led.room, done.room);
+                };
+            sized =
+                record {
+                  forms_kept = ap length g ∙ length_with_row s' c.begun w h.row.payload name room ∙ all_kept.forms_kept;
+                  pool_kept = all_kept.pool_kept;
+                };
+          }

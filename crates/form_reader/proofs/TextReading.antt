@@ -1,7 +1,7 @@
 -- Answers for a whole reader, and for a place alone. Assumes nothing.
 use Prim.Native.Nat.{ℕ, ◌+◌, ◌*◌, ◌≤◌, ◌<◌}
 use mathlib.Core.Path.{◌≡◌, refl, sym, ◌∙◌, ap, subst}
-use mathlib.Core.List.{List, ◌∷◌, ◌++◌}
+use mathlib.Core.List.{List, [], ◌∷◌, ◌++◌}
 use native.Mathlib.Omega.{arith}
 use lib.Dec.{lit<}
 use lib.ListN.{length, take, drop, length-drop}
@@ -18,22 +18,18 @@ use Rattle.nodes.specs.Nodes.{number_bits}
 use Rattle.forms.specs.Forms.{literal_code, form_code, form_operand, form_at, head_of, null_payload, PlaceRows, FormRows, literal_row}
 use Rattle.forms.specs.FormsLaws.{length_place_rows, length_form_rows}
 use Rattle.tokens.specs.TokenRead.{tokens_from}
-use Rattle.tokens.specs.Expecting.{Kept, EndAnswer, ExpectsEnd}
+use Rattle.tokens.specs.Expecting.{Kept, MoreAt}
 use Rattle.tokens.specs.ReadingLaws as Laws
-use Rattle.tokens.specs.declared.expect.Ending.{Ending}
-use Rattle.tokens.specs.declared.expect.Ending.TheVariants as EndingIs
-use Rattle.form_reader.specs.declared.reading.Cursor.{Cursor}
-use Rattle.form_reader.specs.declared.reading.Part.{Part}
-use Rattle.form_reader.specs.declared.reading.Part.TheVariants.{Done, Refused}
-use Rattle.form_reader.specs.declared.FormsRead.TheVariants as FormsAre
-use Rattle.form_reader.specs.FormParts.{a_reader, a_place, finished, Job, reading, Within, PlaceWithin, Ready, PlaceDone, PlaceAnswer}
-use Rattle.form_reader.specs.FormParts.{ReadsPlace, ResultDone, ResultAnswer, ReadsResult}
-use Rattle.form_reader.specs.FormReads.{Tables, HasToken, PoolUsed, ReadsReader, ReadsLonePlace}
+use Rattle.std.specs.Prelude as std
+use Rattle.std.specs.Prelude.{Ok, Err}
+use Rattle.reading.specs.declared.Cursor.{Cursor}
+use Rattle.reading.specs.declared.Extent.{Extent}
+use Rattle.reading.specs.declared.Refusal.{Refusal}
+use Rattle.form_reader.specs.FormParts.{a_reader, a_place, finished, Job, reading, Within, PlaceWithin, Ready, PlaceDone}
+use Rattle.form_reader.specs.FormParts.{ReadsPlace, ResultDone, ReadsResult}
+use Rattle.form_reader.specs.FormReads.{Tables, HasToken, PoolUsed, ReaderAnswer, LoneAnswer, ReadsReader, ReadsLonePlace, WholeText}
+use Rattle.form_reader.specs.FormReads.{FormsEnd, EndsForms}
 use Rattle.form_reader.proofs.PlaceReading.{ready_at}
-
--- where a text begins
-abbrev start_at : ℕ → Cursor
-start_at top = record { at = 0; begun = 0; top = top }
 
 pub start_ready
     : {text : Bytes} {s p : List ℕ} {top values : ℕ} → Tables text s p top values
@@ -52,14 +48,14 @@ start_ready t =
 
 -- what of the pool is used behind a whole text
 pool_used
-    : {text : Bytes} {s p p' : List ℕ} {top values : ℕ} (to : Cursor) → Ready text s p' values 1 to → Kept p p' top → top ≤ to.top
-    → 8 * to.top ≤ to.at + 5 * to.begun + 8 * top → PoolUsed text p p' top (3 * to.begun) to.top
-pool_used to r k g h =
+    : {text : Bytes} {s p p' : List ℕ} {top values : ℕ} (to : Cursor) (x : Extent) → Ready text s p' values 1 to → Kept p p' top
+    → top ≤ to.top → 8 * to.top ≤ to.at + 5 * to.begun + 8 * top → WholeText text to x → PoolUsed text p p' top x.words x.top
+pool_used to x r k g h w =
     record {
-      grows = g;
-      bounded = omega (arith, h, r.within);
-      within = omega (arith, r.texts, r.within, r.limit);
-      small = omega (arith, r.small, r.within, r.limit);
+      grows = omega (arith, g, w.top);
+      bounded = omega (arith, h, r.within, w.words, w.top);
+      within = omega (arith, r.texts, r.within, r.limit, w.top);
+      small = omega (arith, r.small, r.within, r.limit, w.top);
       front = k.front;
     }
 
@@ -79,22 +75,21 @@ module _ (l : Limits) (text : Bytes) where
   reader_limits = record { limited = record { most = refl; nests = omega arith }; bindings = refl }
 
 module _
-    {text : Bytes} {s p s' p' : List ℕ} {top : ℕ} (l : Limits) {r : Part} (t : Tables text s p top l.values) (h : HasToken text)
-    (x : ReadsResult l.nesting l.values 1 text s p s' p' 0 (record { at = 0; begun = 0; top = top }) r) where
+    {text : Bytes} {s p s' p' : List ℕ} {top : ℕ} (l : Limits) (t : Tables text s p top l.values) (h : HasToken text) where
   pub reader_refused
-      : {number place : ℕ} → r ≡ Refused number place → ReadsReader l text s p s' p' top (FormsAre.Refused number place)
-  reader_refused e =
+      : {r : Refusal} → ReadsResult l.nesting l.values 1 text s p s' p' 0 (record { at = 0; begun = 0; top = top }) (Err r)
+      → ReadsReader l text s p s' p' top (Err r)
+  reader_refused x =
       record {
-        answer =
-            reader_begins l text h
-            ∙ subst (ResultAnswer l.nesting l.values 1 text s p s' p' 0 (start_at top)) e x.answer (reader_job l) text_end (reader_limits l text);
+        answer = reader_begins l text h ∙ x.answer (reader_job l) text_end (reader_limits l text);
         forms_kept = x.sized.forms_kept;
         pool_kept = x.sized.pool_kept;
       }
 
-  module _ {to : Cursor} (e : r ≡ Done to) where
+  module _
+      {to : Cursor} (x : ReadsResult l.nesting l.values 1 text s p s' p' 0 (record { at = 0; begun = 0; top = top }) (Ok to)) where
     reader_done : ResultDone l.nesting l.values 1 text s p s' p' 0 (record { at = 0; begun = 0; top = top }) to
-    reader_done = subst (ResultAnswer l.nesting l.values 1 text s p s' p' 0 (start_at top)) e x.answer
+    reader_done = x.answer
 
     pub reader_end : Ready text s' p' l.values 1 to
     reader_end =
@@ -105,51 +100,34 @@ module _
     unfolding put_result
     to_reader_end = reader_begins l text h ∙ reader_done.run (reader_job l) text_end (reader_limits l text)
 
-    module _ {k : Ending} (y : ExpectsEnd text to.at k) where
-      pub reader_more
-          : {place : ℕ} → k ≡ EndingIs.More place → ReadsReader l text s p s' p' top (FormsAre.Refused 7 place)
-      unfolding reading step
-      reader_more i =
-          record {
-            answer =
-                to_reader_end
-                ∙ Laws.more_text step (finished a_reader) l to.begun (whole_result reader_done.form)
-                (subst (EndAnswer text to.at) i y.answer) (λ u. refl);
-            forms_kept = x.sized.forms_kept;
-            pool_kept = x.sized.pool_kept;
-          }
+    -- where more stands behind it, and where it is the whole text
+    reader_answer : (r : std.Result Extent Refusal) → FormsEnd text to r → ReaderAnswer l text s' p p' top r
+    unfolding reading step or_end finished finished_result
+    reader_answer (Err r) y =
+        to_reader_end ∙ Laws.more_text step (finished a_reader) l to.begun (whole_result reader_done.form) y (λ u. refl)
+    reader_answer (Ok e) y =
+        let d = reader_done in
+        let rows_are : take e.words s' ≡ d.rows = ap (λ (n : ℕ). take n s') y.words ∙ d.goes.table in
+        record {
+          form = d.form;
+          read =
+              to_reader_end ∙ Laws.whole_text step (finished a_reader) l to.begun text to.at (whole_result d.form) y.over;
+          held =
+              subst (λ (n : ℕ). FormRows (take n p') 1 0 d.form (take e.words s')) (sym y.top)
+              (subst (λ (q : List ℕ). FormRows (take to.top p') 1 0 d.form q) (sym rows_are) d.held);
+          counted = omega (arith, d.goes.counted, length_form_rows d.held, y.words);
+          used = pool_used to e reader_end d.goes.kept d.grows (omega (arith, d.room)) y;
+        }
 
-      pub reader_whole
-          : k ≡ EndingIs.Whole → ReadsReader l text s p s' p' top (FormsAre.Read (3 * to.begun) to.top)
-      unfolding reading or_end finished finished_result
-      reader_whole i =
-          let d = reader_done in
-          let rows_are : take (3 * to.begun) s' ≡ d.rows = d.goes.table in
-          record {
-            answer =
-                record {
-                  form = d.form;
-                  read =
-                      to_reader_end
-                      ∙ Laws.whole_text step (finished a_reader) l to.begun text to.at (whole_result d.form)
-                      (subst (EndAnswer text to.at) i y.answer);
-                  held =
-                      subst (λ (q : List ℕ). FormRows (take to.top p') 1 0 d.form q) (sym rows_are) d.held;
-                  counted = omega (arith, d.goes.counted, length_form_rows d.held);
-                  used = pool_used to reader_end d.goes.kept d.grows (omega (arith, d.room));
-                };
-            forms_kept = x.sized.forms_kept;
-            pool_kept = x.sized.pool_kept;
-          }
+    pub reader_ended : {r : std.Result Extent Refusal} → EndsForms text to r → ReadsReader l text s p s' p' top r
+    reader_ended {r} y = record { answer = reader_answer r y.answer; forms_kept = x.sized.forms_kept; pool_kept = x.sized.pool_kept }
 
 -- ---- a text with no token, and one with some
 
 -- what stands there is a token
-pub more_begun : {text : Bytes} {k : Ending} {place : ℕ} → ExpectsEnd text 0 k → k ≡ EndingIs.More place → HasToken text
+pub more_begun : {text : Bytes} {r : Refusal} → MoreAt text 0 r → HasToken text
 unfolding tokens tokens_from
-more_begun {text} {place = place} y i =
-    let x = subst (EndAnswer text 0) i y.answer in
-    record { first = at_place place x.token; others = x.others; run = x.run }
+more_begun {r} x = record { first = at_place r.place x.token; others = x.others; run = x.run }
 
 module _ {text : Bytes} {s p : List ℕ} {top : ℕ} (l : Limits) (t : Tables text s p top l.values) (some : 0 < l.values) where
   pub none_room : 0 + 3 ≤ length s
@@ -167,17 +145,17 @@ module _ {text : Bytes} {s p : List ℕ} {top : ℕ} (l : Limits) (t : Tables te
 
   -- `(none)` stands in the first row
   pub none_read
-      : {s' : List ℕ} {k : Ending} → ExpectsEnd text 0 k → k ≡ EndingIs.Whole → s' ≡ take 0 s ++ head_of 16 0 0 3 ∷ 0 ∷ 0 ∷ drop 3 s
-      → ReadsReader l text s p s' p top (FormsAre.Read 3 top)
+      : {s' : List ℕ} → tokens_from text 0 ≡ [] → s' ≡ take 0 s ++ head_of 16 0 0 3 ∷ 0 ∷ 0 ∷ drop 3 s
+      → ReadsReader l text s p s' p top (Ok (record { words = 3; top = top }))
   unfolding tokens tokens_from form_code literal_code form_operand form_at number_bits result_forms
-  none_read {s'} y i e =
+  none_read {s'} y e =
       record {
         answer =
             record {
               form = Result.literal 0 Value.null;
               read =
                   reader_accepted_from l text (Result.literal 0 Value.null)
-                  (subst (λ (ts : List Placed). ReaderWithin l ts (Result.literal 0 Value.null)) (sym (subst (EndAnswer text 0) i y.answer)) no_token);
+                  (subst (λ (ts : List Placed). ReaderWithin l ts (Result.literal 0 Value.null)) (sym y) no_token);
               held =
                   subst (λ (q : List ℕ). FormRows (take top p) 1 0 (Result.literal 0 Value.null) (take 3 q)) (sym e)
                   (literal_row (record { word = refl; short = lit< tt; near = lit< tt }) null_payload);
@@ -205,24 +183,20 @@ module _ (l : Limits) (text : Bytes) where
   unfolding place_depth place_bindings
   place_limits = record { limited = record { most = refl; nests = omega arith }; bindings = refl }
 
-module _
-    {text : Bytes} {s p s' p' : List ℕ} {top : ℕ} (l : Limits) {r : Part} (t : Tables text s p top l.values)
-    (x : ReadsPlace l.nesting l.values 1 text s p s' p' (record { at = 0; begun = 0; top = top }) r) where
+module _ {text : Bytes} {s p s' p' : List ℕ} {top : ℕ} (l : Limits) (t : Tables text s p top l.values) where
   pub place_refused
-      : {number place : ℕ} → r ≡ Refused number place → ReadsLonePlace l text s p s' p' top (FormsAre.Refused number place)
-  place_refused e =
+      : {r : Refusal} → ReadsPlace l.nesting l.values 1 text s p s' p' (record { at = 0; begun = 0; top = top }) (Err r)
+      → ReadsLonePlace l text s p s' p' top (Err r)
+  place_refused x =
       record {
-        answer =
-            place_begins l text
-            ∙ subst (PlaceAnswer (λ o. place_open o) l.nesting l.values 1 text s p s' p' 0 (start_at top)) e x.answer (place_job l) place_end
-            (place_limits l text);
+        answer = place_begins l text ∙ x.answer (place_job l) place_end (place_limits l text);
         forms_kept = x.sized.forms_kept;
         pool_kept = x.sized.pool_kept;
       }
 
-  module _ {to : Cursor} (e : r ≡ Done to) where
+  module _ {to : Cursor} (x : ReadsPlace l.nesting l.values 1 text s p s' p' (record { at = 0; begun = 0; top = top }) (Ok to)) where
     place_done : PlaceDone (λ o. place_open o) l.nesting l.values 1 text s p s' p' 0 (record { at = 0; begun = 0; top = top }) to
-    place_done = subst (PlaceAnswer (λ o. place_open o) l.nesting l.values 1 text s p s' p' 0 (start_at top)) e x.answer
+    place_done = x.answer
 
     pub place_end_ready : Ready text s' p' l.values 1 to
     place_end_ready =
@@ -233,39 +207,23 @@ module _
     unfolding put_place
     to_place_end = place_begins l text ∙ place_done.run (place_job l) place_end (place_limits l text)
 
-    module _ {k : Ending} (y : ExpectsEnd text to.at k) where
-      pub place_more
-          : {place : ℕ} → k ≡ EndingIs.More place → ReadsLonePlace l text s p s' p' top (FormsAre.Refused 7 place)
-      unfolding reading step
-      place_more i =
-          record {
-            answer =
-                to_place_end
-                ∙ Laws.more_text step (finished a_place) l to.begun (whole_place place_done.place)
-                (subst (EndAnswer text to.at) i y.answer) (λ u. refl);
-            forms_kept = x.sized.forms_kept;
-            pool_kept = x.sized.pool_kept;
-          }
+    -- where more stands behind it, and where it is the whole text
+    place_answer : (r : std.Result Extent Refusal) → FormsEnd text to r → LoneAnswer l text s' p p' top r
+    unfolding reading step or_end finished finished_place
+    place_answer (Err r) y =
+        to_place_end ∙ Laws.more_text step (finished a_place) l to.begun (whole_place place_done.place) y (λ u. refl)
+    place_answer (Ok e) y =
+        let d = place_done in
+        let rows_are : take e.words s' ≡ d.rows = ap (λ (n : ℕ). take n s') y.words ∙ d.goes.table in
+        record {
+          form = d.place;
+          read = to_place_end ∙ Laws.whole_text step (finished a_place) l to.begun text to.at (whole_place d.place) y.over;
+          held =
+              subst (λ (n : ℕ). PlaceRows (take n p') 1 d.place (take e.words s')) (sym y.top)
+              (subst (λ (q : List ℕ). PlaceRows (take to.top p') 1 d.place q) (sym rows_are) d.held);
+          counted = omega (arith, d.goes.counted, length_place_rows d.held, y.words);
+          used = pool_used to e place_end_ready d.goes.kept d.grows (omega (arith, d.room)) y;
+        }
 
-      pub place_whole
-          : k ≡ EndingIs.Whole → ReadsLonePlace l text s p s' p' top (FormsAre.Read (3 * to.begun) to.top)
-      unfolding reading or_end finished finished_place
-      place_whole i =
-          let d = place_done in
-          let rows_are : take (3 * to.begun) s' ≡ d.rows = d.goes.table in
-          record {
-            answer =
-                record {
-                  form = d.place;
-                  read =
-                      to_place_end
-                      ∙ Laws.whole_text step (finished a_place) l to.begun text to.at (whole_place d.place)
-                      (subst (EndAnswer text to.at) i y.answer);
-                  held =
-                      subst (λ (q : List ℕ). PlaceRows (take to.top p') 1 d.place q) (sym rows_are) d.held;
-                  counted = omega (arith, d.goes.counted, length_place_rows d.held);
-                  used = pool_used to place_end_ready d.goes.kept d.grows (omega (arith, d.room));
-                };
-            forms_kept = x.sized.forms_kept;
-            pool_kept = x.sized.pool_kept;
-          }
+    pub place_ended : {r : std.Result Extent Refusal} → EndsForms text to r → ReadsLonePlace l text s p s' p' top r
+    place_ended {r} y = record { answer = place_answer r y.answer; forms_kept = x.sized.forms_kept; pool_kept = x.sized.pool_kept }

@@ -1,21 +1,23 @@
 -- Words of readers, looked up. Assumes nothing.
-use Prim.Native.Nat.{ℕ, ◌≤◌, ◌<◌}
-use mathlib.Core.Path.{◌≡◌, refl, sym, ap, ◌∙◌}
+use Prim.Native.Nat.{ℕ, ◌≤◌}
+use mathlib.Core.Path.{◌≡◌, refl, sym, ap, ◌∙◌, subst}
 use mathlib.Core.Bool.{true, false}
 use mathlib.Core.List.{List, [], ◌∷◌}
 use mathlib.Core.Option.{Option, none, some}
+use Rattle.std.specs.Prelude as std
+use Rattle.std.specs.Prelude.{Some, None}
 use native.Mathlib.Omega.{arith}
 use lib.ListN.{length}
 use Rattle.definitions.specs.Bytes.{Bytes, bytes, order, same}
 use Rattle.definitions.specs.Tokens.{Named, named, look_word}
 use Rattle.definitions.specs.Value.{Value}
-use Rattle.definitions.specs.Reader.{to_int, to_dec, to_bool, to_text, Test, Result, no_pairs, if_first, Around, in_form, PlaceUse, converts, keeps}
-use Rattle.definitions.specs.Reader.{counts, maps, tests, in_result, Want, place_open, it_index, field_name, result_open, when_test, num_number}
+use Rattle.definitions.specs.Reader.{to_int, to_dec, to_bool, to_text, Test, Result, no_pairs, if_first, Around, in_form, converts, keeps}
+use Rattle.definitions.specs.Reader.{counts, maps, in_result, Want, place_open, it_index, field_name, result_open, when_test, num_number}
 use Rattle.definitions.specs.Reader.{str_text, pack_name, result_close, test_words, place_words, result_words}
 use Rattle.forms.specs.Forms.{conversion_code, test_code}
 use Rattle.form_reader.specs.FormWords.{test_or_none, PlaceSays, says_it, says_field, says_no_place, use_code, Started, starts_use}
 use Rattle.form_reader.specs.FormWords.{starts_when, starts_if, starts_num, starts_str, starts_yes, starts_no, starts_none, starts_pack}
-use Rattle.form_reader.specs.FormWords.{use_words, UseSays, says_use, says_no_use, ResultSays, says_result, says_no_result}
+use Rattle.form_reader.specs.FormWords.{ResultSays, says_result, says_no_result}
 
 -- ---- a table
 
@@ -39,42 +41,42 @@ looked (found_as e) = e
 -- ---- K
 
 module _ (w : Bytes) where
-  test_row : {t : Test} (n : Bytes) → look_word test_words n ≡ some t → w ≡ n → test_code t ≡ test_or_none (look_word test_words w)
+  test_row : {t : Test} (n : Bytes) → look_word test_words n ≡ some t → w ≡ n → Some (test_code t) ≡ test_or_none (look_word test_words w)
   unfolding test_or_none
   test_row n f e = sym (ap test_or_none (looked (spelled n e f)))
 
-  pub null_told : w ≡ bytes "null" → 0 ≡ test_or_none (look_word test_words w)
+  pub null_told : w ≡ bytes "null" → Some 0 ≡ test_or_none (look_word test_words w)
   unfolding look_word test_words bytes same order test_code
   null_told e = test_row {t = Test.null} (bytes "null") refl e
 
-  pub bool_told : w ≡ bytes "bool" → 1 ≡ test_or_none (look_word test_words w)
+  pub bool_told : w ≡ bytes "bool" → Some 1 ≡ test_or_none (look_word test_words w)
   unfolding look_word test_words bytes same order test_code
   bool_told e = test_row {t = Test.bool} (bytes "bool") refl e
 
-  pub int_told : w ≡ bytes "int" → 2 ≡ test_or_none (look_word test_words w)
+  pub int_told : w ≡ bytes "int" → Some 2 ≡ test_or_none (look_word test_words w)
   unfolding look_word test_words bytes same order test_code
   int_told e = test_row {t = Test.int} (bytes "int") refl e
 
-  pub num_told : w ≡ bytes "num" → 3 ≡ test_or_none (look_word test_words w)
+  pub num_told : w ≡ bytes "num" → Some 3 ≡ test_or_none (look_word test_words w)
   unfolding look_word test_words bytes same order test_code
   num_told e = test_row {t = Test.num} (bytes "num") refl e
 
-  pub text_told : w ≡ bytes "text" → 4 ≡ test_or_none (look_word test_words w)
+  pub text_told : w ≡ bytes "text" → Some 4 ≡ test_or_none (look_word test_words w)
   unfolding look_word test_words bytes same order test_code
   text_told e = test_row {t = Test.text} (bytes "text") refl e
 
-  pub list_told : w ≡ bytes "list" → 5 ≡ test_or_none (look_word test_words w)
+  pub list_told : w ≡ bytes "list" → Some 5 ≡ test_or_none (look_word test_words w)
   unfolding look_word test_words bytes same order test_code
   list_told e = test_row {t = Test.list} (bytes "list") refl e
 
-  pub rec_told : w ≡ bytes "rec" → 6 ≡ test_or_none (look_word test_words w)
+  pub rec_told : w ≡ bytes "rec" → Some 6 ≡ test_or_none (look_word test_words w)
   unfolding look_word test_words bytes same order test_code
   rec_told e = test_row {t = Test.rec} (bytes "rec") refl e
 
   pub no_test_told
       : same w (bytes "null") ≡ false → same w (bytes "bool") ≡ false → same w (bytes "int") ≡ false → same w (bytes "num") ≡ false
       → same w (bytes "text") ≡ false → same w (bytes "list") ≡ false → same w (bytes "rec") ≡ false
-      → 7 ≡ test_or_none (look_word test_words w)
+      → None ≡ test_or_none (look_word test_words w)
   unfolding test_or_none test_words
   no_test_told a b c d e f g =
       sym (ap test_or_none (looked (past a (past b (past c (past d (past e (past f (past g at_end)))))))))
@@ -85,21 +87,21 @@ it_row : look_word place_words (bytes "it") ≡ some (λ at o. it_index at o)
 unfolding look_word place_words bytes same order
 it_row = refl
 
-pub it_told : (w : Bytes) → w ≡ bytes "it" → PlaceSays w 1
+pub it_told : (w : Bytes) → w ≡ bytes "it" → PlaceSays w (Some 1)
 it_told w e = says_it (looked (spelled (bytes "it") e it_row))
 
 field_row : look_word place_words (bytes "field") ≡ some (λ at o. field_name at o)
 unfolding look_word place_words bytes same order
 field_row = refl
 
-pub field_told : (w : Bytes) → w ≡ bytes "field" → PlaceSays w 2
+pub field_told : (w : Bytes) → w ≡ bytes "field" → PlaceSays w (Some 2)
 field_told w e = says_field (looked (spelled (bytes "field") e field_row))
 
 no_place_row : {w : Bytes} → same w (bytes "it") ≡ false → same w (bytes "field") ≡ false → Looks w place_words none
 unfolding place_words
 no_place_row e f = past e (past f at_end)
 
-pub no_place_told : (w : Bytes) → same w (bytes "it") ≡ false → same w (bytes "field") ≡ false → PlaceSays w 0
+pub no_place_told : (w : Bytes) → same w (bytes "it") ≡ false → same w (bytes "field") ≡ false → PlaceSays w None
 no_place_told w e f = says_no_place (looked (no_place_row e f))
 
 -- ---- results
@@ -164,107 +166,87 @@ pack_row : look_word result_words (bytes "pack") ≡ some (λ at o. pack_name at
 unfolding look_word result_words bytes same order
 pack_row = refl
 
-pub use_code_some : (u : PlaceUse) → 0 < use_code u
-unfolding use_code conversion_code
-use_code_some (converts to_int) = omega arith
-use_code_some (converts to_dec) = omega arith
-use_code_some (converts to_bool) = omega arith
-use_code_some (converts to_text) = omega arith
-use_code_some keeps = omega arith
-use_code_some counts = omega arith
-use_code_some maps = omega arith
-use_code_some (tests k) = omega arith
-
-pub started_some : {k : ℕ} {f : ℕ → Around → Want} → Started k f → 0 < k
-started_some (starts_use {u} l) = use_code_some u
-started_some starts_when = omega arith
-started_some starts_if = omega arith
-started_some starts_num = omega arith
-started_some starts_str = omega arith
-started_some starts_yes = omega arith
-started_some starts_no = omega arith
-started_some starts_none = omega arith
-started_some starts_pack = omega arith
-
 module _ (w : Bytes) where
-  pub int_used : w ≡ bytes "int" → UseSays w 3
-  unfolding use_code conversion_code
-  int_used e = says_use {u = converts to_int} (looked (spelled (bytes "int") e int_row)) (omega arith)
-
-  pub dec_used : w ≡ bytes "dec" → UseSays w 4
-  unfolding use_code conversion_code
-  dec_used e = says_use {u = converts to_dec} (looked (spelled (bytes "dec") e dec_row)) (omega arith)
-
-  pub bool_used : w ≡ bytes "bool" → UseSays w 5
-  unfolding use_code conversion_code
-  bool_used e = says_use {u = converts to_bool} (looked (spelled (bytes "bool") e bool_row)) (omega arith)
-
-  pub text_used : w ≡ bytes "text" → UseSays w 6
-  unfolding use_code conversion_code
-  text_used e = says_use {u = converts to_text} (looked (spelled (bytes "text") e text_row)) (omega arith)
-
-  pub keep_used : w ≡ bytes "keep" → UseSays w 7
-  unfolding use_code conversion_code
-  keep_used e = says_use {u = keeps} (looked (spelled (bytes "keep") e keep_row)) (omega arith)
-
-  pub count_used : w ≡ bytes "count" → UseSays w 8
-  unfolding use_code conversion_code
-  count_used e = says_use {u = counts} (looked (spelled (bytes "count") e count_row)) (omega arith)
-
-  pub each_used : w ≡ bytes "each" → UseSays w 9
-  unfolding use_code conversion_code
-  each_used e = says_use {u = maps} (looked (spelled (bytes "each") e each_row)) (omega arith)
-
-  pub none_used
-      : same w (bytes "int") ≡ false → same w (bytes "dec") ≡ false → same w (bytes "bool") ≡ false → same w (bytes "text") ≡ false
-      → same w (bytes "keep") ≡ false → same w (bytes "count") ≡ false → same w (bytes "each") ≡ false
-      → UseSays w 0
-  unfolding use_words
-  none_used a b c d e f g =
-      says_no_use (λ rows. looked (past a (past b (past c (past d (past e (past f (past g (found_as refl)))))))))
-
   -- any code but that of `str` tells no length
   other_length : {k : ℕ} → (k ≡ 13 → ⊥) → k ≡ 13 → 3 ≤ length w
   other_length h e = absurd (h e)
 
-  pub when_says : w ≡ bytes "when" → ResultSays w 10
+  pub int_says : w ≡ bytes "int" → ResultSays w (Some 3)
+  unfolding use_code conversion_code
+  int_says e =
+      says_result (looked (spelled (bytes "int") e int_row)) (starts_use {u = converts to_int} (omega arith)) (other_length (λ i. omega arith))
+
+  pub dec_says : w ≡ bytes "dec" → ResultSays w (Some 4)
+  unfolding use_code conversion_code
+  dec_says e =
+      says_result (looked (spelled (bytes "dec") e dec_row)) (starts_use {u = converts to_dec} (omega arith)) (other_length (λ i. omega arith))
+
+  pub bool_says : w ≡ bytes "bool" → ResultSays w (Some 5)
+  unfolding use_code conversion_code
+  bool_says e =
+      says_result (looked (spelled (bytes "bool") e bool_row)) (starts_use {u = converts to_bool} (omega arith)) (other_length (λ i. omega arith))
+
+  pub text_says : w ≡ bytes "text" → ResultSays w (Some 6)
+  unfolding use_code conversion_code
+  text_says e =
+      says_result (looked (spelled (bytes "text") e text_row)) (starts_use {u = converts to_text} (omega arith)) (other_length (λ i. omega arith))
+
+  pub keep_says : w ≡ bytes "keep" → ResultSays w (Some 7)
+  unfolding use_code conversion_code
+  keep_says e =
+      says_result (looked (spelled (bytes "keep") e keep_row)) (starts_use {u = keeps} (omega arith)) (other_length (λ i. omega arith))
+
+  pub count_says : w ≡ bytes "count" → ResultSays w (Some 8)
+  unfolding use_code conversion_code
+  count_says e =
+      says_result (looked (spelled (bytes "count") e count_row)) (starts_use {u = counts} (omega arith)) (other_length (λ i. omega arith))
+
+  pub each_says : w ≡ bytes "each" → ResultSays w (Some 9)
+  unfolding use_code conversion_code
+  each_says e =
+      says_result (looked (spelled (bytes "each") e each_row)) (starts_use {u = maps} (omega arith)) (other_length (λ i. omega arith))
+
+  pub when_says : w ≡ bytes "when" → ResultSays w (Some 10)
   when_says e = says_result (looked (spelled (bytes "when") e when_row)) starts_when (other_length (λ i. omega arith))
 
-  pub if_says : w ≡ bytes "if" → ResultSays w 11
+  pub if_says : w ≡ bytes "if" → ResultSays w (Some 11)
   if_says e = says_result (looked (spelled (bytes "if") e if_row)) starts_if (other_length (λ i. omega arith))
 
-  pub num_says : w ≡ bytes "num" → ResultSays w 12
+  pub num_says : w ≡ bytes "num" → ResultSays w (Some 12)
   num_says e = says_result (looked (spelled (bytes "num") e num_row)) starts_num (other_length (λ i. omega arith))
 
-  pub str_says : w ≡ bytes "str" → ResultSays w 13
+  pub str_says : w ≡ bytes "str" → ResultSays w (Some 13)
   unfolding bytes
   str_says e = says_result (looked (spelled (bytes "str") e str_row)) starts_str (λ i. omega (arith, ap length e))
 
-  pub yes_says : w ≡ bytes "yes" → ResultSays w 14
+  pub yes_says : w ≡ bytes "yes" → ResultSays w (Some 14)
   yes_says e = says_result (looked (spelled (bytes "yes") e yes_row)) starts_yes (other_length (λ i. omega arith))
 
-  pub no_says : w ≡ bytes "no" → ResultSays w 15
+  pub no_says : w ≡ bytes "no" → ResultSays w (Some 15)
   no_says e = says_result (looked (spelled (bytes "no") e no_row)) starts_no (other_length (λ i. omega arith))
 
-  pub none_says : w ≡ bytes "none" → ResultSays w 16
+  pub none_says : w ≡ bytes "none" → ResultSays w (Some 16)
   none_says e = says_result (looked (spelled (bytes "none") e none_row)) starts_none (other_length (λ i. omega arith))
 
-  pub pack_says : w ≡ bytes "pack" → ResultSays w 17
+  pub pack_says : w ≡ bytes "pack" → ResultSays w (Some 17)
   pack_says e = says_result (looked (spelled (bytes "pack") e pack_row)) starts_pack (other_length (λ i. omega arith))
 
-  pub use_says
-      : {k : ℕ} → UseSays w k
-      → same w (bytes "when") ≡ false → same w (bytes "if") ≡ false → same w (bytes "num") ≡ false → same w (bytes "str") ≡ false
-      → same w (bytes "yes") ≡ false → same w (bytes "no") ≡ false → same w (bytes "none") ≡ false → same w (bytes "pack") ≡ false
-      → ResultSays w k
-  unfolding use_words result_words
-  use_says (says_use {u} x l) a b c d e f g h = says_result x (starts_use l) (other_length (λ i. omega arith))
-  use_says (says_no_use x) a b c d e f g h =
-      says_no_result (x _ ∙ looked (past a (past b (past c (past d (past e (past f (past g (past h at_end)))))))))
+  pub no_result_says
+      : same w (bytes "int") ≡ false → same w (bytes "dec") ≡ false → same w (bytes "bool") ≡ false → same w (bytes "text") ≡ false
+      → same w (bytes "keep") ≡ false → same w (bytes "count") ≡ false → same w (bytes "each") ≡ false → same w (bytes "when") ≡ false
+      → same w (bytes "if") ≡ false → same w (bytes "num") ≡ false → same w (bytes "str") ≡ false → same w (bytes "yes") ≡ false
+      → same w (bytes "no") ≡ false → same w (bytes "none") ≡ false → same w (bytes "pack") ≡ false
+      → ResultSays w None
+  unfolding result_words
+  no_result_says e₁ e₂ e₃ e₄ e₅ e₆ e₇ e₈ e₉ e₁₀ e₁₁ e₁₂ e₁₃ e₁₄ e₁₅ =
+      says_no_result
+      (looked
+      (past e₁ (past e₂ (past e₃ (past e₄ (past e₅ (past e₆ (past e₇ (past e₈
+      (past e₉ (past e₁₀ (past e₁₁ (past e₁₂ (past e₁₃ (past e₁₄ (past e₁₅ at_end))))))))))))))))
 
 -- a word that no result has
-pub result_none : {w : Bytes} {k : ℕ} → ResultSays w k → k ≡ 0 → look_word result_words w ≡ none
-result_none (says_result e s l) i = absurd (let z : ⊥ = omega (arith, started_some s) in z)
+pub result_none : {w : Bytes} {k : std.Option ℕ} → ResultSays w k → k ≡ None → look_word result_words w ≡ none
+result_none (says_result e s l) i = absurd (cc)
 result_none (says_no_result e) i = e
 
 -- a word that one has
@@ -274,6 +256,8 @@ pub record Known (w : Bytes) (k : ℕ) : Type 0 where
   pub started : Started k behind
   pub longer : k ≡ 13 → 3 ≤ length w
 
-pub result_some : {w : Bytes} {k : ℕ} → ResultSays w k → (k ≡ 0 → ⊥) → Known w k
-result_some (says_result {f} e s l) i = record { behind = f; found = e; started = s; longer = l }
-result_some (says_no_result e) i = absurd (i refl)
+pub result_some : {w : Bytes} {j : std.Option ℕ} {k : ℕ} → ResultSays w j → j ≡ Some k → Known w k
+result_some {w} {j} {k} (says_result {k = m} {f} e s l) i =
+    let same : m ≡ k = cc in
+    record { behind = f; found = e; started = subst (λ (n : ℕ). Started n f) same s; longer = λ h. l (same ∙ h) }
+result_some (says_no_result e) i = absurd (cc)

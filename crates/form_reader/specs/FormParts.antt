@@ -2,44 +2,35 @@
 -- stack of what is open around it, and what it put into the tables. Assumes nothing.
 use Rattle.std.specs.Prelude.{ℕ, suc, ◌+◌, ◌-◌, ◌*◌, ◌≤◌, ◌<◌, ◌≡◌, ◌⊎◌, true, false, List, ◌++◌, length, take}
 use Rattle.std.proofs.Math.Option.{Option, none, some}
+use Rattle.std.specs.Prelude as std
+use Rattle.std.specs.Prelude.{Some, None, Ok, Err}
 use Rattle.definitions.specs.declared.Limits.{Limits}
 use Rattle.definitions.specs.Bytes.{Bytes}
-use Rattle.definitions.specs.Outcome.{Outcome, refused}
-use Rattle.definitions.specs.Tokens.{word, opens, go, want_open, want_close, want_text, want_word, read_tokens}
+use Rattle.definitions.specs.Outcome.{Outcome}
+use Rattle.definitions.specs.Tokens.{closing, word, opens, want_open, want_text, want_word, read_tokens}
 use Rattle.definitions.specs.Tokens as Tokens
 use Rattle.definitions.specs.Reader.{Place, Result, Pairs, no_pairs, pair, Frame, Around, in_form, PlaceAround, Want, place_open, it_index}
 use Rattle.definitions.specs.Reader.{field_name, result_open, State, want, put_place, use_result, put_result, depth, place_depth, bindings}
 use Rattle.definitions.specs.Reader.{place_bindings, word_number, index_fits, want_step, step, finished_result, finished_place}
+use Rattle.reading.specs.declared.Cursor.{Cursor}
+use Rattle.reading.specs.declared.Refusal.{Refusal}
+use Rattle.reading.specs.Refusals.{refused_as}
 use Rattle.nodes.specs.Nodes.{Refers}
 use Rattle.forms.specs.Forms.{slot, PlaceRows, FormRows}
 use Rattle.tokens.specs.Expecting.{TextPlaced}
 use Rattle.tokens.specs.TokenRead.{tokens_from, word_in, Found}
-use Rattle.tokens.specs.Expecting.{a_text, Lacks, Kept}
+use Rattle.tokens.specs.Expecting.{a_closing, a_text, Kept, Misses}
 use Rattle.form_reader.specs.FormWords.{Started}
 use Rattle.form_reader.specs.FormLeads.{Lead, lead_code, named, inner_bound, next, Filled, whole, LeadHeld, NameWord, PartsBefore, Half}
 use Rattle.form_reader.specs.FormLeads.{after, HalfHeld}
-use Rattle.form_reader.specs.declared.reading.Cursor.{Cursor}
-use Rattle.form_reader.specs.declared.reading.Part.{Part}
-use Rattle.form_reader.specs.declared.reading.Part.TheVariants.{Done, Refused}
-use Rattle.form_reader.specs.declared.opening.Opened.{Opened}
-use Rattle.form_reader.specs.declared.opening.Opened.TheVariants as OpenedIs
 use Rattle.form_reader.specs.declared.opening.Begun.{Begun}
-use Rattle.form_reader.specs.declared.opening.Begun.TheVariants as BegunIs
-use Rattle.form_reader.specs.declared.operands.Slot.{Slot}
-use Rattle.form_reader.specs.declared.operands.Slot.TheVariants as SlotIs
-use Rattle.form_reader.specs.declared.operands.Index.{Index}
-use Rattle.form_reader.specs.declared.operands.Index.TheVariants as IndexIs
-use Rattle.form_reader.specs.declared.operands.Name.{Name}
-use Rattle.form_reader.specs.declared.operands.Name.TheVariants as NameIs
+use Rattle.form_reader.specs.declared.operands.Payload.{Payload}
 use Rattle.form_reader.specs.declared.operands.Operand.{Operand}
-use Rattle.form_reader.specs.declared.operands.Operand.TheVariants as OperandIs
 use Rattle.form_reader.specs.declared.heads.Worded.{Worded}
-use Rattle.form_reader.specs.declared.heads.Worded.TheVariants as WordedIs
-use Rattle.form_reader.specs.declared.heads.Row.{Row}
+use Rattle.forms.specs.declared.Row.{Row}
 use Rattle.form_reader.specs.declared.heads.Headed.{Headed}
-use Rattle.form_reader.specs.declared.heads.Headed.TheVariants as HeadedIs
 use Rattle.form_reader.specs.declared.parts.Turn.{Turn}
-use Rattle.form_reader.specs.declared.parts.Turn.TheVariants.{More, Stop}
+use Rattle.form_reader.specs.declared.parts.Turn.TheVariants.{More, End}
 
 -- ---- reading
 
@@ -120,13 +111,13 @@ pub record BracketRead (text : Bytes) (values left : ℕ) (c : Cursor) (place : 
   pub begun : c.begun < values
   pub nested : 0 < left
 
-abbrev pub OpenedAnswer : Bytes → (values left : ℕ) → Cursor → Opened → Type 0
-OpenedAnswer text values left c (OpenedIs.At place) = BracketRead text values left c place
-OpenedAnswer text values left c (OpenedIs.Refused number place) =
+abbrev pub OpenedAnswer : Bytes → (values left : ℕ) → Cursor → std.Result ℕ Refusal → Type 0
+OpenedAnswer text values left c (Ok place) = BracketRead text values left c place
+OpenedAnswer text values left c (Err e) =
     (x : Job) (w : Want) (d : ℕ) (f : ℕ → Want) → OpensAt w d f → Limited x d values left
-    → reading x c.begun text (want w) c.at ≡ refused number place
+    → reading x c.begun text (want w) c.at ≡ refused_as e
 
-pub record OpensForm (text : Bytes) (values left : ℕ) (c : Cursor) (r : Opened) : Type 0 where
+pub record OpensForm (text : Bytes) (values left : ℕ) (c : Cursor) (r : std.Result ℕ Refusal) : Type 0 where
   pub answer : OpenedAnswer text values left c r
 
 -- a word must come here, which g judges
@@ -138,39 +129,34 @@ pub record WantsText (w : Want) (g : Bytes → Tokens.Step State) : Type 0 where
   pub does : (t : Tokens.Placed) → want_step w t ≡ want_text t.token g
 
 -- the bracket stands at a place, and a word behind it
-pub record WordWasRead (text : Bytes) (values left : ℕ) (c : Cursor) (place at end : ℕ) : Type 0 where
-  pub bracket : BracketRead text values left c place
-  pub found : Found text (place + 1) (word (word_in text at end)) at end
+pub record WordWasRead (text : Bytes) (values left : ℕ) (c : Cursor) (b : Begun) : Type 0 where
+  pub bracket : BracketRead text values left c b.place
+  pub found : Found text (b.place + 1) (word (word_in text b.word.place b.word.end)) b.word.place b.word.end
 
-abbrev pub BegunAnswer : Bytes → (values left : ℕ) → Cursor → Begun → Type 0
-BegunAnswer text values left c (BegunIs.Word place at end) = WordWasRead text values left c place at end
-BegunAnswer text values left c (BegunIs.Refused number place) =
+abbrev pub BegunAnswer : Bytes → (values left : ℕ) → Cursor → std.Result Begun Refusal → Type 0
+BegunAnswer text values left c (Ok b) = WordWasRead text values left c b
+BegunAnswer text values left c (Err e) =
     (x : Job) (w : Want) (d : ℕ) (f : ℕ → Want) (g : ℕ → Bytes → Tokens.Step State) → OpensAt w d f
     → ((p : ℕ) → WantsWord (f p) (g p)) → Limited x d values left
-    → reading x c.begun text (want w) c.at ≡ refused number place
+    → reading x c.begun text (want w) c.at ≡ refused_as e
 
-pub record BeginsForm (text : Bytes) (values left : ℕ) (c : Cursor) (r : Begun) : Type 0 where
+pub record BeginsForm (text : Bytes) (values left : ℕ) (c : Cursor) (r : std.Result Begun Refusal) : Type 0 where
   pub answer : BegunAnswer text values left c r
 
--- a form may end here; q comes behind
-pub record ClosesAt (w : Want) (q : State) : Type 0 where
-  pub does : (t : Tokens.Placed) → want_step w t ≡ want_close t.token (go q)
-
+-- the bracket that ends a form stands up to a place
 pub record Closed (text : Bytes) (c to : Cursor) : Type 0 where
-  pub run
-      : (x : Job) (n : ℕ) (w : Want) (q : State) → ClosesAt w q
-      → reading x n text (want w) c.at ≡ reading x n text q to.at
+  pub place : ℕ
+  pub found : Found text c.at closing place to.at
   pub begun : to.begun ≡ c.begun
   pub top : to.top ≡ c.top
   pub further : c.at < to.at
   pub within : to.at ≤ length text
 
-abbrev pub CloseAnswer : Bytes → Cursor → Part → Type 0
-CloseAnswer text c (Done to) = Closed text c to
-CloseAnswer text c (Refused number place) =
-    (x : Job) (n : ℕ) (w : Want) (q : State) → ClosesAt w q → reading x n text (want w) c.at ≡ refused number place
+abbrev pub CloseAnswer : Bytes → Cursor → std.Result Cursor Refusal → Type 0
+CloseAnswer text c (Ok to) = Closed text c to
+CloseAnswer text c (Err e) = Misses a_closing text c.at e
 
-pub record ClosesForm (text : Bytes) (c : Cursor) (r : Part) : Type 0 where
+pub record ClosesForm (text : Bytes) (c : Cursor) (r : std.Result Cursor Refusal) : Type 0 where
   pub answer : CloseAnswer text c r
 
 -- ---- N of `it`
@@ -189,9 +175,9 @@ pub record SlotFound (bound : ℕ) (w : Bytes) (s : ℕ) : Type 0 where
   pub slotted : s ≡ slot bound index
   pub bounded : index < bound
 
-abbrev pub SlotAnswer : (bound : ℕ) → Bytes → Slot → Type 0
-SlotAnswer bound w (SlotIs.Of s) = SlotFound bound w s
-SlotAnswer bound w SlotIs.Nothing = index_of bound w ≡ none
+abbrev pub SlotAnswer : (bound : ℕ) → Bytes → std.Option ℕ → Type 0
+SlotAnswer bound w (Some s) = SlotFound bound w s
+SlotAnswer bound w None = index_of bound w ≡ none
 
 pub record IndexRead (text : Bytes) (bound : ℕ) (c : Cursor) (s : ℕ) (to : Cursor) : Type 0 where
   pub index : ℕ
@@ -205,13 +191,13 @@ pub record IndexRead (text : Bytes) (bound : ℕ) (c : Cursor) (s : ℕ) (to : C
   pub ahead : c.at ≤ to.at
   pub within : to.at ≤ length text
 
-abbrev pub IndexAnswer : Bytes → (bound : ℕ) → Cursor → Index → Type 0
-IndexAnswer text bound c (IndexIs.Read s to) = IndexRead text bound c s to
-IndexAnswer text bound c (IndexIs.Refused place) =
+abbrev pub IndexAnswer : Bytes → (bound : ℕ) → Cursor → std.Result Payload Refusal → Type 0
+IndexAnswer text bound c (Ok s) = IndexRead text bound c s.value s.to
+IndexAnswer text bound c (Err e) =
     (x : Job) (n at : ℕ) (o : PlaceAround) → place_bindings o ≡ bound
-    → reading x n text (want (it_index at o)) c.at ≡ refused 7 place
+    → reading x n text (want (it_index at o)) c.at ≡ refused_as e
 
-pub record ReadsIndex (text : Bytes) (bound : ℕ) (c : Cursor) (r : Index) : Type 0 where
+pub record ReadsIndex (text : Bytes) (bound : ℕ) (c : Cursor) (r : std.Result Payload Refusal) : Type 0 where
   pub answer : IndexAnswer text bound c r
 
 -- ---- texts
@@ -226,11 +212,11 @@ pub record TextRead (text : Bytes) (p : List ℕ) (c : Cursor) (k : ℕ) (to : C
   pub grows : c.top ≤ to.top
   pub room : 8 * to.top + c.at ≤ to.at + 8 * c.top + 5
 
-abbrev pub TextAnswer : Bytes → List ℕ → Cursor → Name → Type 0
-TextAnswer text p c (NameIs.Read k to) = TextRead text p c k to
-TextAnswer text p c (NameIs.Refused place) = Lacks a_text text c.at place
+abbrev pub TextAnswer : Bytes → List ℕ → Cursor → std.Result Payload Refusal → Type 0
+TextAnswer text p c (Ok t) = TextRead text p c t.value t.to
+TextAnswer text p c (Err e) = Misses a_text text c.at e
 
-pub record ReadsText (text : Bytes) (p p' : List ℕ) (c : Cursor) (r : Name) : Type 0 where
+pub record ReadsText (text : Bytes) (p p' : List ℕ) (c : Cursor) (r : std.Result Payload Refusal) : Type 0 where
   pub answer : TextAnswer text p' c r
   pub kept : Kept p p' c.top
 
@@ -250,18 +236,18 @@ pub record OperandRead
   pub room : 8 * to.top + c.at ≤ to.at + 8 * c.top + 5
   pub bare : (to.top ≡ c.top) ⊎ (code ≡ 13)
 
-abbrev pub OperandAnswer : (ℕ → Around → Want) → (code : ℕ) → Bytes → List ℕ → Cursor → Operand → Type 0
-OperandAnswer f code text p c (OperandIs.Read operand payload to) = OperandRead f code text p c operand payload to
-OperandAnswer f code text p c (OperandIs.Refused place) =
-    (x : Job) (n at : ℕ) (o : Around) → reading x n text (want (f at o)) c.at ≡ refused 7 place
+abbrev pub OperandAnswer : (ℕ → Around → Want) → (code : ℕ) → Bytes → List ℕ → Cursor → std.Result Operand Refusal → Type 0
+OperandAnswer f code text p c (Ok n) = OperandRead f code text p c n.operand n.payload n.to
+OperandAnswer f code text p c (Err e) =
+    (x : Job) (n at : ℕ) (o : Around) → reading x n text (want (f at o)) c.at ≡ refused_as e
 
-pub record ReadsTest (text : Bytes) (c : Cursor) (r : Operand) : Type 0 where
+pub record ReadsTest (text : Bytes) (c : Cursor) (r : std.Result Operand Refusal) : Type 0 where
   pub answer : (p : List ℕ) → OperandAnswer (λ at o. Want.when_test at o) 10 text p c r
 
-pub record ReadsNumber (text : Bytes) (c : Cursor) (r : Operand) : Type 0 where
+pub record ReadsNumber (text : Bytes) (c : Cursor) (r : std.Result Operand Refusal) : Type 0 where
   pub answer : (p : List ℕ) → OperandAnswer (λ at o. Want.num_number at o) 12 text p c r
 
-pub record ReadsOperand (text : Bytes) (p p' : List ℕ) (code : ℕ) (c : Cursor) (r : Operand) : Type 0 where
+pub record ReadsOperand (text : Bytes) (p p' : List ℕ) (code : ℕ) (c : Cursor) (r : std.Result Operand Refusal) : Type 0 where
   pub answer : (f : ℕ → Around → Want) → Started code f → OperandAnswer f code text p' c r
   pub kept : Kept p p' c.top
 
@@ -293,45 +279,45 @@ pub record PlaceDone
   pub room : 8 * to.top + c.at + 5 * c.begun ≤ to.at + 5 * to.begun + 8 * c.top + 7 * (c.begun - first)
 
 abbrev pub PlaceAnswer
-    : (w : PlaceAround → Want) (left values bound : ℕ) (text : Bytes) (forms pool forms' pool' : List ℕ) (first : ℕ) (c : Cursor) → Part
-    → Type 0
-PlaceAnswer w left values bound text forms pool forms' pool' first c (Done to) =
+    : (w : PlaceAround → Want) (left values bound : ℕ) (text : Bytes) (forms pool forms' pool' : List ℕ) (first : ℕ) (c : Cursor)
+    → std.Result Cursor Refusal → Type 0
+PlaceAnswer w left values bound text forms pool forms' pool' first c (Ok to) =
     PlaceDone w left values bound text forms pool forms' pool' first c to
-PlaceAnswer w left values bound text forms pool forms' pool' first c (Refused number place) =
+PlaceAnswer w left values bound text forms pool forms' pool' first c (Err e) =
     (x : Job) (o : PlaceAround) → PlaceWithin x o values left bound
-    → reading x c.begun text (want (w o)) c.at ≡ refused number place
+    → reading x c.begun text (want (w o)) c.at ≡ refused_as e
 
 -- the answer r behind the word `it`, and behind `field`, inside which so much nesting is left; the tables were forms and pool
 pub record ReadsIt
-    (values bound : ℕ) (text : Bytes) (forms pool forms' pool' : List ℕ) (place : ℕ) (c : Cursor) (r : Part) : Type 0 where
+    (values bound : ℕ) (text : Bytes) (forms pool forms' pool' : List ℕ) (place : ℕ) (c : Cursor) (r : std.Result Cursor Refusal) : Type 0 where
   pub answer
       : (left : ℕ) → PlaceAnswer (λ o. it_index place o) left values bound text forms pool forms' pool' (c.begun - 1) c r
   pub sized : Sized forms pool forms' pool'
 
 pub record ReadsField
-    (left values bound : ℕ) (text : Bytes) (forms pool forms' pool' : List ℕ) (place : ℕ) (c : Cursor) (r : Part) : Type 0 where
+    (left values bound : ℕ) (text : Bytes) (forms pool forms' pool' : List ℕ) (place : ℕ) (c : Cursor) (r : std.Result Cursor Refusal) : Type 0 where
   pub answer
       : PlaceAnswer (λ o. field_name place o) (suc left) values bound text forms pool forms' pool' (c.begun - 1) c r
   pub sized : Sized forms pool forms' pool'
 
 -- the answer r where a place must begin
 pub record ReadsPlace
-    (left values bound : ℕ) (text : Bytes) (forms pool forms' pool' : List ℕ) (c : Cursor) (r : Part) : Type 0 where
+    (left values bound : ℕ) (text : Bytes) (forms pool forms' pool' : List ℕ) (c : Cursor) (r : std.Result Cursor Refusal) : Type 0 where
   pub answer : PlaceAnswer (λ o. place_open o) left values bound text forms pool forms' pool' c.begun c r
   pub sized : Sized forms pool forms' pool'
 
 -- ---- what a result begins with
 
 -- reading a result that must begin at c is refused
-abbrev pub ResultRefused : Bytes → (values left bound : ℕ) → Cursor → (number place : ℕ) → Type 0
-ResultRefused text values left bound c number place =
+abbrev pub ResultRefused : Bytes → (values left bound : ℕ) → Cursor → Refusal → Type 0
+ResultRefused text values left bound c e =
     (x : Job) (o : Around) → Within x o values left bound
-    → reading x c.begun text (want (result_open o)) c.at ≡ refused number place
+    → reading x c.begun text (want (result_open o)) c.at ≡ refused_as e
 
-abbrev pub LimitedRefused : Bytes → (values left : ℕ) → Cursor → (number place : ℕ) → Type 0
-LimitedRefused text values left c number place =
+abbrev pub LimitedRefused : Bytes → (values left : ℕ) → Cursor → Refusal → Type 0
+LimitedRefused text values left c e =
     (x : Job) (o : Around) → Limited x (depth o) values left
-    → reading x c.begun text (want (result_open o)) c.at ≡ refused number place
+    → reading x c.begun text (want (result_open o)) c.at ≡ refused_as e
 
 -- the bracket, which stands at a place, and the word of a result
 pub record ResultBegun (text : Bytes) (values left : ℕ) (c : Cursor) (code place : ℕ) (to : Cursor) : Type 0 where
@@ -349,11 +335,11 @@ pub record ResultBegun (text : Bytes) (values left : ℕ) (c : Cursor) (code pla
   pub limit : c.begun < values
   pub nested : 0 < left
 
-abbrev pub WordedAnswer : Bytes → (values left : ℕ) → Cursor → Worded → Type 0
-WordedAnswer text values left c (WordedIs.Form code place to) = ResultBegun text values left c code place to
-WordedAnswer text values left c (WordedIs.Refused number place) = LimitedRefused text values left c number place
+abbrev pub WordedAnswer : Bytes → (values left : ℕ) → Cursor → std.Result Worded Refusal → Type 0
+WordedAnswer text values left c (Ok w) = ResultBegun text values left c w.code w.place w.to
+WordedAnswer text values left c (Err e) = LimitedRefused text values left c e
 
-pub record BeginsResult (text : Bytes) (values left : ℕ) (c : Cursor) (r : Worded) : Type 0 where
+pub record BeginsResult (text : Bytes) (values left : ℕ) (c : Cursor) (r : std.Result Worded Refusal) : Type 0 where
   pub answer : WordedAnswer text values left c r
 
 -- a result has been read up to its place or its results
@@ -374,11 +360,11 @@ pub record HeadRead (text : Bytes) (p : List ℕ) (values left : ℕ) (c : Curso
   pub limit : c.begun < values
   pub nested : 0 < left
 
-abbrev pub HeadAnswer : Bytes → List ℕ → (values left : ℕ) → Cursor → Headed → Type 0
-HeadAnswer text p values left c (HeadedIs.Form row to) = HeadRead text p values left c row to
-HeadAnswer text p values left c (HeadedIs.Refused number place) = LimitedRefused text values left c number place
+abbrev pub HeadAnswer : Bytes → List ℕ → (values left : ℕ) → Cursor → std.Result Headed Refusal → Type 0
+HeadAnswer text p values left c (Ok h) = HeadRead text p values left c h.row h.to
+HeadAnswer text p values left c (Err e) = LimitedRefused text values left c e
 
-pub record ReadsHead (text : Bytes) (p p' : List ℕ) (values left : ℕ) (c : Cursor) (r : Headed) : Type 0 where
+pub record ReadsHead (text : Bytes) (p p' : List ℕ) (values left : ℕ) (c : Cursor) (r : std.Result Headed Refusal) : Type 0 where
   pub answer : HeadAnswer text p' values left c r
   pub kept : Kept p p' c.top
 
@@ -403,14 +389,13 @@ pub record LeadRead
   pub nested : 0 < left
 
 abbrev pub LeadAnswer
-    : (left values bound : ℕ) (text : Bytes) (forms pool forms' pool' : List ℕ) (c : Cursor) → Headed → Type 0
-LeadAnswer left values bound text forms pool forms' pool' c (HeadedIs.Form row to) =
-    LeadRead left values bound text forms pool forms' pool' c row to
-LeadAnswer left values bound text forms pool forms' pool' c (HeadedIs.Refused number place) =
-    ResultRefused text values left bound c number place
+    : (left values bound : ℕ) (text : Bytes) (forms pool forms' pool' : List ℕ) (c : Cursor) → std.Result Headed Refusal → Type 0
+LeadAnswer left values bound text forms pool forms' pool' c (Ok h) =
+    LeadRead left values bound text forms pool forms' pool' c h.row h.to
+LeadAnswer left values bound text forms pool forms' pool' c (Err e) = ResultRefused text values left bound c e
 
 pub record ReadsLead
-    (left values bound : ℕ) (text : Bytes) (forms pool forms' pool' : List ℕ) (c : Cursor) (r : Headed) : Type 0 where
+    (left values bound : ℕ) (text : Bytes) (forms pool forms' pool' : List ℕ) (c : Cursor) (r : std.Result Headed Refusal) : Type 0 where
   pub answer : LeadAnswer left values bound text forms pool forms' pool' c r
   pub sized : Sized forms pool forms' pool'
 
@@ -460,11 +445,11 @@ pub record PartsEnd (lead : Lead) (ps : Pairs) (text : Bytes) (c to : Cursor) : 
   pub further : c.at < to.at
   pub within : to.at ≤ length text
 
-abbrev pub TurnIs : (lead : Lead) (ps : Pairs) (text : Bytes) (p : List ℕ) (c : Cursor) → Turn → Type 0
-TurnIs lead ps text p c (More from name more) = PartNext lead ps text p c from name more
-TurnIs lead ps text p c (Stop (Done to)) = PartsEnd lead ps text c to
-TurnIs lead ps text p c (Stop (Refused number place)) =
-    (x : Job) (n at : ℕ) (o : Around) → reading x n text (want (next lead ps at o)) c.at ≡ refused number place
+abbrev pub TurnIs : (lead : Lead) (ps : Pairs) (text : Bytes) (p : List ℕ) (c : Cursor) → std.Result Turn Refusal → Type 0
+TurnIs lead ps text p c (Ok (More from name more)) = PartNext lead ps text p c from name more
+TurnIs lead ps text p c (Ok (End to)) = PartsEnd lead ps text c to
+TurnIs lead ps text p c (Err e) =
+    (x : Job) (n at : ℕ) (o : Around) → reading x n text (want (next lead ps at o)) c.at ≡ refused_as e
 
 -- where a pack's next pair must come: some pairs stand there
 pub record PairsKnown (text : Bytes) (forms pool : List ℕ) (first : ℕ) (c : Cursor) : Type 0 where
@@ -474,7 +459,7 @@ pub record PairsKnown (text : Bytes) (forms pool : List ℕ) (first : ℕ) (c : 
   pub so_far : SoFar forms (take c.top pool) first c.begun Lead.packing pairs
 
 -- the answer r where a name or the end of a pack must come
-pub record PairTurns (text : Bytes) (forms p p' : List ℕ) (first : ℕ) (c : Cursor) (r : Turn) : Type 0 where
+pub record PairTurns (text : Bytes) (forms p p' : List ℕ) (first : ℕ) (c : Cursor) (r : std.Result Turn Refusal) : Type 0 where
   pub answer
       : (ps : Pairs) → SoFar forms (take c.top p) first c.begun Lead.packing ps → TurnIs Lead.packing ps text p' c r
   pub kept : Kept p p' c.top
@@ -490,7 +475,7 @@ pub record PartsKnown (text : Bytes) (forms pool : List ℕ) (code more first : 
   pub so_far : SoFar forms (take c.top pool) first c.begun lead pairs
 
 -- the answer r where a result, a name or the end must come
-pub record Turns (text : Bytes) (forms p p' : List ℕ) (code more first : ℕ) (c : Cursor) (r : Turn) : Type 0 where
+pub record Turns (text : Bytes) (forms p p' : List ℕ) (code more first : ℕ) (c : Cursor) (r : std.Result Turn Refusal) : Type 0 where
   pub answer
       : (lead : Lead) (ps : Pairs) → lead_code lead ≡ code → Filled lead ps more
       → SoFar forms (take c.top p) first c.begun lead ps → TurnIs lead ps text p' c r
@@ -524,15 +509,15 @@ pub record ResultDone
   pub room : 8 * to.top + c.at + 5 * c.begun + 5 ≤ to.at + 5 * to.begun + 8 * c.top
 
 abbrev pub ResultAnswer
-    : (left values bound : ℕ) (text : Bytes) (forms pool forms' pool' : List ℕ) (name : ℕ) (c : Cursor) → Part → Type 0
-ResultAnswer left values bound text forms pool forms' pool' name c (Done to) =
+    : (left values bound : ℕ) (text : Bytes) (forms pool forms' pool' : List ℕ) (name : ℕ) (c : Cursor)
+    → std.Result Cursor Refusal → Type 0
+ResultAnswer left values bound text forms pool forms' pool' name c (Ok to) =
     ResultDone left values bound text forms pool forms' pool' name c to
-ResultAnswer left values bound text forms pool forms' pool' name c (Refused number place) =
-    ResultRefused text values left bound c number place
+ResultAnswer left values bound text forms pool forms' pool' name c (Err e) = ResultRefused text values left bound c e
 
 -- the answer r where a result must begin, and the tables that were forms and pool
 pub record ReadsResult
-    (left values bound : ℕ) (text : Bytes) (forms pool forms' pool' : List ℕ) (name : ℕ) (c : Cursor) (r : Part) : Type 0 where
+    (left values bound : ℕ) (text : Bytes) (forms pool forms' pool' : List ℕ) (name : ℕ) (c : Cursor) (r : std.Result Cursor Refusal) : Type 0 where
   pub answer : ResultAnswer left values bound text forms pool forms' pool' name c r
   pub sized : Sized forms pool forms' pool'
 
@@ -561,16 +546,17 @@ pub record PartsDone
   pub further : c.at < to.at
 
 abbrev pub PartsAnswer
-    : (lead : Lead) (left values bound : ℕ) (text : Bytes) (forms pool forms' pool' : List ℕ) (c : Cursor) → Part → Type 0
-PartsAnswer lead left values bound text forms pool forms' pool' c (Done to) =
+    : (lead : Lead) (left values bound : ℕ) (text : Bytes) (forms pool forms' pool' : List ℕ) (c : Cursor)
+    → std.Result Cursor Refusal → Type 0
+PartsAnswer lead left values bound text forms pool forms' pool' c (Ok to) =
     PartsDone lead left values bound text forms pool forms' pool' c to
-PartsAnswer lead left values bound text forms pool forms' pool' c (Refused number place) =
+PartsAnswer lead left values bound text forms pool forms' pool' c (Err e) =
     (x : Job) (at : ℕ) (o : Around) → Within x o values (suc left) bound
-    → reading x c.begun text (want (next lead no_pairs at o)) c.at ≡ refused number place
+    → reading x c.begun text (want (next lead no_pairs at o)) c.at ≡ refused_as e
 
 -- the answer r where the results of a result must come, and the tables that were forms and pool
 pub record ReadsParts
-    (lead : Lead) (left values bound : ℕ) (text : Bytes) (forms pool forms' pool' : List ℕ) (c : Cursor) (r : Part) : Type 0 where
+    (lead : Lead) (left values bound : ℕ) (text : Bytes) (forms pool forms' pool' : List ℕ) (c : Cursor) (r : std.Result Cursor Refusal) : Type 0 where
   pub answer : PartsAnswer lead left values bound text forms pool forms' pool' c r
   pub sized : Sized forms pool forms' pool'
 
@@ -591,8 +577,21 @@ pub record PartBegun
   pub sized : Sized forms pool forms' pool'
 
 abbrev pub TurnAnswer
-    : (lead : Lead) (left values bound : ℕ) (text : Bytes) (forms pool forms' pool' : List ℕ) (c : Cursor) → Turn → Type 0
-TurnAnswer lead left values bound text forms pool forms' pool' c (More from name more) =
+    : (lead : Lead) (left values bound : ℕ) (text : Bytes) (forms pool forms' pool' : List ℕ) (c : Cursor)
+    → std.Result Turn Refusal → Type 0
+TurnAnswer lead left values bound text forms pool forms' pool' c (Ok (More from name more)) =
     PartBegun lead left values bound text forms pool forms' pool' c from name more
-TurnAnswer lead left values bound text forms pool forms' pool' c (Stop r) =
-    ReadsParts lead left values bound text forms pool forms' pool' c r
+TurnAnswer lead left values bound text forms pool forms' pool' c (Ok (End to)) =
+    ReadsParts lead left values bound text forms pool forms' pool' c (Ok to)
+TurnAnswer lead left values bound text forms pool forms' pool' c (Err e) =
+    ReadsParts lead left values bound text forms pool forms' pool' c (Err e)
+
+-- so many of them must still come behind those that have been read
+pub record PartsGone
+    (lead : Lead) (left values bound : ℕ) (text : Bytes) (forms pool forms' pool' : List ℕ) (c to : Cursor) (more : ℕ)
+    : Type 0 where
+  pub parts : Pairs
+  pub filled : Filled lead parts more
+  pub read : PartsRead lead (λ at o. want (next lead parts at o)) parts left values bound text forms pool forms' pool' c to
+  pub room : 8 * to.top + c.at + 5 * c.begun ≤ to.at + 5 * to.begun + 8 * c.top
+  pub sized : Sized forms pool forms' pool'

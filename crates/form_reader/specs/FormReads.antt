@@ -1,14 +1,20 @@
 -- What `read_reader` and `read_place` answer: what the definitions come to, with the forms in a forms table. Assumes nothing.
-use Rattle.std.specs.Prelude.{ℕ, ◌+◌, ◌*◌, ◌≤◌, ◌<◌, ◌≡◌, List, ◌∷◌, length, take}
+use Rattle.std.specs.Prelude.{ℕ, ◌+◌, ◌*◌, ◌≤◌, ◌<◌, ◌≡◌, List, [], ◌∷◌, length, take}
+use Rattle.std.specs.Prelude as std
+use Rattle.std.specs.Prelude.{Ok, Err}
 use Rattle.definitions.specs.declared.Limits.{Limits}
 use Rattle.definitions.specs.Bytes.{Bytes}
-use Rattle.definitions.specs.Outcome.{ok, refused}
+use Rattle.definitions.specs.Outcome.{ok}
 use Rattle.definitions.specs.Tokens.{Placed, tokens}
 use Rattle.definitions.specs.Reader.{Place, Result, read_reader, read_place}
 use Rattle.laws.specs.FormGrammar.{place_forms, result_forms}
 use Rattle.forms.specs.Forms.{PlaceRows, FormRows}
-use Rattle.form_reader.specs.declared.FormsRead.{FormsRead}
-use Rattle.form_reader.specs.declared.FormsRead.TheVariants as FormsAre
+use Rattle.tokens.specs.TokenRead.{tokens_from}
+use Rattle.tokens.specs.Expecting.{MoreAt}
+use Rattle.reading.specs.declared.Refusal.{Refusal}
+use Rattle.reading.specs.declared.Cursor.{Cursor}
+use Rattle.reading.specs.declared.Extent.{Extent}
+use Rattle.reading.specs.Refusals.{refused_as}
 
 -- the tables have room for a text of so many forms, and their words for what is said of it
 pub record Tables (text : Bytes) (forms pool : List ℕ) (top values : ℕ) : Type 0 where
@@ -55,23 +61,38 @@ pub record PlaceHeld (l : Limits) (text : Bytes) (forms p p' : List ℕ) (top wo
   pub counted : words ≡ 3 * place_forms form
   pub used : PoolUsed text p p' top words top'
 
-abbrev pub ReaderAnswer : Limits → Bytes → (forms p p' : List ℕ) → ℕ → FormsRead → Type 0
-ReaderAnswer l text forms p p' top (FormsAre.Read words top') = ReaderHeld l text forms p p' top words top'
-ReaderAnswer l text forms p p' top (FormsAre.Refused number place) = read_reader l text ≡ refused number place
+abbrev pub ReaderAnswer : Limits → Bytes → (forms p p' : List ℕ) → ℕ → std.Result Extent Refusal → Type 0
+ReaderAnswer l text forms p p' top (Ok x) = ReaderHeld l text forms p p' top x.words x.top
+ReaderAnswer l text forms p p' top (Err e) = read_reader l text ≡ refused_as e
 
-abbrev pub LoneAnswer : Limits → Bytes → (forms p p' : List ℕ) → ℕ → FormsRead → Type 0
-LoneAnswer l text forms p p' top (FormsAre.Read words top') = PlaceHeld l text forms p p' top words top'
-LoneAnswer l text forms p p' top (FormsAre.Refused number place) = read_place l text ≡ refused number place
+abbrev pub LoneAnswer : Limits → Bytes → (forms p p' : List ℕ) → ℕ → std.Result Extent Refusal → Type 0
+LoneAnswer l text forms p p' top (Ok x) = PlaceHeld l text forms p p' top x.words x.top
+LoneAnswer l text forms p p' top (Err e) = read_place l text ≡ refused_as e
 
 -- the answer r, and the tables that were forms and pool
 pub record ReadsReader
-    (l : Limits) (text : Bytes) (forms pool forms' pool' : List ℕ) (top : ℕ) (r : FormsRead) : Type 0 where
+    (l : Limits) (text : Bytes) (forms pool forms' pool' : List ℕ) (top : ℕ) (r : std.Result Extent Refusal) : Type 0 where
   pub answer : ReaderAnswer l text forms' pool pool' top r
   pub forms_kept : length forms' ≡ length forms
   pub pool_kept : length pool' ≡ length pool
 
 pub record ReadsLonePlace
-    (l : Limits) (text : Bytes) (forms pool forms' pool' : List ℕ) (top : ℕ) (r : FormsRead) : Type 0 where
+    (l : Limits) (text : Bytes) (forms pool forms' pool' : List ℕ) (top : ℕ) (r : std.Result Extent Refusal) : Type 0 where
   pub answer : LoneAnswer l text forms' pool pool' top r
   pub forms_kept : length forms' ≡ length forms
   pub pool_kept : length pool' ≡ length pool
+
+-- ---- the end
+
+-- the forms that reach up to a cursor end their text
+pub record WholeText (text : Bytes) (to : Cursor) (x : Extent) : Type 0 where
+  pub over : tokens_from text to.at ≡ []
+  pub words : x.words ≡ 3 * to.begun
+  pub top : x.top ≡ to.top
+
+abbrev pub FormsEnd : Bytes → Cursor → std.Result Extent Refusal → Type 0
+FormsEnd text to (Ok x) = WholeText text to x
+FormsEnd text to (Err e) = MoreAt text to.at e
+
+pub record EndsForms (text : Bytes) (to : Cursor) (r : std.Result Extent Refusal) : Type 0 where
+  pub answer : FormsEnd text to r

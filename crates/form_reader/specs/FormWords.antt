@@ -1,28 +1,30 @@
 -- The words of readers, as the code tells them apart. Assumes nothing.
-use Rattle.std.specs.Prelude.{ℕ, ◌≤◌, ◌<◌, ◌≡◌, true, false, List, [], ◌∷◌, ◌++◌, length}
+use Rattle.std.specs.Prelude.{ℕ, ◌≤◌, ◌<◌, ◌≡◌, true, false, length}
+use Rattle.std.specs.Prelude as std
+use Rattle.std.specs.Prelude.{Some, None}
 use Rattle.std.proofs.Math.Option.{Option, none, some}
-use Rattle.definitions.specs.Bytes.{Bytes, bytes}
+use Rattle.definitions.specs.Bytes.{Bytes}
 use Rattle.definitions.specs.Value.{Value}
-use Rattle.definitions.specs.Tokens.{Named, named, look_word}
-use Rattle.definitions.specs.Reader.{it_index, field_name, to_int, to_dec, to_bool, to_text, Test, no_pairs, Around, in_form, if_first, PlaceUse}
+use Rattle.definitions.specs.Tokens.{look_word}
+use Rattle.definitions.specs.Reader.{it_index, field_name, Test, no_pairs, Around, in_form, if_first, PlaceUse}
 use Rattle.definitions.specs.Reader.{converts, keeps, counts, maps, tests, in_result, Want, place_open, result_open, when_test, num_number, str_text}
 use Rattle.definitions.specs.Reader.{pack_name, result_close, place_words, result_words, Result}
 use Rattle.forms.specs.Forms.{conversion_code, test_code}
 
 -- ---- K
 
--- the code of K; where there is none, 7
-unfoldable pub test_or_none : Option Test → ℕ
-test_or_none none = 7
-test_or_none (some k) = test_code k
+-- the code of K, if there is one
+unfoldable pub test_or_none : Option Test → std.Option ℕ
+test_or_none none = None
+test_or_none (some k) = Some (test_code k)
 
 -- ---- places
 
 -- what looking up the word of a place tells
-pub data PlaceSays (w : Bytes) : ℕ → Type 0 where
-  says_it : look_word place_words w ≡ some (λ at o. it_index at o) → PlaceSays w 1
-  says_field : look_word place_words w ≡ some (λ at o. field_name at o) → PlaceSays w 2
-  says_no_place : look_word place_words w ≡ none → PlaceSays w 0
+pub data PlaceSays (w : Bytes) : std.Option ℕ → Type 0 where
+  says_it : look_word place_words w ≡ some (λ at o. it_index at o) → PlaceSays w (Some 1)
+  says_field : look_word place_words w ≡ some (λ at o. field_name at o) → PlaceSays w (Some 2)
+  says_no_place : look_word place_words w ≡ none → PlaceSays w None
 
 -- ---- results
 
@@ -53,29 +55,10 @@ pub data Started : ℕ → (ℕ → Around → Want) → Type 0 where
   starts_none : Started 16 (λ at o. result_close (Result.literal at Value.null) o)
   starts_pack : Started 17 (λ at o. pack_name at no_pairs o)
 
--- the words of results whose place comes right behind them
-unfoldable pub use_words : List (Named (ℕ → Around → Want))
-use_words =
-    named (bytes "int") (λ at o. place_open (in_result at (converts to_int) o))
-    ∷ named (bytes "dec") (λ at o. place_open (in_result at (converts to_dec) o))
-    ∷ named (bytes "bool") (λ at o. place_open (in_result at (converts to_bool) o))
-    ∷ named (bytes "text") (λ at o. place_open (in_result at (converts to_text) o))
-    ∷ named (bytes "keep") (λ at o. place_open (in_result at keeps o))
-    ∷ named (bytes "count") (λ at o. place_open (in_result at counts o))
-    ∷ named (bytes "each") (λ at o. place_open (in_result at maps o))
-    ∷ []
-
--- what looking up the word of a result tells, among those and among all
-pub data UseSays (w : Bytes) : ℕ → Type 0 where
-  says_use
-      : {u : PlaceUse} → look_word result_words w ≡ some (λ at o. place_open (in_result at u o)) → use_code u < 10
-      → UseSays w (use_code u)
-  says_no_use
-      : ((rows : List (Named (ℕ → Around → Want))) → look_word (use_words ++ rows) w ≡ look_word rows w) → UseSays w 0
-
-pub data ResultSays (w : Bytes) : ℕ → Type 0 where
+-- what looking up the word of a result tells
+pub data ResultSays (w : Bytes) : std.Option ℕ → Type 0 where
   -- a `str` has as many bytes
   says_result
       : {k : ℕ} {f : ℕ → Around → Want} → look_word result_words w ≡ some f → Started k f → (k ≡ 13 → 3 ≤ length w)
-      → ResultSays w k
-  says_no_result : look_word result_words w ≡ none → ResultSays w 0
+      → ResultSays w (Some k)
+  says_no_result : look_word result_words w ≡ none → ResultSays w None

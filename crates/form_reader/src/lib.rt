@@ -1,30 +1,32 @@
 // Reader texts, read into a forms table: one row a form, in preorder, its names and texts in a pool.
 #![tactic(auto)]
 
-ghost use Rattle.std.specs.Prelude.{◌<◌};
-ghost use Rattle.form_reader.specs.FormReads.{Tables, HasToken, ReadsReader, ReadsLonePlace};
+ghost use Rattle.std.specs.Prelude.{◌≤◌, ◌<◌, length};
+ghost use Rattle.form_reader.specs.FormReads.{Tables, HasToken, EndsForms, ReadsReader, ReadsLonePlace};
 
 mod heads; // what a result begins with
 mod opening; // the brackets of a form
 mod operands; // what stands between a form's word and its parts
 mod parts; // the results inside a result
 mod places;
-mod reading; // where reading stands, and what it comes to
 mod results;
 mod words; // the words of places, results and tests
 
 use definitions::Limits;
-use reading::{Cursor, Part};
+use forms::Row;
+use reading::{Cursor, Extent, Refusal};
 use tokens::expect;
-use tokens::expect::Ending;
 
-// What reading a text of forms comes to.
-#[derive(Clone, Copy)]
-pub enum FormsRead {
-    // so many words of the forms table and of the pool hold its forms
-    Read { words: usize, top: usize },
-    // a refusal's number and its place
-    Refused { number: u64, place: usize },
+// Ends the reading of a text of forms, which have been read up to a cursor: no token may stand behind them.
+fn end_forms(text: &[u8], to: Cursor) -> Result<Extent, Refusal>
+    requires { (to.at ≤ length text.now) × (to.begun ≤ 32768) }
+    ensures read { EndsForms text.now to result }
+{
+    expect::next_end(text, to.at)?;
+    Ok(Extent {
+        words: 3 * to.begun,
+        top: to.top,
+    })
 }
 
 // Reads a reader of one form. Its rows go into the forms table, its names and texts into the pool from word `top` on.
@@ -34,7 +36,7 @@ fn read_form(
     pool: &mut [u64],
     top: usize,
     limits: Limits,
-) -> FormsRead
+) -> Result<Extent, Refusal>
     requires tables { Tables text.now forms.old pool.old top limits.values }
     requires begun { HasToken text.now }
     ensures read { ReadsReader limits text.now forms.old pool.old forms.new pool.new top result }
@@ -44,7 +46,7 @@ fn read_form(
         begun: 0,
         top,
     };
-    match results::read_result(
+    let to = results::read_result(
         text,
         forms,
         pool,
@@ -53,16 +55,8 @@ fn read_form(
         1,
         start,
         0,
-    ) {
-        Part::Done { to } => match expect::next_end(text, to.at) {
-            Ending::Whole => FormsRead::Read {
-                words: 3 * to.begun,
-                top: to.top,
-            },
-            Ending::More { place } => FormsRead::Refused { number: 7, place },
-        },
-        Part::Refused { number, place } => FormsRead::Refused { number, place },
-    }
+    )?;
+    end_forms(text, to)
 }
 
 // Reads a reader, in the same way. A text with no token is read as `(none)` at place 0, in a row of its own.
@@ -72,17 +66,25 @@ pub fn read_reader(
     pool: &mut [u64],
     top: usize,
     limits: Limits,
-) -> FormsRead
+) -> Result<Extent, Refusal>
     requires tables { Tables text.now forms.old pool.old top limits.values }
     requires one { 0 < limits.values }
     ensures read { ReadsReader limits text.now forms.old pool.old forms.new pool.new top result }
 {
     match expect::next_end(text, 0) {
-        Ending::More { place: _ } => read_form(text, forms, pool, top, limits),
-        Ending::Whole => {
-            forms::put_row(forms, 0, forms::NONE, 0, 0, 3, 0, 0);
-            FormsRead::Read { words: 3, top }
+        Ok(()) => {
+            let none = Row {
+                code: forms::NONE,
+                operand: 0,
+                place: 0,
+                size: 3,
+                payload: 0,
+                name: 0,
+            };
+            forms::put_row(forms, 0, none);
+            Ok(Extent { words: 3, top })
         }
+        Err(_) => read_form(text, forms, pool, top, limits),
     }
 }
 
@@ -93,7 +95,7 @@ pub fn read_place(
     pool: &mut [u64],
     top: usize,
     limits: Limits,
-) -> FormsRead
+) -> Result<Extent, Refusal>
     requires { Tables text.now forms.old pool.old top limits.values }
     ensures read { ReadsLonePlace limits text.now forms.old pool.old forms.new pool.new top result }
 {
@@ -102,14 +104,6 @@ pub fn read_place(
         begun: 0,
         top,
     };
-    match places::read_place(text, forms, pool, limits.values, limits.nesting, 1, start) {
-        Part::Done { to } => match expect::next_end(text, to.at) {
-            Ending::Whole => FormsRead::Read {
-                words: 3 * to.begun,
-                top: to.top,
-            },
-            Ending::More { place } => FormsRead::Refused { number: 7, place },
-        },
-        Part::Refused { number, place } => FormsRead::Refused { number, place },
-    }
+    let to = places::read_place(text, forms, pool, limits.values, limits.nesting, 1, start)?;
+    end_forms(text, to)
 }

@@ -3,9 +3,10 @@ ghost use Rattle.std.specs.Prelude.{◌≡◌};
 ghost use Rattle.form_reader.specs.FormLeads.{Lead, lead_code};
 ghost use Rattle.form_reader.specs.FormParts.{Ready, PartsReady, ReadsParts, ReadsResult};
 
-use crate::heads::{Headed, read_lead};
+use crate::heads::read_lead;
 use crate::parts::{Turn, inner_bound, next_part, parts_of};
-use crate::reading::{Cursor, Part};
+use forms::Row;
+use reading::{Cursor, Refusal};
 
 // Reads the results of a result of this code and its closing bracket, with so much nesting left inside it.
 #[cycle(read_parts_read_result)]
@@ -18,25 +19,28 @@ fn read_parts(
     bound: usize,
     code: u64,
     c: Cursor,
-) -> Part
+) -> Result<Cursor, Refusal>
     requires { PartsReady text.now forms.old pool.old values bound code c }
     ensures read { (lead : Lead) → lead_code lead ≡ code
         → ReadsParts lead left values bound text.now forms.old pool.old forms.new pool.new c result }
 {
     let inner = inner_bound(code, bound);
     let first = c.begun;
-    let mut turn = next_part(text, forms, pool, code, parts_of(code), first, c);
+    let mut more = parts_of(code);
+    let mut to = c;
     loop {
+        let turn = next_part(text, forms, pool, code, more, first, to)?;
         match turn {
-            Turn::More { from, name, more } => {
-                let r = read_result(text, forms, pool, values, left, inner, from, name);
-                let Part::Done { to } = r else {
-                    return r;
-                };
-                turn = next_part(text, forms, pool, code, more, first, to);
+            Turn::More {
+                from,
+                name,
+                more: others,
+            } => {
+                to = read_result(text, forms, pool, values, left, inner, from, name)?;
+                more = others;
             }
-            Turn::Stop { answer } => {
-                return answer;
+            Turn::End { to: end } => {
+                return Ok(end);
             }
         }
     }
@@ -53,30 +57,31 @@ pub fn read_result(
     bound: usize,
     c: Cursor,
     name: u64,
-) -> Part
+) -> Result<Cursor, Refusal>
     requires { Ready text.now forms.old pool.old values bound c }
     ensures read { ReadsResult left values bound text.now forms.old pool.old forms.new
         pool.new name c result }
 {
-    match read_lead(text, forms, pool, values, left, bound, c) {
-        Headed::Form { row, to: behind } => {
-            let r = read_parts(text, forms, pool, values, left - 1, bound, row.code, behind);
-            let Part::Done { to } = r else {
-                return r;
-            };
-            let size = 3 * (to.begun - c.begun);
-            forms::put_row(
-                forms,
-                3 * c.begun,
-                row.code,
-                row.operand,
-                row.place,
-                size,
-                row.payload,
-                name,
-            );
-            r
-        }
-        Headed::Refused { number, place } => Part::Refused { number, place },
-    }
+    let head = read_lead(text, forms, pool, values, left, bound, c)?;
+    let to = read_parts(
+        text,
+        forms,
+        pool,
+        values,
+        left - 1,
+        bound,
+        head.row.code,
+        head.to,
+    )?;
+    let size = 3 * (to.begun - c.begun);
+    forms::put_row(
+        forms,
+        3 * c.begun,
+        Row {
+            size,
+            name,
+            ..head.row
+        },
+    );
+    Ok(to)
 }

@@ -7,6 +7,8 @@ ghost use Rattle.definitions.specs.Reader.{Pairs, among_pairs};
 ghost use Rattle.pool.specs.Pool.{text_in};
 ghost use Rattle.forms.specs.Forms.{head_of, size_at, PairsStand, PairsHeld};
 
+// The codes stay numbers, as a row packs them: past the end stands 0, the code of no form, so that reading a row asks nothing.
+
 // The codes of places.
 pub const IT: u64 = 1;
 
@@ -49,7 +51,7 @@ pub const PACK: u64 = 17;
 fn word(forms: &[u64], i: usize) -> u64
     ensures read { result ≡ get_or forms.now i 0 }
 {
-    if i < forms.len() { forms[i] } else { 0 }
+    forms.get(i).copied().unwrap_or(0)
 }
 
 // The code of the form at a row.
@@ -74,6 +76,7 @@ pub fn place(forms: &[u64], row: usize) -> usize
 }
 
 // How many words the form at a row takes.
+#[tactic(auto, unfolding(crate::specs::Forms::size_at))]
 pub fn size(forms: &[u64], row: usize) -> usize
     ensures read { result ≡ size_at forms.now row }
 {
@@ -102,6 +105,7 @@ pub fn has_name(forms: &[u64], from: usize, end: usize, pool: &[u64], w: usize, 
     ensures found { (p : List ℕ) (d : ℕ) (ps : Pairs) → take (length p) pool.now ≡ p → length p < 65536
         → PairsStand forms.now p from end d ps → result ≡ among_pairs (text_in pool.now w n) ps }
 {
+    // the rows of a result are any number of words: no range steps so
     let mut row = from;
     while row < end {
         let k = name(forms, row);
@@ -115,22 +119,29 @@ pub fn has_name(forms: &[u64], from: usize, end: usize, pool: &[u64], w: usize, 
 
 // ---- rows put
 
+// What a row holds.
+#[derive(Clone, Copy)]
+pub struct Row {
+    pub code: u64,
+    pub operand: u64,
+    // where the form's bracket stands in the text
+    pub place: usize,
+    // how many words it takes
+    pub size: usize,
+    pub payload: u64,
+    pub name: u64,
+}
+
 // Puts the three words of a row.
-pub fn put_row(
-    forms: &mut [u64],
-    row: usize,
-    code: u64,
-    operand: u64,
-    at: usize,
-    size: usize,
-    payload: u64,
-    name: u64,
-)
-    requires row_in_bounds { row + 3 ≤ length forms.old }
-    requires fits { head_of code operand at size < 2 ^ 64 }
+pub fn put_row(forms: &mut [u64], at: usize, row: Row)
+    requires row_in_bounds { at + 3 ≤ length forms.old }
+    requires fits { head_of row.code row.operand row.place row.size < 2 ^ 64 }
     ensures put { forms.new
-        ≡ take row forms.old ++ head_of code operand at size ∷ payload ∷ name ∷ drop (row + 3) forms.old }
+        ≡ take at forms.old ++ head_of row.code row.operand row.place row.size ∷ row.payload ∷ row.name ∷ drop (at + 3) forms.old }
 {
-    let head = code + 32 * operand + 2048 * (at as u64) + 134217728 * (size as u64);
-    nodes::put_row(forms, row, head, payload, name);
+    let head = row.code
+        + 32 * row.operand
+        + 2048 * (row.place as u64)
+        + 134217728 * (row.size as u64);
+    nodes::put_row(forms, at, head, row.payload, row.name);
 }

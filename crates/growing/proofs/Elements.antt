@@ -10,8 +10,7 @@ use Rattle.laws.specs.Bools.{clash}
 use Rattle.shapes.specs.Shapes.{bit, numeric_bits, kind_bits, has_bit, head_of, head_word, ShapeRows, shape_rows, no_element_rows, no_record_rows, Stands}
 use Rattle.shapes.specs.ShapesLaws.{stands_kinds, stands_element, has_list_bit}
 use Rattle.join.specs.Replacing.{Put, Puts}
-use Rattle.join.specs.declared.Joined.{Joined}
-use Rattle.join.specs.declared.Joined.TheVariants.{Grown, Full}
+use Rattle.std.specs.Prelude.{Option, Some, None}
 use Rattle.growing.specs.Growing.{element_start}
 use Rattle.growing.specs.Rows.{NewRow}
 use Rattle.growing.specs.HeadLaws.{kept_put}
@@ -32,7 +31,7 @@ module _ {t p : List ℕ} {row m : ℕ} (used : ℕ) where
   ready_listed (shape n b k x (list_of a) r) h i j e = kept_put (stands_element h) (omega arith) j
 
   pub ready_opened
-      : (t' : List ℕ) (s : Shape) (h : Stands t p row m s) → has_bit (get_or t row 0 % 128) 32 ≡ false → (o : Joined)
+      : (t' : List ℕ) (s : Shape) (h : Stands t p row m s) → has_bit (get_or t row 0 % 128) 32 ≡ false → (o : Option ℕ)
       → Puts t t' used (row + 2) 0 2 (NewRow 0 0) o
       → Puts
       t
@@ -44,8 +43,8 @@ module _ {t p : List ℕ} {row m : ℕ} (used : ℕ) where
       (ShapeRows p 0 (element_start (element_of s)))
       o
   unfolding forms element_of element_start has_list nothing
-  ready_opened t' (shape n b k x no_list r) h e (Grown words) q =
+  ready_opened t' (shape n b k x no_list r) h e (Some words) q =
       record { rows = q.rows; encoded = nothing_rows 0 q.encoded; replaced = q.replaced }
-  ready_opened t' (shape n b k x no_list r) h e Full q = q
+  ready_opened t' (shape n b k x no_list r) h e None q = q
   ready_opened t' (shape n b k x (list_of a) r) h e o q =
       clash (ap (λ (y : ℕ). has_bit y 32) (stands_kinds h) ∙ has_list_bit n b k x (list_of a) r) e

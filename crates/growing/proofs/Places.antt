@@ -12,16 +12,15 @@ use Rattle.definitions.specs.Shape.{Shape, Fields, no_fields, field, before, beh
 use Rattle.laws.specs.Names.{flip, order_refl, order_flip, same_eq, lt_before}
 use Rattle.laws.specs.Fields.{ascending_behind, ascending_rest, behind_trans}
 use Rattle.pool.specs.Pool.{text_in, ordering_of}
-use Rattle.pool.specs.declared.Comparison.{Comparison}
-use Rattle.pool.specs.declared.Comparison.TheVariants.{Less, Equal, Greater}
+use Rattle.std.specs.declared.cmp.Ordering as cmp
+use Rattle.std.specs.declared.cmp.Ordering.TheVariants.{Less, Equal, Greater}
 use Rattle.nodes.specs.Nodes.{Refers}
 use Rattle.nodes.specs.StandingLaws.{text_referred}
 use Rattle.plain.specs.Table.{Used}
 use Rattle.shapes.specs.Shapes.{size_at, FieldRows, no_field_rows, field_rows, Stands, FieldsStand}
 use Rattle.shapes.specs.ShapesLaws.{length_shape_rows, stands_name, stands_size, fields_first, fields_rest, SomeFields, some_fields, fields_left, fields_end}
 use Rattle.shapes.specs.Members.{Listed, SomeListed, Last, all_of, behind_first, Tells, Names}
-use Rattle.shapes.specs.declared.Member.{Member}
-use Rattle.shapes.specs.declared.Member.TheVariants.{Found, Missing}
+use Rattle.std.specs.Prelude.{Option, Some, None}
 use Rattle.growing.specs.Growing.{place}
 use Rattle.growing.specs.GrowingForms.{place_lt, place_gt, forms_some}
 use Rattle.growing.specs.Rows.{MeetsFields, FieldsHeld, Around, Finds, FindsNamed}
@@ -183,7 +182,7 @@ module _ {shapes : List ℕ} {first last : ℕ} {n : Bytes} {p : List ℕ} {fs :
 
     -- how the name stands to the member's, from the texts of their references
     pub order_told
-        : (pool : List ℕ) (o : Comparison) (name k : ℕ) → Used pool p → Refers p n name → k ≡ get_or shapes (row + 1) 0
+        : (pool : List ℕ) (o : cmp.Ordering) (name k : ℕ) → Used pool p → Refers p n name → k ≡ get_or shapes (row + 1) 0
         → ordering_of o ≡ order (text_in pool (name % 65536) (name / 65536)) (text_in pool (k % 65536) (k / 65536))
         → order n m ≡ ordering_of o
     order_told pool o name k u r e c =
@@ -215,7 +214,7 @@ left_within {shapes} {p} {row} {last} l more = go (fields_left l.stand more) l.s
 -- ---- the answers
 
 module _
-    {shapes pool : List ℕ} {used first last name row : ℕ} (k : ℕ) (o : Comparison) (w : Walking shapes pool used first last name row) (more : row < last)
+    {shapes pool : List ℕ} {used first last name row : ℕ} (k : ℕ) (o : cmp.Ordering) (w : Walking shapes pool used first last name row) (more : row < last)
     (named : k ≡ get_or shapes (row + 1) 0)
     (told : ordering_of o ≡ order (text_in pool (name % 65536) (name / 65536)) (text_in pool (k % 65536) (k / 65536)))
   where
@@ -284,13 +283,13 @@ pub held_listed : {shapes pool : List ℕ} {used first last : ℕ} → FieldsHel
 held_listed h = record { used = h.part; fields = h.fields; listed = listed_of h.meets }
 
 pub named_found
-    : {shapes pool : List ℕ} {used first last name : ℕ} (r : Member) → Names shapes first last pool name r
+    : {shapes pool : List ℕ} {used first last name : ℕ} (r : Option ℕ) → Names shapes first last pool name r
     → (p : List ℕ) (fs : Fields) (n : Bytes) → MeetsFields shapes pool used first last p fs → ascending_fields fs ≡ true
     → Refers p n name → FindsNamed shapes first last n p fs r
 named_found {shapes} {pool} {used} {first} {last} {name} r h p fs n m i e =
     go r (subst (λ (t : Bytes). Tells shapes p last t fs r) (text_referred pool m.pooled.front m.pooled.small e)
     (h p fs (listed_of m)))
   where
-    go : (r : Member) → Tells shapes p last n fs r → FindsNamed shapes first last n p fs r
-    go (Found row) t = comes_to t.last (all_left m.stand) i (same_eq n t.label t.alike) (fields_end t.stand)
-    go Missing t = t
+    go : (r : Option ℕ) → Tells shapes p last n fs r → FindsNamed shapes first last n p fs r
+    go (Some row) t = comes_to t.last (all_left m.stand) i (same_eq n t.label t.alike) (fields_end t.stand)
+    go None t = t

@@ -6,8 +6,7 @@ use Rattle.shapes.specs.Shapes.{head_word, ShapeRows, ElementRows, element_rows,
 use Rattle.shapes.specs.ShapesLaws.{length_shape_rows, length_element_rows}
 use Rattle.join.specs.Replacing.{Put, Puts, Over}
 use Rattle.join.specs.ReplacingLaws.{Split, split_used, stands_split, split_stands, split_inner, split_outer, replaced_split}
-use Rattle.join.specs.declared.Joined.{Joined}
-use Rattle.join.specs.declared.Joined.TheVariants.{Grown, Full}
+use Rattle.std.specs.Prelude.{Option, Some, None}
 use Rattle.growing.specs.Growing.{element_start, with_element}
 use Rattle.growing.specs.GrowingForms.{forms_by, forms_with_element}
 use Rattle.growing.specs.Rows.{Room}
@@ -164,7 +163,7 @@ module _
 
 -- the element that an answer says is ready
 pub ready_put
-    : (shapes shapes₁ p : List ℕ) (used row : ℕ) (s : Shape) (o : Joined) {opened : ℕ}
+    : (shapes shapes₁ p : List ℕ) (used row : ℕ) (s : Shape) (o : Option ℕ) {opened : ℕ}
     → Puts
     shapes
     shapes₁
@@ -174,11 +173,11 @@ pub ready_put
     (2 * forms (element_start (element_of s)))
     (ShapeRows p 0 (element_start (element_of s)))
     o
-    → o ≡ Grown opened
+    → o ≡ Some opened
     → Put shapes shapes₁ used opened (row + 2) (2 * forms_element (element_of s)) (ShapeRows p 0 (element_start (element_of s)))
 ready_put shapes shapes₁ p used row s o q e =
     subst
-    (λ (x : Joined).
+    (λ (x : Option ℕ).
     Puts
     shapes
     shapes₁
@@ -192,7 +191,7 @@ ready_put shapes shapes₁ p used row s o q e =
     q
 
 pub ready_full
-    : (shapes shapes₁ p : List ℕ) (used row : ℕ) (s : Shape) (o : Joined)
+    : (shapes shapes₁ p : List ℕ) (used row : ℕ) (s : Shape) (o : Option ℕ)
     → Puts
     shapes
     shapes₁
@@ -202,10 +201,10 @@ pub ready_full
     (2 * forms (element_start (element_of s)))
     (ShapeRows p 0 (element_start (element_of s)))
     o
-    → o ≡ Full → Over shapes shapes₁ used (2 * forms_element (element_of s)) (2 * forms (element_start (element_of s)))
+    → o ≡ None → Over shapes shapes₁ used (2 * forms_element (element_of s)) (2 * forms (element_start (element_of s)))
 ready_full shapes shapes₁ p used row s o q e =
     subst
-    (λ (x : Joined).
+    (λ (x : Option ℕ).
     Puts
     shapes
     shapes₁

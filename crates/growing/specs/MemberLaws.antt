@@ -13,8 +13,7 @@ use Rattle.shapes.specs.Shapes.{FieldRows, field_rows, Stands, FieldsStand}
 use Rattle.shapes.specs.ShapesLaws.{length_shape_rows}
 use Rattle.join.specs.Replacing.{Put, Puts, Over, Becomes}
 use Rattle.join.specs.ReplacingLaws.{Split, split_used, split_stands, split_inner, split_outer, replaced_split, split_replaced}
-use Rattle.join.specs.declared.Joined.{Joined}
-use Rattle.join.specs.declared.Joined.TheVariants.{Grown, Full}
+use Rattle.std.specs.Prelude.{Option, Some, None}
 use Rattle.growing.specs.Growing.{member_start, place}
 use Rattle.growing.specs.GrowingForms.{place_eq, forms_some}
 use Rattle.growing.specs.GrowingLaws.{find_place}
@@ -171,10 +170,10 @@ module _
           (place_eq n st g f.case.0 f.case.1 f.case.2 f.case.4)
 
       pub listed_become
-          : (shapes' : List ℕ) (o : Joined) → Becomes shapes shapes' p used row listed_word listed_shape (g listed_shape) o
+          : (shapes' : List ℕ) (o : Option ℕ) → Becomes shapes shapes' p used row listed_word listed_shape (g listed_shape) o
           → FieldsBecome shapes shapes' p used first fs (place n st g fs) o
       unfolding listed_shape listed_word forms
-      listed_become shapes' (Grown words) q =
+      listed_become shapes' (Some words) q =
           subst
           (λ (gs : Fields). Put shapes shapes' used words first (2 * forms_fields fs) (FieldRows p gs))
           (sym placed_as)
@@ -182,7 +181,7 @@ module _
           (split_as refl refl (ap (λ (x : ℕ). x + words) (sym (length_shape_rows there.encoded))) (replaced_split at_place q.replaced))
           q.replaced.same
           (field_rows there.refers q.encoded there.others))
-      listed_become shapes' Full q =
+      listed_become shapes' None q =
           record {
             over =
                 omega (
@@ -314,7 +313,7 @@ module _
 
 -- the row that an answer says was opened
 pub row_put
-    : (shapes shapes₁ : List ℕ) (used row kinds name : ℕ) (o : Joined) {opened : ℕ} → Puts shapes shapes₁ used row 0 2 (NewRow kinds name) o
-    → o ≡ Grown opened → Put shapes shapes₁ used opened row 0 (NewRow kinds name)
+    : (shapes shapes₁ : List ℕ) (used row kinds name : ℕ) (o : Option ℕ) {opened : ℕ} → Puts shapes shapes₁ used row 0 2 (NewRow kinds name) o
+    → o ≡ Some opened → Put shapes shapes₁ used opened row 0 (NewRow kinds name)
 row_put shapes shapes₁ used row kinds name o q e =
-    subst (λ (x : Joined). Puts shapes shapes₁ used row 0 2 (NewRow kinds name) x) e q
+    subst (λ (x : Option ℕ). Puts shapes shapes₁ used row 0 2 (NewRow kinds name) x) e q

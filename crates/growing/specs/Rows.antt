@@ -7,10 +7,8 @@ use Rattle.definitions.specs.Shape.{Shape, Fields, field, find, element_of, asce
 use Rattle.nodes.specs.Nodes.{Refers}
 use Rattle.plain.specs.Table.{Used}
 use Rattle.shapes.specs.Shapes.{head_of, ShapeRows, FieldRows, Stands, FieldsStand}
-use Rattle.shapes.specs.declared.Member.{Member}
-use Rattle.shapes.specs.declared.Member.TheVariants.{Found, Missing}
+use Rattle.std.specs.Prelude.{Option, Some, None, Result, Ok, Err}
 use Rattle.join.specs.Replacing.{Put, Puts}
-use Rattle.join.specs.declared.Joined.{Joined}
 use Rattle.growing.specs.Growing.{element_start, place, null_if_lacked, null_others}
 
 -- ---- a table
@@ -34,7 +32,7 @@ pub record ShapeHeld (shapes : List ℕ) (used row : ℕ) : Type 0 where
   pub within : row + 2 * forms old ≤ used
 
 -- behind the first row of the shape stands its element, which is nothing where it had none
-abbrev pub Readies : (shapes shapes' : List ℕ) (used row : ℕ) → Joined → Type 0
+abbrev pub Readies : (shapes shapes' : List ℕ) (used row : ℕ) → Option ℕ → Type 0
 Readies shapes shapes' used row r =
     (p : List ℕ) (m : ℕ) (s : Shape) → Stands shapes p row m s → row + 2 * forms s ≤ used
     → Puts
@@ -62,11 +60,18 @@ pub record FieldsHeld (shapes pool : List ℕ) (used first last : ℕ) : Type 0 
   pub meets : MeetsFields shapes pool used first last part fields
 
 -- the members fs become gs
-abbrev pub FieldsBecome : (shapes shapes' p : List ℕ) (used first : ℕ) (fs gs : Fields) → Joined → Type 0
+abbrev pub FieldsBecome : (shapes shapes' p : List ℕ) (used first : ℕ) (fs gs : Fields) → Option ℕ → Type 0
 FieldsBecome shapes shapes' p used first fs gs =
     Puts shapes shapes' used first (2 * forms_fields fs) (2 * forms_fields gs) (FieldRows p gs)
 
 -- ---- null for the members that are lacked: `There p there` says that `there` tells which names are there
+
+-- the names of some table, in a pool
+pub record SomeNames (There : List ℕ → (Bytes → Bool) → Type 0) (pool : List ℕ) : Type 0 where
+  pub part : List ℕ
+  pub there : Bytes → Bool
+  pub pooled : Used pool part
+  pub tells : There part there
 
 -- a member n of a shape
 pub record MeetsListed (shapes pool : List ℕ) (used row : ℕ) (p : List ℕ) (n : Bytes) (k : ℕ) (s : Shape) : Type 0 where
@@ -128,7 +133,12 @@ pub record Finds (shapes : List ℕ) (first last : ℕ) (n : Bytes) (p : List �
   pub stand : FieldsStand shapes p row last back
   pub case : Listed n back listed
 
+-- what an answer says: the row of the member that has the name, or the one that the name would take
+abbrev pub FindsPlace : (shapes : List ℕ) (first last : ℕ) (n : Bytes) (p : List ℕ) (fs : Fields) → Result ℕ ℕ → Type 0
+FindsPlace shapes first last n p fs (Ok row) = Finds shapes first last n p fs row true
+FindsPlace shapes first last n p fs (Err row) = Finds shapes first last n p fs row false
+
 -- what a search for the name n among the members fs tells
-abbrev pub FindsNamed : (shapes : List ℕ) (first last : ℕ) (n : Bytes) (p : List ℕ) (fs : Fields) → Member → Type 0
-FindsNamed shapes first last n p fs (Found row) = Finds shapes first last n p fs row true
-FindsNamed shapes first last n p fs Missing = find n fs ≡ none
+abbrev pub FindsNamed : (shapes : List ℕ) (first last : ℕ) (n : Bytes) (p : List ℕ) (fs : Fields) → Option ℕ → Type 0
+FindsNamed shapes first last n p fs (Some row) = Finds shapes first last n p fs row true
+FindsNamed shapes first last n p fs None = find n fs ≡ none

@@ -16,7 +16,7 @@ use Rattle.plain.specs.Table.{BoundedNumbers}
 use Rattle.shapes.specs.Shapes.{head_of, kind_bits, size_at, ShapeRows}
 use Rattle.shapes.specs.ShapesLaws.{union_bits, stands_row}
 use Rattle.join.specs.Replacing.{Put, Becomes}
-use Rattle.join.specs.declared.Joined.{Joined}
+use Rattle.std.specs.Prelude.{Option}
 use Rattle.growing.specs.Rows.{Room}
 use Rattle.infer.specs.Infer.{with_bool, with_numeric, with_text, infer_into}
 use Rattle.infer.specs.InferLaws.{bool_is, numeric_is, text_is, infer_is}
@@ -114,7 +114,7 @@ module _
 
 -- the steps come to the join
 pub into_joins
-    : (shapes nodes pool shapes' : List ℕ) (used row at : ℕ) (r : Joined) → Infers shapes nodes pool shapes' used row at r
+    : (shapes nodes pool shapes' : List ℕ) (used row at : ℕ) (r : Option ℕ) → Infers shapes nodes pool shapes' used row at r
     → Joins shapes nodes pool shapes' used row at r
 into_joins shapes nodes pool shapes' used row at r q p m s k v h i d =
     subst (λ (u : Shape). Becomes shapes shapes' p used row m s u r) (infer_is v s i d) (q p m s k v h)

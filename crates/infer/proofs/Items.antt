@@ -17,8 +17,8 @@ use Rattle.shapes.specs.Shapes.{ShapeRows}
 use Rattle.shapes.specs.ShapesLaws.{length_shape_rows}
 use Rattle.join.specs.Replacing.{Put, Over, Becomes}
 use Rattle.join.specs.ReplacingLaws.{Split, split_used, stands_split, split_stands, replaced_split}
-use Rattle.join.specs.declared.Joined.{Joined}
-use Rattle.join.specs.declared.Joined.TheVariants.{Grown, Full}
+use Rattle.std.specs.Prelude.{Option}
+use Rattle.std.specs.Prelude.{Some, None}
 use Rattle.growing.specs.Rows.{Room}
 use Rattle.growing.specs.StepLaws.{replaced_then}
 use Rattle.growing.specs.HeadLaws.{kept_put}
@@ -185,22 +185,22 @@ module _
         }
 
     pub items_full
-        : (shapes' : List ℕ) (o : Joined) → Infers shapes nodes pool shapes' (used + grown) row i o → o ≡ Full
-        → InfersItems shapes₀ nodes pool shapes' used row at end Full
+        : (shapes' : List ℕ) (o : Option ℕ) → Infers shapes nodes pool shapes' (used + grown) row i o → o ≡ None
+        → InfersItems shapes₀ nodes pool shapes' used row at end None
     items_full shapes' o q e p m s vs h =
         items_over h
         (subst
-        (λ (x : Joined). Becomes shapes shapes' p (used + grown) row m (here h).reached (infer_into (next h).value (here h).reached) x)
+        (λ (x : Option ℕ). Becomes shapes shapes' p (used + grown) row m (here h).reached (infer_into (next h).value (here h).reached) x)
         e
         (q p m (here h).reached 0 (next h).value (items_meet h)))
 
-    module _ (shapes' : List ℕ) (o : Joined) {words : ℕ} (q : Infers shapes nodes pool shapes' (used + grown) row i o) (e : o ≡ Grown words) where
+    module _ (shapes' : List ℕ) (o : Option ℕ) {words : ℕ} (q : Infers shapes nodes pool shapes' (used + grown) row i o) (e : o ≡ Some words) where
       put_now
           : {p : List ℕ} {m : ℕ} {s : Shape} {vs : Items} (h : MeetsItems shapes₀ nodes pool used row at end p m s vs)
           → Put shapes shapes' (used + grown) words row (2 * forms (here h).reached) (ShapeRows p m (infer_into (next h).value (here h).reached))
       put_now {p} {m} h =
           subst
-          (λ (x : Joined). Becomes shapes shapes' p (used + grown) row m (here h).reached (infer_into (next h).value (here h).reached) x)
+          (λ (x : Option ℕ). Becomes shapes shapes' p (used + grown) row m (here h).reached (infer_into (next h).value (here h).reached) x)
           e
           (q p m (here h).reached 0 (next h).value (items_meet h))
 
@@ -221,7 +221,7 @@ module _
 pub items_end
     : {shapes₀ nodes pool : List ℕ} {used row at end : ℕ} {shapes : List ℕ} {i grown : ℕ}
     → ItemsLoop shapes₀ nodes pool used row at end shapes i grown → end ≤ i
-    → InfersItems shapes₀ nodes pool shapes used row at end (Grown grown)
+    → InfersItems shapes₀ nodes pool shapes used row at end (Some grown)
 unfolding infer_into
 items_end l past p m s vs h =
     let g = l.going p m s vs h in

@@ -16,8 +16,8 @@ use Rattle.nodes.specs.StandingLaws.{list_stands as items_held}
 use Rattle.plain.specs.Table.{BoundedNumbers, BoundedItems}
 use Rattle.shapes.specs.Shapes.{head_of, size_at, ShapeRows}
 use Rattle.join.specs.Replacing.{Put, Over, Becomes}
-use Rattle.join.specs.declared.Joined.{Joined}
-use Rattle.join.specs.declared.Joined.TheVariants.{Grown, Full}
+use Rattle.std.specs.Prelude.{Option}
+use Rattle.std.specs.Prelude.{Some, None}
 use Rattle.growing.specs.Growing.{element_start, with_element}
 use Rattle.growing.specs.GrowingLaws.{element_start_ascending}
 use Rattle.growing.specs.Rows.{Room, Readies}
@@ -82,8 +82,8 @@ module _
 -- ---- the answers
 
 module _ {shapes nodes pool : List ℕ} {used row at : ℕ} (room : Room shapes used) (list : get_or nodes at 0 % 8 ≡ 5) where
-  module _ (shapes₁ : List ℕ) (o₁ : Joined) (q₁ : Readies shapes shapes₁ used row o₁) where
-    pub list_full_first : o₁ ≡ Full → Infers shapes nodes pool shapes₁ used row at Full
+  module _ (shapes₁ : List ℕ) (o₁ : Option ℕ) (q₁ : Readies shapes shapes₁ used row o₁) where
+    pub list_full_first : o₁ ≡ None → Infers shapes nodes pool shapes₁ used row at None
     list_full_first e p m s k v h =
         subst
         (λ (u : Shape). Over shapes shapes₁ used (2 * forms s) (2 * forms u))
@@ -91,7 +91,7 @@ module _ {shapes nodes pool : List ℕ} {used row at : ℕ} (room : Room shapes 
         (list_unready h.stands h.within room (reached h room list) (forms_infer_items (items h room list) (start h room list))
         (ready_full shapes shapes₁ p used row s o₁ (q₁ p m s h.stands h.within) e))
 
-    module _ {opened : ℕ} (e₁ : o₁ ≡ Grown opened) where
+    module _ {opened : ℕ} (e₁ : o₁ ≡ Some opened) where
       put₁
           : {p : List ℕ} {m : ℕ} {s : Shape} {k : ℕ} {v : Value} → Meets shapes nodes pool used row at p m s k v
           → Put shapes shapes₁ used opened (row + 2) (2 * forms_element (element_of s)) (ShapeRows p 0 (element_start (element_of s)))
@@ -113,7 +113,7 @@ module _ {shapes nodes pool : List ℕ} {used row at : ℕ} (room : Room shapes 
       list_room_then w = list_room w.meets.stands w.meets.within room (put₁ w.meets)
 
       module _
-          {end : ℕ} (end_is : end ≡ at + row_size nodes at) (shapes₂ : List ℕ) (o₂ : Joined)
+          {end : ℕ} (end_is : end ≡ at + row_size nodes at) (shapes₂ : List ℕ) (o₂ : Option ℕ)
           (q₂ : InfersItems shapes₁ nodes pool shapes₂ (used + opened) (row + 2) (at + 3) end o₂)
         where
           become₂
@@ -121,25 +121,25 @@ module _ {shapes nodes pool : List ℕ} {used row at : ℕ} (room : Room shapes 
               → Becomes shapes₁ shapes₂ p (used + opened) (row + 2) 0 (start h room list) (reached h room list) o₂
           become₂ {p} h = q₂ p 0 (start h room list) (items h room list) (list_meets h room list (put₁ h) end_is)
 
-          pub list_full_then : o₂ ≡ Full → Infers shapes nodes pool shapes₂ used row at Full
+          pub list_full_then : o₂ ≡ None → Infers shapes nodes pool shapes₂ used row at None
           list_full_then e p m s k v h =
               subst
               (λ (u : Shape). Over shapes shapes₂ used (2 * forms s) (2 * forms u))
               (into_is h room list)
               (list_over h.stands h.within room (put₁ h) (reached h room list)
               (subst
-              (λ (x : Joined). Becomes shapes₁ shapes₂ p (used + opened) (row + 2) 0 (start h room list) (reached h room list) x)
+              (λ (x : Option ℕ). Becomes shapes₁ shapes₂ p (used + opened) (row + 2) 0 (start h room list) (reached h room list) x)
               e
               (become₂ h)))
 
-          module _ {words : ℕ} (e₂ : o₂ ≡ Grown words) where
+          module _ {words : ℕ} (e₂ : o₂ ≡ Some words) where
             risen
                 : {p : List ℕ} {m : ℕ} {s : Shape} {k : ℕ} {v : Value} (h : Meets shapes nodes pool used row at p m s k v)
                 → Risen shapes shapes₂ p used row m s (with_element (reached h room list) s) (opened + words)
             risen {p} h =
                 list_risen h.stands h.within room (put₁ h) (reached h room list)
                 (subst
-                (λ (x : Joined). Becomes shapes₁ shapes₂ p (used + opened) (row + 2) 0 (start h room list) (reached h room list) x)
+                (λ (x : Option ℕ). Becomes shapes₁ shapes₂ p (used + opened) (row + 2) 0 (start h room list) (reached h room list) x)
                 e₂
                 (become₂ h))
 
@@ -158,7 +158,7 @@ module _ {shapes nodes pool : List ℕ} {used row at : ℕ} (room : Room shapes 
                 ≡ take row shapes₂
                 ++ head_of (bit_or (get_or shapes₂ row 0 % 128) 32) (size_at shapes₂ row + (opened + words))
                 ∷ drop (row + 1) shapes₂
-                → length shapes₃ ≡ length shapes₂ → Infers shapes nodes pool shapes₃ used row at (Grown (opened + words))
+                → length shapes₃ ≡ length shapes₂ → Infers shapes nodes pool shapes₃ used row at (Some (opened + words))
             list_answer {shapes₃} e l p m s k v h =
                 subst
                 (λ (u : Shape). Put shapes shapes₃ used (opened + words) row (2 * forms s) (ShapeRows p m u))

@@ -10,11 +10,9 @@ use Rattle.definitions.specs.Shape.{Shape, Fields, ascending_fields}
 use Rattle.nodes.specs.Nodes.{Refers}
 use Rattle.nodes.specs.StandingLaws.{value_name}
 use Rattle.shapes.specs.Shapes.{kind_bits}
-use Rattle.shapes.specs.declared.Member.{Member}
-use Rattle.shapes.specs.declared.Member.TheVariants.{Found, Missing}
 use Rattle.join.specs.Replacing.{Puts, Becomes}
-use Rattle.join.specs.declared.Joined.{Joined}
-use Rattle.join.specs.declared.Joined.TheVariants.{Grown, Full}
+use Rattle.std.specs.Prelude.{Option}
+use Rattle.std.specs.Prelude.{Some, None}
 use Rattle.growing.specs.Growing.{member_start}
 use Rattle.growing.specs.GrowingLaws.{member_start_ascending}
 use Rattle.growing.specs.Rows.{Room, NewRow, MeetsFields, Finds, FindsNamed}
@@ -26,7 +24,7 @@ use Rattle.infer.specs.Inferring.{Meets, Inferable, Infers, MeetsMember, MemberI
 
 -- what was found of a member's name, in the members that stand there
 module _
-    {shapes nodes pool : List ℕ} {used first last at : ℕ} (had : Bool) (room : Room shapes used) (o : Member)
+    {shapes nodes pool : List ℕ} {used first last at : ℕ} (had : Bool) (room : Room shapes used) (o : Option ℕ)
     (found
     : (p : List ℕ) (fs : Fields) (n : Bytes) → MeetsFields shapes pool used first last p fs → ascending_fields fs ≡ true
     → Refers p n (get_or nodes (at + 2) 0) → FindsNamed shapes first last n p fs o)
@@ -41,11 +39,11 @@ module _
       its_name : FindsNamed shapes first last n p fs o
       its_name = found p fs n h.fields h.ascends refers_there
 
-    module _ {row : ℕ} (there : o ≡ Found row) where
+    module _ {row : ℕ} (there : o ≡ Some row) where
       place_there
           : {p : List ℕ} {fs : Fields} {n : Bytes} {k : ℕ} {v : Value} → MeetsMember shapes nodes pool used first last at p fs n k v
           → Finds shapes first last n p fs row true
-      place_there {p} {fs} {n} h = subst (λ (x : Member). FindsNamed shapes first last n p fs x) there (its_name h)
+      place_there {p} {fs} {n} h = subst (λ (x : Option ℕ). FindsNamed shapes first last n p fs x) there (its_name h)
 
       listed_meets
           : {p : List ℕ} {fs : Fields} {n : Bytes} {k : ℕ} {v : Value} (h : MeetsMember shapes nodes pool used first last at p fs n k v)
@@ -74,40 +72,46 @@ module _
           }
 
       pub listed_answer
-          : (shapes' : List ℕ) (o : Joined) → Infers shapes nodes pool shapes' used row at o
+          : (shapes' : List ℕ) (o : Option ℕ) → Infers shapes nodes pool shapes' used row at o
           → InfersMember shapes nodes pool shapes' used first last at had o
       listed_answer shapes' o q p fs n k v h =
           let f = place_there h in
           listed_become h.fields room f (member_start had) (λ (s : Shape). infer_into v s) shapes' o
           (q p (listed_word h.fields room f) (listed_shape h.fields room f) k v (listed_meets h))
 
+    -- a name that is not listed is not found in its place
+    pub never_placed
+        : {row : ℕ} → o ≡ None → MemberInferable shapes nodes pool used first last at
+        → ((p : List ℕ) (fs : Fields) (n : Bytes) → MeetsFields shapes pool used first last p fs → Refers p n (get_or nodes (at + 2) 0)
+        → Finds shapes first last n p fs row true)
+        → ⊥
+    never_placed lacks w placed =
+        let e : true ≡ false =
+        place_lacked true w.meets.ascends (subst (λ (x : Option ℕ). FindsNamed shapes first last w.label w.part w.olds x) lacks (its_name w.meets))
+        (placed w.part w.olds w.label w.meets.fields (refers_there w.meets)) in cc
+
     module _
-        (lacks : o ≡ Missing) {row : ℕ} {listed : Bool}
+        (lacks : o ≡ None) {row : ℕ}
         (placed
         : (p : List ℕ) (fs : Fields) (n : Bytes) → MeetsFields shapes pool used first last p fs → Refers p n (get_or nodes (at + 2) 0)
-        → Finds shapes first last n p fs row listed)
+        → Finds shapes first last n p fs row false)
       where
         place_new
             : {p : List ℕ} {fs : Fields} {n : Bytes} {k : ℕ} {v : Value} → MeetsMember shapes nodes pool used first last at p fs n k v
             → Finds shapes first last n p fs row false
-        place_new {p} {fs} {n} h =
-            let f = placed p fs n h.fields (refers_there h) in
-            subst
-            (λ (x : Bool). Finds shapes first last n p fs row x)
-            (place_lacked listed h.ascends (subst (λ (x : Member). FindsNamed shapes first last n p fs x) lacks (its_name h)) f)
-            f
+        place_new {p} {fs} {n} h = placed p fs n h.fields (refers_there h)
 
         pub new_inside : MemberInferable shapes nodes pool used first last at → row ≤ used
         new_inside w = gap_inside had (λ (s : Shape). infer_into w.value s) w.meets.fields w.meets.refers room (place_new w.meets)
 
-        module _ {kinds : ℕ} (shapes₁ : List ℕ) (o₁ : Joined) (told : kinds ≡ kind_bits (member_start had))
+        module _ {kinds : ℕ} (shapes₁ : List ℕ) (o₁ : Option ℕ) (told : kinds ≡ kind_bits (member_start had))
             (q₁ : Puts shapes shapes₁ used row 0 2 (NewRow kinds (get_or nodes (at + 2) 0)) o₁) where
-          pub new_full_first : o₁ ≡ Full → InfersMember shapes nodes pool shapes₁ used first last at had Full
+          pub new_full_first : o₁ ≡ None → InfersMember shapes nodes pool shapes₁ used first last at had None
           new_full_first e p fs n k v h =
               new_unready had (λ (s : Shape). infer_into v s) h.fields h.refers room (place_new h)
-              (subst (λ (x : Joined). Puts shapes shapes₁ used row 0 2 (NewRow kinds (get_or nodes (at + 2) 0)) x) e q₁)
+              (subst (λ (x : Option ℕ). Puts shapes shapes₁ used row 0 2 (NewRow kinds (get_or nodes (at + 2) 0)) x) e q₁)
 
-          module _ {opened : ℕ} (e₁ : o₁ ≡ Grown opened) where
+          module _ {opened : ℕ} (e₁ : o₁ ≡ Some opened) where
             new_meets
                 : {p : List ℕ} {fs : Fields} {n : Bytes} {k : ℕ} {v : Value} → MeetsMember shapes nodes pool used first last at p fs n k v
                 → Meets shapes₁ nodes pool (used + opened) row at p k (member_start had) k v
@@ -144,29 +148,29 @@ module _
                 told (name_is w.meets)
                 (row_put shapes shapes₁ used row kinds (get_or nodes (at + 2) 0) o₁ q₁ e₁)
 
-            module _ (shapes₂ : List ℕ) (o₂ : Joined) (q₂ : Infers shapes₁ nodes pool shapes₂ (used + opened) row at o₂) where
+            module _ (shapes₂ : List ℕ) (o₂ : Option ℕ) (q₂ : Infers shapes₁ nodes pool shapes₂ (used + opened) row at o₂) where
               become₂
                   : {p : List ℕ} {fs : Fields} {n : Bytes} {k : ℕ} {v : Value} (h : MeetsMember shapes nodes pool used first last at p fs n k v)
                   → Becomes shapes₁ shapes₂ p (used + opened) row k (member_start had) (infer_into v (member_start had)) o₂
               become₂ {p} {fs} {n} {k} {v} h =
                   q₂ p k (member_start had) k v (new_meets h)
 
-              pub new_full_then : o₂ ≡ Full → InfersMember shapes nodes pool shapes₂ used first last at had Full
+              pub new_full_then : o₂ ≡ None → InfersMember shapes nodes pool shapes₂ used first last at had None
               new_full_then e p fs n k v h =
                   new_over had (λ (s : Shape). infer_into v s) h.fields h.refers room (place_new h) told (name_is h)
                   (row_put shapes shapes₁ used row kinds (get_or nodes (at + 2) 0) o₁ q₁ e₁)
                   (subst
-                  (λ (x : Joined). Becomes shapes₁ shapes₂ p (used + opened) row k (member_start had) (infer_into v (member_start had)) x)
+                  (λ (x : Option ℕ). Becomes shapes₁ shapes₂ p (used + opened) row k (member_start had) (infer_into v (member_start had)) x)
                   e
                   (become₂ h))
 
-              module _ {words : ℕ} (e₂ : o₂ ≡ Grown words) where
-                pub new_answer : InfersMember shapes nodes pool shapes₂ used first last at had (Grown (opened + words))
+              module _ {words : ℕ} (e₂ : o₂ ≡ Some words) where
+                pub new_answer : InfersMember shapes nodes pool shapes₂ used first last at had (Some (opened + words))
                 new_answer p fs n k v h =
                     new_put had (λ (s : Shape). infer_into v s) h.fields h.refers room (place_new h) told (name_is h)
                     (row_put shapes shapes₁ used row kinds (get_or nodes (at + 2) 0) o₁ q₁ e₁)
                     (subst
-                    (λ (x : Joined). Becomes shapes₁ shapes₂ p (used + opened) row k (member_start had) (infer_into v (member_start had)) x)
+                    (λ (x : Option ℕ). Becomes shapes₁ shapes₂ p (used + opened) row k (member_start had) (infer_into v (member_start had)) x)
                     e₂
                     (become₂ h))
 

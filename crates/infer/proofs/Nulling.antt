@@ -1,38 +1,35 @@
 -- Whether a record has a member of a name, and null for the members that it lacks. Assumes nothing.
-use Prim.Native.Nat.{ℕ, ◌+◌, ◌*◌, ◌/◌, ◌%◌, ◌≤◌, ◌<◌}
+use Prim.Native.Nat.{ℕ, ◌*◌, ◌/◌, ◌%◌, ◌≤◌, ◌<◌}
 use mathlib.Core.Path.{◌≡◌, refl, sym, ap, subst, ◌∙◌}
 use mathlib.Core.Bool.{Bool}
 use mathlib.Core.List.{List}
-use lib.ListN.{length, get_or, take}
+use lib.ListN.{length, take}
 use Rattle.definitions.specs.Bytes.{Bytes}
 use Rattle.definitions.specs.Value.{Members, has_name}
-use Rattle.definitions.specs.Shape.{Shape, Fields, forms_fields}
+use Rattle.definitions.specs.Shape.{Fields, forms_fields}
 use Rattle.pool.specs.Pool.{text_in}
+use Rattle.nodes.specs.Nodes.{Refers}
+use Rattle.plain.specs.Table.{Used}
 use Rattle.nodes.specs.Standing.{MembersStand, member_count}
 use Rattle.nodes.specs.StandingLaws.{text_referred}
 use Rattle.shapes.specs.Shapes.{FieldRows, FieldsStand}
-use Rattle.shapes.specs.ShapesLaws.{stands_name}
 use Rattle.shapes.specs.Members.{field_count}
 use Rattle.shapes.specs.AsMany.{as_many}
 use Rattle.join.specs.Replacing.{Put}
 use Rattle.growing.specs.Growing.{named}
 use Rattle.growing.specs.GrowingLaws.{others_there}
-use Rattle.growing.specs.Rows.{MeetsListed, Nulls}
+use Rattle.growing.specs.Rows.{Nulls}
 use Rattle.growing.specs.NullLaws.{nulls_none}
 use Rattle.infer.specs.Inferring.{MembersThere, NullsOthers}
 
 pub there_told
-    : {shapes nodes pool : List ℕ} {used row at end k : ℕ} {b : Bool} → k ≡ get_or shapes (row + 1) 0
+    : {nodes pool : List ℕ} {at end k : ℕ} {b : Bool}
     → ((p : List ℕ) (ms : Members) → take (length p) pool ≡ p → length p < 65536 → MembersStand nodes p at end ms
     → b ≡ has_name (text_in pool (k % 65536) (k / 65536)) ms)
-    → {p : List ℕ} {n : Bytes} {w : ℕ} {s : Shape} {there : Bytes → Bool} → MeetsListed shapes pool used row p n w s
-    → MembersThere nodes at end p there → b ≡ there n
-there_told {pool = pool} named told {p} {n} m t =
-    told p t.members m.pooled.front m.pooled.small t.held
-    ∙ ap
-    (λ (x : Bytes). has_name x t.members)
-    (ap (λ (x : ℕ). text_in pool (x % 65536) (x / 65536)) (named ∙ stands_name m.stands)
-    ∙ text_referred pool m.pooled.front m.pooled.small m.refers)
+    → {p : List ℕ} {n : Bytes} {there : Bytes → Bool} → Used pool p → Refers p n k → MembersThere nodes at end p there → b ≡ there n
+there_told {pool = pool} told {p} {n} u r t =
+    told p t.members u.front u.small t.held
+    ∙ ap (λ (x : Bytes). has_name x t.members) (text_referred pool u.front u.small r)
     ∙ t.tells n
 
 -- null for the members that are lacked, in the words of the record

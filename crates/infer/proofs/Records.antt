@@ -16,8 +16,8 @@ use Rattle.nodes.specs.StandingLaws.{rec_stands}
 use Rattle.plain.specs.Table.{BoundedNumbers, BoundedMembers}
 use Rattle.shapes.specs.Shapes.{has_bit, head_of, size_at, members_at, ShapeRows, FieldRows}
 use Rattle.join.specs.Replacing.{Put, Over}
-use Rattle.join.specs.declared.Joined.{Joined}
-use Rattle.join.specs.declared.Joined.TheVariants.{Grown, Full}
+use Rattle.std.specs.Prelude.{Option}
+use Rattle.std.specs.Prelude.{Some, None}
 use Rattle.growing.specs.Growing.{fields_start, member_start, null_others, with_fields}
 use Rattle.growing.specs.GrowingForms.{forms_others}
 use Rattle.growing.specs.GrowingLaws.{fields_start_ascending, member_start_ascending}
@@ -119,26 +119,26 @@ module _
           meets = meets_members w.meets;
         }
 
-    module _ (shapes₁ : List ℕ) (o₁ : Joined) (q₁ : InfersMembers shapes nodes pool shapes₁ used first last (at + 3) end had o₁) where
+    module _ (shapes₁ : List ℕ) (o₁ : Option ℕ) (q₁ : InfersMembers shapes nodes pool shapes₁ used first last (at + 3) end had o₁) where
       become₁
           : {p : List ℕ} {m : ℕ} {s : Shape} {k : ℕ} {v : Value} (h : Meets shapes nodes pool used row at p m s k v)
           → FieldsBecome shapes shapes₁ p used first (olds h) (joined h) o₁
       become₁ {p} h = q₁ p (olds h) (members h) (meets_members h)
 
-      pub record_full : o₁ ≡ Full → Infers shapes nodes pool shapes₁ used row at Full
+      pub record_full : o₁ ≡ None → Infers shapes nodes pool shapes₁ used row at None
       record_full e p m s k v h =
           subst
           (λ (u : Shape). Over shapes shapes₁ used (2 * forms s) (2 * forms u))
           (into_is h)
           (record_over h.pooled h.stands h.within room (had_rec h) first_is last_is (joined h) (reached h)
           (forms_others had (there h) (joined h))
-          (subst (λ (x : Joined). FieldsBecome shapes shapes₁ p used first (olds h) (joined h) x) e (become₁ h)))
+          (subst (λ (x : Option ℕ). FieldsBecome shapes shapes₁ p used first (olds h) (joined h) x) e (become₁ h)))
 
-      module _ {words : ℕ} (e₁ : o₁ ≡ Grown words) where
+      module _ {words : ℕ} (e₁ : o₁ ≡ Some words) where
         put₁
             : {p : List ℕ} {m : ℕ} {s : Shape} {k : ℕ} {v : Value} (h : Meets shapes nodes pool used row at p m s k v)
             → Put shapes shapes₁ used words first (2 * forms_fields (olds h)) (FieldRows p (joined h))
-        put₁ {p} h = subst (λ (x : Joined). FieldsBecome shapes shapes₁ p used first (olds h) (joined h) x) e₁ (become₁ h)
+        put₁ {p} h = subst (λ (x : Option ℕ). FieldsBecome shapes shapes₁ p used first (olds h) (joined h) x) e₁ (become₁ h)
 
         pub record_nulls
             : Inferable shapes nodes pool used row at
@@ -180,7 +180,7 @@ module _
               : {shapes₃ : List ℕ}
               → shapes₃
               ≡ take row shapes₂ ++ head_of (bit_or (get_or shapes₂ row 0 % 128) 64) (size_at shapes₂ row + words) ∷ drop (row + 1) shapes₂
-              → length shapes₃ ≡ length shapes₂ → Infers shapes nodes pool shapes₃ used row at (Grown words)
+              → length shapes₃ ≡ length shapes₂ → Infers shapes nodes pool shapes₃ used row at (Some words)
           record_answer {shapes₃} e l p m s k v h =
               subst
               (λ (u : Shape). Put shapes shapes₃ used words row (2 * forms s) (ShapeRows p m u))

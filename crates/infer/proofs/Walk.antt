@@ -18,8 +18,8 @@ use Rattle.shapes.specs.Shapes.{FieldRows, FieldsStand}
 use Rattle.shapes.specs.ShapesLaws.{length_field_rows, fields_end}
 use Rattle.join.specs.Replacing.{Put, Over}
 use Rattle.join.specs.ReplacingLaws.{Split, split_fields, replaced_split}
-use Rattle.join.specs.declared.Joined.{Joined}
-use Rattle.join.specs.declared.Joined.TheVariants.{Grown, Full}
+use Rattle.std.specs.Prelude.{Option}
+use Rattle.std.specs.Prelude.{Some, None}
 use Rattle.growing.specs.Growing.{member_start, place}
 use Rattle.growing.specs.GrowingLaws.{member_start_ascending}
 use Rattle.growing.specs.Rows.{Room, FieldsBecome}
@@ -223,25 +223,25 @@ module _
         }
 
     pub members_full
-        : (shapes' : List ℕ) (o : Joined) → InfersMember shapes nodes pool shapes' (used + grown) first (last + grown) i had o → o ≡ Full
-        → InfersMembers shapes₀ nodes pool shapes' used first last at end had Full
+        : (shapes' : List ℕ) (o : Option ℕ) → InfersMember shapes nodes pool shapes' (used + grown) first (last + grown) i had o → o ≡ None
+        → InfersMembers shapes₀ nodes pool shapes' used first last at end had None
     members_full shapes' o q e p fs ms h =
         members_over h
         (subst
-        (λ (x : Joined). FieldsBecome shapes shapes' p (used + grown) first (here h).reached (after h) x)
+        (λ (x : Option ℕ). FieldsBecome shapes shapes' p (used + grown) first (here h).reached (after h) x)
         e
         (q p (here h).reached (next h).name (next h).word (next h).value (members_meet h)))
 
     module _
-        (shapes' : List ℕ) (o : Joined) {words : ℕ} (q : InfersMember shapes nodes pool shapes' (used + grown) first (last + grown) i had o)
-        (e : o ≡ Grown words)
+        (shapes' : List ℕ) (o : Option ℕ) {words : ℕ} (q : InfersMember shapes nodes pool shapes' (used + grown) first (last + grown) i had o)
+        (e : o ≡ Some words)
       where
         put_now
             : {p : List ℕ} {fs : Fields} {ms : Members} (h : MeetsMembers shapes₀ nodes pool used first last at end p fs ms)
             → Put shapes shapes' (used + grown) words first (2 * forms_fields (here h).reached) (FieldRows p (after h))
         put_now {p} h =
             subst
-            (λ (x : Joined). FieldsBecome shapes shapes' p (used + grown) first (here h).reached (after h) x)
+            (λ (x : Option ℕ). FieldsBecome shapes shapes' p (used + grown) first (here h).reached (after h) x)
             e
             (q p (here h).reached (next h).name (next h).word (next h).value (members_meet h))
 
@@ -265,7 +265,7 @@ module _
 pub members_end
     : {shapes₀ nodes pool : List ℕ} {used first last at end : ℕ} {had : Bool} {shapes : List ℕ} {i grown : ℕ}
     → MembersLoop shapes₀ nodes pool used first last at end had shapes i grown → end ≤ i
-    → InfersMembers shapes₀ nodes pool shapes used first last at end had (Grown grown)
+    → InfersMembers shapes₀ nodes pool shapes used first last at end had (Some grown)
 unfolding infer_into
 members_end {had = had} l past p fs ms h =
     let g = l.going p fs ms h in

@@ -11,7 +11,7 @@ use Rattle.plain.specs.Table.{BoundedNumbers, BoundedItems, BoundedMembers, Used
 use Rattle.shapes.specs.Shapes.{Stands, FieldRows}
 use Rattle.shapes.specs.AsMany.{AllListed}
 use Rattle.join.specs.Replacing.{Put, Becomes}
-use Rattle.join.specs.declared.Joined.{Joined}
+use Rattle.std.specs.Prelude.{Option}
 use Rattle.growing.specs.Growing.{member_start, place, null_others}
 use Rattle.growing.specs.Rows.{MeetsFields, FieldsBecome}
 use Rattle.infer.specs.Infer.{infer_into, infer_items, infer_members}
@@ -38,13 +38,13 @@ pub record Inferable (shapes nodes pool : List ℕ) (used row at : ℕ) : Type 0
   pub meets : Meets shapes nodes pool used row at part name old label value
 
 -- the value that stands there is joined into the shape that stands there
-abbrev pub Infers : (shapes nodes pool shapes' : List ℕ) (used row at : ℕ) → Joined → Type 0
+abbrev pub Infers : (shapes nodes pool shapes' : List ℕ) (used row at : ℕ) → Option ℕ → Type 0
 Infers shapes nodes pool shapes' used row at r =
     (p : List ℕ) (m : ℕ) (s : Shape) (k : ℕ) (v : Value) → Meets shapes nodes pool used row at p m s k v
     → Becomes shapes shapes' p used row m s (infer_into v s) r
 
 -- the same in the words of the definitions
-abbrev pub Joins : (shapes nodes pool shapes' : List ℕ) (used row at : ℕ) → Joined → Type 0
+abbrev pub Joins : (shapes nodes pool shapes' : List ℕ) (used row at : ℕ) → Option ℕ → Type 0
 Joins shapes nodes pool shapes' used row at r =
     (p : List ℕ) (m : ℕ) (s : Shape) (k : ℕ) (v : Value) → Meets shapes nodes pool used row at p m s k v
     → ascending s ≡ true → distinct v ≡ true → Becomes shapes shapes' p used row m s (join s (shape_of v)) r
@@ -67,7 +67,7 @@ pub record ItemsInferable (shapes nodes pool : List ℕ) (used row at end : ℕ)
   pub items : Items
   pub meets : MeetsItems shapes nodes pool used row at end part name old items
 
-abbrev pub InfersItems : (shapes nodes pool shapes' : List ℕ) (used row at end : ℕ) → Joined → Type 0
+abbrev pub InfersItems : (shapes nodes pool shapes' : List ℕ) (used row at end : ℕ) → Option ℕ → Type 0
 InfersItems shapes nodes pool shapes' used row at end r =
     (p : List ℕ) (m : ℕ) (s : Shape) (vs : Items) → MeetsItems shapes nodes pool used row at end p m s vs
     → Becomes shapes shapes' p used row m s (infer_items vs s) r
@@ -91,7 +91,7 @@ pub record MemberInferable (shapes nodes pool : List ℕ) (used first last at : 
   pub value : Value
   pub meets : MeetsMember shapes nodes pool used first last at part olds label word value
 
-abbrev pub InfersMember : (shapes nodes pool shapes' : List ℕ) (used first last at : ℕ) (had : Bool) → Joined → Type 0
+abbrev pub InfersMember : (shapes nodes pool shapes' : List ℕ) (used first last at : ℕ) (had : Bool) → Option ℕ → Type 0
 InfersMember shapes nodes pool shapes' used first last at had r =
     (p : List ℕ) (fs : Fields) (n : Bytes) (k : ℕ) (v : Value) → MeetsMember shapes nodes pool used first last at p fs n k v
     → FieldsBecome shapes shapes' p used first fs (place n (member_start had) (λ s. infer_into v s) fs) r
@@ -110,7 +110,7 @@ pub record MembersInferable (shapes nodes pool : List ℕ) (used first last at e
   pub members : Members
   pub meets : MeetsMembers shapes nodes pool used first last at end part olds members
 
-abbrev pub InfersMembers : (shapes nodes pool shapes' : List ℕ) (used first last at end : ℕ) (had : Bool) → Joined → Type 0
+abbrev pub InfersMembers : (shapes nodes pool shapes' : List ℕ) (used first last at end : ℕ) (had : Bool) → Option ℕ → Type 0
 InfersMembers shapes nodes pool shapes' used first last at end had r =
     (p : List ℕ) (fs : Fields) (ms : Members) → MeetsMembers shapes nodes pool used first last at end p fs ms
     → FieldsBecome shapes shapes' p used first fs (infer_members ms (member_start had) fs) r

@@ -16,7 +16,7 @@ fn number_kinds(int: bool) -> Shape
     if int {
         Shape::INT
     } else {
-        shapes::union(Shape::INT, Shape::DEC)
+        Shape::INT.union(Shape::DEC)
     }
 }
 
@@ -25,15 +25,10 @@ pub fn scalar_kinds(nodes: &[u64], at: usize) -> Shape
     ensures told { (p : List ℕ) (k : ℕ) (v : Value) → ValueStands nodes.now p at k v → BoundedNumbers v → kind_code v < 5
         → result.kinds ≡ kind_bits (shape_of v) }
 {
-    let kind = nodes::row_kind(nodes, at);
-    if kind == nodes::NULL {
-        return Shape::NULL;
+    match nodes::row_kind(nodes, at) {
+        nodes::NULL => Shape::NULL,
+        nodes::NUMBER => number_kinds(nodes::row_is_int(nodes, at)),
+        nodes::TEXT => Shape::TEXT,
+        _ => Shape::BOOL,
     }
-    if kind == nodes::NUMBER {
-        return number_kinds(nodes::row_is_int(nodes, at));
-    }
-    if kind == nodes::TEXT {
-        return Shape::TEXT;
-    }
-    Shape::BOOL
 }

@@ -7,8 +7,7 @@ ghost use Rattle.growing.specs.Rows.{Room};
 ghost use Rattle.infer.specs.Inferring.{Inferable, Infers, Joins, ItemsInferable, InfersItems};
 ghost use Rattle.infer.specs.Inferring.{MemberInferable, InfersMember, MembersInferable, InfersMembers};
 
-use join::Joined;
-use shapes::{Member, Shape};
+use shapes::Shape;
 
 mod kinds;
 mod lacked;
@@ -21,14 +20,14 @@ fn infer_leaf(
     nodes: &[u64],
     at: usize,
     pool: &[u64],
-) -> Joined
+) -> Option<usize>
     requires inferable { Inferable shapes.old nodes.now pool.now used row at }
     requires room { Room shapes.old used }
     requires leaf { get_or nodes.now at 0 % 8 < 5 }
     ensures inferred { Infers shapes.old nodes.now pool.now shapes.new used row at result }
 {
     growing::raise(shapes, row, kinds::scalar_kinds(nodes, at), 0);
-    Joined::Grown { words: 0 }
+    Some(0)
 }
 
 // Joins the elements whose rows stand in the node table from one row up to another into the element at a row.
@@ -41,7 +40,7 @@ fn infer_items(
     at: usize,
     end: usize,
     pool: &[u64],
-) -> Joined
+) -> Option<usize>
     requires items_inferable { ItemsInferable shapes.old nodes.now pool.now used row at end }
     requires room { Room shapes.old used }
     ensures inferred { InfersItems shapes.old nodes.now pool.now shapes.new used row at end result }
@@ -49,15 +48,10 @@ fn infer_items(
     let mut i = at;
     let mut grown: usize = 0;
     while i < end {
-        match infer_into(shapes, used + grown, row, nodes, i, pool) {
-            Joined::Full => return Joined::Full,
-            Joined::Grown { words } => {
-                grown += words;
-                i += nodes::row_size_in(nodes, i);
-            }
-        }
+        grown += infer_into(shapes, used + grown, row, nodes, i, pool)?;
+        i += nodes::row_size_in(nodes, i);
     }
-    Joined::Grown { words: grown }
+    Some(grown)
 }
 
 // Joins a list into the shape at a row.
@@ -69,27 +63,17 @@ fn infer_list(
     nodes: &[u64],
     at: usize,
     pool: &[u64],
-) -> Joined
+) -> Option<usize>
     requires inferable { Inferable shapes.old nodes.now pool.now used row at }
     requires room { Room shapes.old used }
     requires list { get_or nodes.now at 0 % 8 ≡ 5 }
     ensures inferred { Infers shapes.old nodes.now pool.now shapes.new used row at result }
 {
     let end = at + nodes::row_size(nodes, at);
-    match growing::ready_element(shapes, used, row) {
-        Joined::Full => Joined::Full,
-        Joined::Grown { words: opened } => {
-            match infer_items(shapes, used + opened, row + 2, nodes, at + 3, end, pool) {
-                Joined::Full => Joined::Full,
-                Joined::Grown { words } => {
-                    growing::raise(shapes, row, Shape::LIST, opened + words);
-                    Joined::Grown {
-                        words: opened + words,
-                    }
-                }
-            }
-        }
-    }
+    let opened = growing::ready_element(shapes, used, row)?;
+    let words = infer_items(shapes, used + opened, row + 2, nodes, at + 3, end, pool)?;
+    growing::raise(shapes, row, Shape::LIST, opened + words);
+    Some(opened + words)
 }
 
 // Joins a member into the members whose rows stand from one row up to another; a new one has null, if there were members
@@ -104,30 +88,24 @@ fn infer_member(
     at: usize,
     pool: &[u64],
     had: bool,
-) -> Joined
+) -> Option<usize>
     requires member_inferable { MemberInferable shapes.old nodes.now pool.now used first last at }
     requires room { Room shapes.old used }
     ensures inferred { InfersMember shapes.old nodes.now pool.now shapes.new used first last at had result }
 {
     let name = nodes[at + 2];
-    if let Member::Found { row } = growing::find_listed(shapes, used, first, last, pool, name) {
+    if let Some(row) = growing::find_listed(shapes, used, first, last, pool, name) {
         if nodes::row_kind(nodes, at) < nodes::LIST {
             return infer_leaf(shapes, used, row, nodes, at, pool);
         }
         return infer_into(shapes, used, row, nodes, at, pool);
     }
-    let place = growing::find_place(shapes, used, first, last, pool, name);
-    match growing::open_row(shapes, used, place.row, growing::start_kinds(had), name) {
-        Joined::Full => Joined::Full,
-        Joined::Grown { words: opened } => {
-            match infer_into(shapes, used + opened, place.row, nodes, at, pool) {
-                Joined::Full => Joined::Full,
-                Joined::Grown { words } => Joined::Grown {
-                    words: opened + words,
-                },
-            }
-        }
-    }
+    let Err(row) = growing::find_place(shapes, used, first, last, pool, name) else {
+        unreachable!() // it was not found by equal names
+    };
+    let opened = growing::open_row(shapes, used, row, growing::start_kinds(had), name)?;
+    let words = infer_into(shapes, used + opened, row, nodes, at, pool)?;
+    Some(opened + words)
 }
 
 // Joins the members whose rows stand in the node table from one row up to another into the members of a shape.
@@ -142,7 +120,7 @@ fn infer_members(
     end: usize,
     pool: &[u64],
     had: bool,
-) -> Joined
+) -> Option<usize>
     requires members_inferable { MembersInferable shapes.old nodes.now pool.now used first last at end }
     requires room { Room shapes.old used }
     ensures inferred { InfersMembers shapes.old nodes.now pool.now shapes.new used
@@ -151,7 +129,7 @@ fn infer_members(
     let mut i = at;
     let mut grown: usize = 0;
     while i < end {
-        match infer_member(
+        grown += infer_member(
             shapes,
             used + grown,
             first,
@@ -160,15 +138,10 @@ fn infer_members(
             i,
             pool,
             had,
-        ) {
-            Joined::Full => return Joined::Full,
-            Joined::Grown { words } => {
-                grown += words;
-                i += nodes::row_size_in(nodes, i);
-            }
-        }
+        )?;
+        i += nodes::row_size_in(nodes, i);
     }
-    Joined::Grown { words: grown }
+    Some(grown)
 }
 
 // Joins a record into the shape at a row.
@@ -180,34 +153,22 @@ fn infer_record(
     nodes: &[u64],
     at: usize,
     pool: &[u64],
-) -> Joined
+) -> Option<usize>
     requires inferable { Inferable shapes.old nodes.now pool.now used row at }
     requires room { Room shapes.old used }
     requires record { get_or nodes.now at 0 % 8 ≡ 6 }
     ensures inferred { Infers shapes.old nodes.now pool.now shapes.new used row at result }
 {
     let end = at + nodes::row_size(nodes, at);
-    let had = shapes::has(shapes::kinds(shapes, row), Shape::REC);
+    let had = shapes::kinds(shapes, row).has(Shape::REC);
     let first = shapes::members(shapes, row);
     let last = row + shapes::size(shapes, row);
-    match infer_members(shapes, used, first, last, nodes, at + 3, end, pool, had) {
-        Joined::Full => Joined::Full,
-        Joined::Grown { words } => {
-            lacked::null_others(
-                shapes,
-                used + words,
-                first,
-                last + words,
-                nodes,
-                at + 3,
-                end,
-                pool,
-                had,
-            );
-            growing::raise(shapes, row, Shape::REC, words);
-            Joined::Grown { words }
-        }
-    }
+    let words = infer_members(shapes, used, first, last, nodes, at + 3, end, pool, had)?;
+    let grown = used + words;
+    let last = last + words;
+    lacked::null_others(shapes, grown, first, last, nodes, at + 3, end, pool, had);
+    growing::raise(shapes, row, Shape::REC, words);
+    Some(words)
 }
 
 // Joins the value at a row of the node table into the shape at a row.
@@ -219,19 +180,16 @@ fn infer_into(
     nodes: &[u64],
     at: usize,
     pool: &[u64],
-) -> Joined
+) -> Option<usize>
     requires inferable { Inferable shapes.old nodes.now pool.now used row at }
     requires room { Room shapes.old used }
     ensures inferred { Infers shapes.old nodes.now pool.now shapes.new used row at result }
 {
-    let kind = nodes::row_kind(nodes, at);
-    if kind == nodes::LIST {
-        return infer_list(shapes, used, row, nodes, at, pool);
+    match nodes::row_kind(nodes, at) {
+        nodes::LIST => infer_list(shapes, used, row, nodes, at, pool),
+        nodes::RECORD => infer_record(shapes, used, row, nodes, at, pool),
+        _ => infer_leaf(shapes, used, row, nodes, at, pool),
     }
-    if kind == nodes::RECORD {
-        return infer_record(shapes, used, row, nodes, at, pool);
-    }
-    infer_leaf(shapes, used, row, nodes, at, pool)
 }
 
 // Joins the shape of the value at a row of the node table into the shape at a row.
@@ -242,7 +200,7 @@ pub fn infer_at(
     nodes: &[u64],
     at: usize,
     pool: &[u64],
-) -> Joined
+) -> Option<usize>
     requires inferable { Inferable shapes.old nodes.now pool.now used row at }
     requires room { Room shapes.old used }
     ensures joined { Joins shapes.old nodes.now pool.now shapes.new used row at result }

@@ -2,7 +2,7 @@
 // document that is refused, `refused N at P` and a line feed.
 #![tactic(auto)]
 
-ghost use Rattle.std.specs.Prelude.{◌≡◌, ◌+◌, ◌≤◌, ◌<◌, OnOk, IfErr, IfSome, length, take};
+ghost use Rattle.std.specs.Prelude.{◌≡◌, ◌+◌, ◌≤◌, OnOk, IfErr, IfSome, length, take};
 ghost use Rattle.std.specs.Io.KnownBytes.{Appends};
 ghost use Rattle.streams.specs.Faults.{OnInput};
 ghost use Rattle.definitions.specs.Plain.{decimal};
@@ -40,24 +40,16 @@ fn answer<R: Read, W: Write>(input: &mut R, output: &mut W) -> Result<(), Fault>
     ensures unread { IfErr result (λ fault. OnInput fault (output.new ≡ output.old)) }
 {
     let mut document = [0u8; DOCUMENT];
-    let n = match streams::fill(input, &mut document) {
-        Ok(n) => n,
-        Err(error) => return Err(Fault::Input(error)),
-    };
-    match print_reply(output, &document, n) {
-        Ok(()) => Ok(()),
-        Err(error) => Err(Fault::Output(error)),
-    }
+    let n = streams::fill(input, &mut document).map_err(Fault::Input)?;
+    print_reply(output, &document[..n]).map_err(Fault::Output)
 }
 
-// Writes the reply to what was read. The buffer is longer than a document may be, so a document that fills it is refused.
-fn print_reply<W: Write>(to: &mut W, buffer: &[u8], n: usize) -> io::Result<()>
-    requires counted { n ≤ length buffer.now }
-    requires longer { 16384 < length buffer.now }
-    ensures replied { OnOk result (Appends (W.contents to.old) (W.contents to.new) (reply_to (take n buffer.now))) }
+// Writes the reply to what was read.
+fn print_reply<W: Write>(to: &mut W, document: &[u8]) -> io::Result<()>
+    ensures replied { OnOk result (Appends (W.contents to.old) (W.contents to.new) (reply_to document.now)) }
 {
     let mut output = [0u8; OUTPUT];
-    let end = reply(&buffer[..n], &mut output);
+    let end = reply(document, &mut output);
     to.write_all(&output[..end])
 }
 

@@ -1,3 +1,4 @@
+pub mod Mapped
 pub mod FewForms
 pub mod FewShapes
 pub mod FewReaders

@@ -4,16 +4,17 @@ use native.Mathlib.Omega.{arith}
 use mathlib.Core.Path.{◌≡◌, subst}
 use mathlib.Core.List.{List}
 use lib.ListN.{length}
+use Rattle.std.specs.Prelude as std
+use Rattle.std.specs.Prelude.{Ok, Err}
 use Rattle.definitions.specs.declared.Limits.{Limits}
 use Rattle.definitions.specs.Bytes.{Bytes}
 use Rattle.definitions.specs.ShapeText.{read_shape}
 use Rattle.definitions.specs.Operations.{Reading, Source, judge_both, stopped, refusal}
 use Rattle.definitions.specs.WorkSlices.{shape_words, name_words, value_words, text_words}
 use Rattle.laws.specs.Judging.{first_stops, second_stops, both_pass}
-use Rattle.shape_reader.specs.declared.ShapeRead.{ShapeRead}
-use Rattle.shape_reader.specs.declared.ShapeRead.TheVariants.{Read, Refused}
-use Rattle.json_reader.specs.declared.DocumentRead.{DocumentRead}
-use Rattle.json_reader.specs.declared.DocumentRead.TheVariants as document_read
+use Rattle.reading.specs.declared.Extent.{Extent}
+use Rattle.reading.specs.declared.Refusal.{Refusal}
+use Rattle.reading.specs.Refusals.{number_of}
 use Rattle.slices.specs.Long.{long_three}
 use Rattle.documents.specs.Documents.{DocumentRoom, JudgesDocument}
 use Rattle.documents.specs.DocumentsLaws.{document_passes as judged_passes, document_refused as judged_refused}
@@ -23,13 +24,13 @@ use Rattle.inputs.proofs.ShapeTexts.{table_grown}
 
 -- ---- the first text
 
-module _ {l : Limits} {text : Bytes} {p shapes' p' : List ℕ} {r : ShapeRead} (j : JudgesFirst l text p shapes' p' r) where
+module _ {l : Limits} {text : Bytes} {p shapes' p' : List ℕ} {r : std.Result Extent Refusal} (j : JudgesFirst l text p shapes' p' r) where
   pub first_refused
-      : {B : Type 0} {n q : ℕ} (read : Reading B) (t : Bytes) → r ≡ Refused n q
-      → judge_both l read_shape text read t ≡ stopped (refusal n 1 q)
+      : {B : Type 0} {e : Refusal} (read : Reading B) (t : Bytes) → r ≡ Err e
+      → judge_both l read_shape text read t ≡ stopped (refusal (number_of e.cause) 1 e.place)
   first_refused read t e = first_stops l read_shape text read t (subst (ShapeOutcome l text p shapes' p' 0) e j.answer 1)
 
-  pub first_passes : {words top : ℕ} → r ≡ Read words top → ShapePasses l text p shapes' p' 0 words top
+  pub first_passes : {e : Extent} → r ≡ Ok e → ShapePasses l text p shapes' p' 0 e.words e.top
   first_passes e = subst (ShapeOutcome l text p shapes' p' 0) e j.answer
 
 -- ---- a shape and a document
@@ -65,26 +66,26 @@ module _ {shape document : Bytes} {shapes nodes pool : List ℕ} {l : Limits} (s
 
 module _
     {l : Limits} {shape : Bytes} {p shapes' p' : List ℕ} {words top : ℕ} (f : ShapePasses l shape p shapes' p' 0 words top)
-    (source : Source) (document : Bytes) {nodes' p'' : List ℕ} {r : DocumentRead}
+    (source : Source) (document : Bytes) {nodes' p'' : List ℕ} {r : std.Result Extent Refusal}
     (j : JudgesDocument source l document p' nodes' p'' top r)
   where
     pub document_refused
-        : {n q : ℕ} → r ≡ document_read.Refused n q → judge_both l read_shape shape source document ≡ stopped (refusal n 2 q)
+        : {e : Refusal} → r ≡ Err e → judge_both l read_shape shape source document ≡ stopped (refusal (number_of e.cause) 2 e.place)
     document_refused e =
         second_stops l read_shape shape source document (f.judged 1) (judged_refused j e 2)
 
     pub document_passes
-        : {second end : ℕ} → r ≡ document_read.Read second end
-        → BothPass l read_shape shape source document (ShapeDocumentHeld l shapes' nodes' p'' words second end)
-    document_passes {second} {end} e =
-        let (v, passes, held) = judged_passes j e in
+        : {e : Extent} → r ≡ Ok e
+        → BothPass l read_shape shape source document (ShapeDocumentHeld l shapes' nodes' p'' words e.words e.top)
+    document_passes {e} same =
+        let (v, passes, held) = judged_passes j same in
         record {
           first = f.shape;
           second = v;
           judged = both_pass l read_shape shape source document (f.judged 1) (passes 2);
           held =
               record {
-                shape = table_grown p'' end f.table held.front held.grows held.table.within held.table.small;
+                shape = table_grown p'' e.top f.table held.front held.grows held.table.within held.table.small;
                 value = held.table;
               };
         }
@@ -122,23 +123,23 @@ module _ {one two : Bytes} {shapes others pool : List ℕ} {l : Limits} (s : Two
 
 module _
     {l : Limits} {one : Bytes} {p shapes' p' : List ℕ} {words top : ℕ} (f : ShapePasses l one p shapes' p' 0 words top)
-    (two : Bytes) {others' p'' : List ℕ} {r : ShapeRead} (j : JudgesShape l two p' others' p'' top r)
+    (two : Bytes) {others' p'' : List ℕ} {r : std.Result Extent Refusal} (j : JudgesShape l two p' others' p'' top r)
   where
-    pub second_refused : {n q : ℕ} → r ≡ Refused n q → judge_both l read_shape one read_shape two ≡ stopped (refusal n 2 q)
+    pub second_refused : {e : Refusal} → r ≡ Err e → judge_both l read_shape one read_shape two ≡ stopped (refusal (number_of e.cause) 2 e.place)
     second_refused e = second_stops l read_shape one read_shape two (f.judged 1) (subst (ShapeOutcome l two p' others' p'' top) e j.answer 2)
 
     pub second_passes
-        : {second end : ℕ} → r ≡ Read second end
-        → BothPass l read_shape one read_shape two (TwoShapesHeld l shapes' others' p'' words second end)
-    second_passes {second} {end} e =
-        let g = subst (ShapeOutcome l two p' others' p'' top) e j.answer in
+        : {e : Extent} → r ≡ Ok e
+        → BothPass l read_shape one read_shape two (TwoShapesHeld l shapes' others' p'' words e.words e.top)
+    second_passes {e} same =
+        let g = subst (ShapeOutcome l two p' others' p'' top) same j.answer in
         record {
           first = f.shape;
           second = g.shape;
           judged = both_pass l read_shape one read_shape two (f.judged 1) (g.judged 2);
           held =
               record {
-                one = table_grown p'' end f.table g.front g.grows g.table.within g.table.small;
+                one = table_grown p'' e.top f.table g.front g.grows g.table.within g.table.small;
                 other = g.table;
               };
         }

@@ -3,6 +3,8 @@ use Prim.Native.Nat.{ℕ, ◌+◌, ◌/◌, ◌≤◌, ◌<◌, min, max}
 use native.Mathlib.Omega.{arith}
 use mathlib.Core.Path.{◌≡◌, sym, ap, ◌∙◌, subst}
 use mathlib.Core.List.{List, ◌++◌}
+use Rattle.std.specs.Prelude as std
+use Rattle.std.specs.Prelude.{Ok, Err}
 use lib.ListN.{length, take, drop, take-append-drop}
 use lib.Seq.{take-take}
 use Rattle.definitions.specs.declared.Limits.{Limits}
@@ -20,13 +22,11 @@ use Rattle.laws.specs.Judging.{text_long, text_reads, text_refused, first_stops,
 use Rattle.laws.specs.FormGrammar.{result_forms, result_levels, ReaderWithin, one_form, no_token}
 use Rattle.forms.specs.Forms.{FormRows}
 use Rattle.forms.specs.FormsLaws.{form_rows_grow}
-use Rattle.form_reader.specs.declared.FormsRead.{FormsRead}
-use Rattle.form_reader.specs.declared.FormsRead.TheVariants as forms_read
+use Rattle.reading.specs.declared.Cause.TheVariants.{TextTooLong}
+use Rattle.reading.specs.declared.Extent.{Extent}
+use Rattle.reading.specs.declared.Refusal.{Refusal}
+use Rattle.reading.specs.Refusals.{number_of}
 use Rattle.form_reader.specs.FormReads.{Tables, ReaderAnswer, ReadsReader}
-use Rattle.shape_reader.specs.declared.ShapeRead.{ShapeRead}
-use Rattle.shape_reader.specs.declared.ShapeRead.TheVariants.{Read, Refused}
-use Rattle.json_reader.specs.declared.DocumentRead.{DocumentRead}
-use Rattle.json_reader.specs.declared.DocumentRead.TheVariants as document_read
 use Rattle.slices.specs.Small.{Small}
 use Rattle.slices.specs.Fewer.{with_values}
 use Rattle.documents.specs.Documents.{DocumentRoom, JudgesDocument}
@@ -76,7 +76,7 @@ few_are
 few_are l text m h = omega (arith, m, h)
 
 module _ {l : Limits} {text : Bytes} where
-  pub reader_long : (forms' p' : List ℕ) → l.bytes < length text → JudgesReader l text forms' p' (forms_read.Refused 2 0)
+  pub reader_long : (forms' p' : List ℕ) → l.bytes < length text → JudgesReader l text forms' p' (Err (record { cause = TextTooLong; place = 0 }))
   reader_long forms' p' h = record { answer = λ k. text_long k l read_reader text (lt-ltb _ _ h) }
 
   module _ {few : Limits} {most : ℕ} (e : few ≡ with_values l (min l.values most)) (m : most ≡ most_reader_forms l (length text))
@@ -97,7 +97,7 @@ module _ {l : Limits} {text : Bytes} where
 
     -- and what was read so was read under the limits themselves
     pub reader_judged
-        : {forms p forms' p' : List ℕ} {r : FormsRead} → Small l → ReadsReader few text forms p forms' p' 0 r
+        : {forms p forms' p' : List ℕ} {r : std.Result Extent Refusal} → Small l → ReadsReader few text forms p forms' p' 0 r
         → JudgesReader l text forms' p' r
     reader_judged {forms} {p} {forms'} {p'} {r} small d = record { answer = go r d.answer }
       where
@@ -107,8 +107,8 @@ module _ {l : Limits} {text : Bytes} where
             (ap (λ (k : Limits). read_reader k text) (e ∙ ap (with_values l) (few_are l text m h))
             ∙ few_reader_forms l text (max 1 ((length text + 2) / 3)) (omega arith))
 
-        go : (r : FormsRead) → ReaderAnswer few text forms' p p' 0 r → ReaderOutcome l text forms' p' r
-        go (forms_read.Read words top) a =
+        go : (r : std.Result Extent Refusal) → ReaderAnswer few text forms' p p' 0 r → ReaderOutcome l text forms' p' r
+        go (Ok x) a =
             let v : few.values ≡ min l.values (max 1 ((length text + 2) / 3)) = ap (λ (k : Limits). k.values) e ∙ few_are l text m h in
             let read = same ∙ a.read in
             let within = reader_accepted_to l text a.form read in
@@ -130,17 +130,17 @@ module _ {l : Limits} {text : Bytes} where
                   };
               low = omega (arith, a.used.bounded, a.counted, fewer, v, h);
             }
-        go (forms_read.Refused n q) f = λ k. text_refused k l read_reader text n q h (same ∙ f)
+        go (Err q) f = λ k. text_refused k l read_reader text (number_of q.cause) q.place h (same ∙ f)
 
 -- ---- the first text
 
-module _ {l : Limits} {text : Bytes} {forms' p' : List ℕ} {r : FormsRead} (j : JudgesReader l text forms' p' r) where
+module _ {l : Limits} {text : Bytes} {forms' p' : List ℕ} {r : std.Result Extent Refusal} (j : JudgesReader l text forms' p' r) where
   pub reader_stops
-      : {B : Type 0} {n q : ℕ} (read : Reading B) (t : Bytes) → r ≡ forms_read.Refused n q
-      → judge_both l read_reader text read t ≡ stopped (refusal n 1 q)
+      : {B : Type 0} {e : Refusal} (read : Reading B) (t : Bytes) → r ≡ Err e
+      → judge_both l read_reader text read t ≡ stopped (refusal (number_of e.cause) 1 e.place)
   reader_stops read t e = first_stops l read_reader text read t (subst (ReaderOutcome l text forms' p') e j.answer 1)
 
-  pub reader_passes : {words top : ℕ} → r ≡ forms_read.Read words top → ReaderPasses l text forms' p' words top
+  pub reader_passes : {e : Extent} → r ≡ Ok e → ReaderPasses l text forms' p' e.words e.top
   reader_passes e = subst (ReaderOutcome l text forms' p') e j.answer
 
 -- ---- a reader and a shape
@@ -167,24 +167,24 @@ module _ {reader shape : Bytes} {forms shapes pool : List ℕ} {l : Limits} (s :
 
 module _
     {l : Limits} {reader : Bytes} {forms' p' : List ℕ} {words top : ℕ} (f : ReaderPasses l reader forms' p' words top)
-    (shape : Bytes) {shapes' p'' : List ℕ} {r : ShapeRead} (j : JudgesShape l shape p' shapes' p'' top r)
+    (shape : Bytes) {shapes' p'' : List ℕ} {r : std.Result Extent Refusal} (j : JudgesShape l shape p' shapes' p'' top r)
   where
-    pub its_shape_refused : {n q : ℕ} → r ≡ Refused n q → judge_both l read_reader reader read_shape shape ≡ stopped (refusal n 2 q)
+    pub its_shape_refused : {e : Refusal} → r ≡ Err e → judge_both l read_reader reader read_shape shape ≡ stopped (refusal (number_of e.cause) 2 e.place)
     its_shape_refused e =
         second_stops l read_reader reader read_shape shape (f.judged 1) (subst (ShapeOutcome l shape p' shapes' p'' top) e j.answer 2)
 
     pub its_shape_passes
-        : {second end : ℕ} → r ≡ Read second end
-        → BothPass l read_reader reader read_shape shape (ReaderShapeHeld l forms' shapes' p'' words second end)
-    its_shape_passes {second} {end} e =
-        let g = subst (ShapeOutcome l shape p' shapes' p'' top) e j.answer in
+        : {e : Extent} → r ≡ Ok e
+        → BothPass l read_reader reader read_shape shape (ReaderShapeHeld l forms' shapes' p'' words e.words e.top)
+    its_shape_passes {e} same =
+        let g = subst (ShapeOutcome l shape p' shapes' p'' top) same j.answer in
         record {
           first = f.reader;
           second = g.shape;
           judged = both_pass l read_reader reader read_shape shape (f.judged 1) (g.judged 2);
           held =
               record {
-                reader = reader_grown p'' end f.table g.front g.grows g.table.within g.table.small;
+                reader = reader_grown p'' e.top f.table g.front g.grows g.table.within g.table.small;
                 shape = g.table;
               };
         }
@@ -215,25 +215,25 @@ module _ {reader document : Bytes} {forms nodes pool : List ℕ} {l : Limits} (s
 
 module _
     {l : Limits} {reader : Bytes} {forms' p' : List ℕ} {words top : ℕ} (f : ReaderPasses l reader forms' p' words top)
-    (source : Source) (document : Bytes) {nodes' p'' : List ℕ} {r : DocumentRead}
+    (source : Source) (document : Bytes) {nodes' p'' : List ℕ} {r : std.Result Extent Refusal}
     (j : JudgesDocument source l document p' nodes' p'' top r)
   where
     pub its_document_refused
-        : {n q : ℕ} → r ≡ document_read.Refused n q → judge_both l read_reader reader source document ≡ stopped (refusal n 2 q)
+        : {e : Refusal} → r ≡ Err e → judge_both l read_reader reader source document ≡ stopped (refusal (number_of e.cause) 2 e.place)
     its_document_refused e = second_stops l read_reader reader source document (f.judged 1) (judged_refused j e 2)
 
     pub its_document_passes
-        : {second end : ℕ} → r ≡ document_read.Read second end
-        → BothPass l read_reader reader source document (ReaderDocumentHeld l forms' nodes' p'' words second end)
-    its_document_passes {second} {end} e =
-        let (v, passes, held) = judged_passes j e in
+        : {e : Extent} → r ≡ Ok e
+        → BothPass l read_reader reader source document (ReaderDocumentHeld l forms' nodes' p'' words e.words e.top)
+    its_document_passes {e} same =
+        let (v, passes, held) = judged_passes j same in
         record {
           first = f.reader;
           second = v;
           judged = both_pass l read_reader reader source document (f.judged 1) (passes 2);
           held =
               record {
-                reader = reader_grown p'' end f.table held.front held.grows held.table.within held.table.small;
+                reader = reader_grown p'' e.top f.table held.front held.grows held.table.within held.table.small;
                 value = held.table;
               };
         }

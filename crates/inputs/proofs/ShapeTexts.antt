@@ -3,6 +3,8 @@ use Prim.Native.Nat.{ℕ, ◌+◌, ◌/◌, ◌≤◌, ◌<◌, min}
 use native.Mathlib.Omega.{arith}
 use mathlib.Core.Path.{◌≡◌, refl, sym, ap, ◌∙◌, subst}
 use mathlib.Core.List.{List, ◌++◌}
+use Rattle.std.specs.Prelude as std
+use Rattle.std.specs.Prelude.{Ok, Err}
 use lib.ListN.{length, take, drop, length-append, take-append-drop}
 use lib.Seq.{length-take-le, take-append-le, take-take}
 use Rattle.definitions.specs.declared.Limits.{Limits}
@@ -15,8 +17,10 @@ use Rattle.laws.proofs.ShapeForms.{shape_accepted_to, shape_ascending}
 use Rattle.laws.specs.Judging.{text_long, text_reads, text_refused}
 use Rattle.shapes.specs.Shapes.{ShapeRows}
 use Rattle.shapes.specs.ShapesLaws.{shape_rows_grow}
-use Rattle.shape_reader.specs.declared.ShapeRead.{ShapeRead}
-use Rattle.shape_reader.specs.declared.ShapeRead.TheVariants.{Read, Refused}
+use Rattle.reading.specs.declared.Cause.TheVariants.{TextTooLong}
+use Rattle.reading.specs.declared.Extent.{Extent}
+use Rattle.reading.specs.declared.Refusal.{Refusal}
+use Rattle.reading.specs.Refusals.{number_of}
 use Rattle.shape_reader.specs.ShapeReads.{Tables, ShapeAnswer, ReadsShape}
 use Rattle.slices.specs.Fewer.{with_values}
 use Rattle.inputs.specs.Inputs.{ShapeTable, ShapeRoom, ShapePasses, ShapeOutcome, JudgesShape, JudgesFirst}
@@ -45,7 +49,7 @@ table_grown {l} {shapes} {p} {words} {top} {s} p' top' t e h within small =
 
 pub judges_long
     : (l : Limits) (text : Bytes) (p shapes' : List ℕ) (top : ℕ) → l.bytes < length text
-    → JudgesShape l text p shapes' p top (Refused 2 0)
+    → JudgesShape l text p shapes' p top (Err (record { cause = TextTooLong; place = 0 }))
 judges_long l text p shapes' top h = record { answer = λ k. text_long k l read_shape text (lt-ltb _ _ h); kept = refl }
 
 -- a text that is short enough has room under fewer forms
@@ -64,7 +68,7 @@ few_room {l} {few} {text} {shapes} {pool} {top} e h r =
 
 -- and what was read so was read under the limits themselves
 pub judges_read
-    : {l few : Limits} {text : Bytes} {shapes p shapes' p' : List ℕ} {top : ℕ} {r : ShapeRead}
+    : {l few : Limits} {text : Bytes} {shapes p shapes' p' : List ℕ} {top : ℕ} {r : std.Result Extent Refusal}
     → few ≡ with_values l (min l.values ((length text + 6) / 7)) → length text ≤ l.bytes
     → ReadsShape few text shapes p shapes' p' top r → JudgesShape l text p shapes' p' top r
 judges_read {l} {few} {text} {shapes} {p} {shapes'} {p'} {top} {r} e h d = record { answer = go r d.answer; kept = d.pool_kept }
@@ -72,8 +76,8 @@ judges_read {l} {few} {text} {shapes} {p} {shapes'} {p'} {top} {r} e h d = recor
     same : read_shape l text ≡ read_shape few text
     same = sym (ap (λ (k : Limits). read_shape k text) e ∙ few_forms l text)
 
-    go : (r : ShapeRead) → ShapeAnswer few text shapes' p p' top r → ShapeOutcome l text p shapes' p' top r
-    go (Read words top') a =
+    go : (r : std.Result Extent Refusal) → ShapeAnswer few text shapes' p p' top r → ShapeOutcome l text p shapes' p' top r
+    go (Ok x) a =
         let read = same ∙ a.read in
         record {
           shape = a.form;
@@ -90,7 +94,7 @@ judges_read {l} {few} {text} {shapes} {p} {shapes'} {p'} {top} {r} e h d = recor
           grows = a.grows;
           front = a.front;
         }
-    go (Refused n q) f = λ k. text_refused k l read_shape text n q h (same ∙ f)
+    go (Err q) f = λ k. text_refused k l read_shape text (number_of q.cause) q.place h (same ∙ f)
 
 -- ---- the first text, in the first n words of the pool
 
@@ -102,27 +106,27 @@ module _ (l : Limits) (text : Bytes) (shapes pool : List ℕ) (n : ℕ) (same : 
 
   -- what stands behind the part is as it was
   pub first_judged
-      : (shapes' part : List ℕ) (r : ShapeRead) → n ≤ length pool → JudgesShape l text (take n pool) shapes' part 0 r
+      : (shapes' part : List ℕ) (r : std.Result Extent Refusal) → n ≤ length pool → JudgesShape l text (take n pool) shapes' part 0 r
       → JudgesFirst l text pool shapes' (part ++ drop n pool) r
   first_judged shapes' part r h j =
       record {
         answer = go r j.answer;
-        low = λ words top f. low words top (subst (ShapeOutcome l text (take n pool) shapes' part 0) f j.answer);
+        low = λ x f. low x.words x.top (subst (ShapeOutcome l text (take n pool) shapes' part 0) f j.answer);
       }
     where
       low : (words top : ℕ) → ShapePasses l text (take n pool) shapes' part 0 words top → top ≤ name_words l (length text)
       low words top p = omega (arith, p.table.within, j.kept, length-take-le n pool h)
 
-      go : (r : ShapeRead) → ShapeOutcome l text (take n pool) shapes' part 0 r → ShapeOutcome l text pool shapes' (part ++ drop n pool) 0 r
-      go (Read words top) p =
+      go : (r : std.Result Extent Refusal) → ShapeOutcome l text (take n pool) shapes' part 0 r → ShapeOutcome l text pool shapes' (part ++ drop n pool) 0 r
+      go (Ok x) p =
           let t = p.table in
           record {
             shape = p.shape;
             judged = p.judged;
             table =
-                table_grown (part ++ drop n pool) top t (take-append-le top part (drop n pool) t.within) (omega arith)
+                table_grown (part ++ drop n pool) x.top t (take-append-le x.top part (drop n pool) t.within) (omega arith)
                 (omega (arith, t.within, length-append part (drop n pool))) t.small;
             grows = p.grows;
             front = refl;
           }
-      go (Refused k p) f = f
+      go (Err q) f = f

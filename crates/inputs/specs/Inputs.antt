@@ -1,5 +1,6 @@
 -- What reading the texts of an operation asks and answers. Assumes nothing.
-use Rattle.std.specs.Prelude.{ℕ, ◌+◌, ◌*◌, ◌≤◌, ◌<◌, ◌≡◌, true, false, List, [], ◌∷◌, length, take}
+use Rattle.std.specs.Prelude.{ℕ, ◌+◌, ◌*◌, ◌≤◌, ◌<◌, ◌≡◌, true, false, List, [], ◌∷◌, length, take, Ok, Err}
+use Rattle.std.specs.Prelude as std
 use Rattle.definitions.specs.declared.Limits.{Limits}
 use Rattle.definitions.specs.Bytes.{Bytes}
 use Rattle.definitions.specs.Value.{Value}
@@ -14,14 +15,13 @@ use Rattle.laws.specs.Readers.{proper}
 use Rattle.laws.specs.Good.{GoodReader}
 use Rattle.shapes.specs.Shapes.{ShapeRows}
 use Rattle.forms.specs.Forms.{FormRows}
-use Rattle.form_reader.specs.declared.FormsRead.{FormsRead}
-use Rattle.form_reader.specs.declared.FormsRead.TheVariants as forms_read
-use Rattle.shape_reader.specs.declared.ShapeRead.{ShapeRead}
-use Rattle.shape_reader.specs.declared.ShapeRead.TheVariants as shape_read
+use Rattle.reading.specs.declared.Extent.{Extent}
+use Rattle.reading.specs.declared.Refusal.{Refusal}
+use Rattle.reading.specs.Refusals.{number_of}
 use Rattle.documents.specs.Documents.{ValueTable}
 use Rattle.slices.specs.Small.{Small}
 use Rattle.inputs.specs.declared.Texts.{Texts}
-use Rattle.inputs.specs.declared.Texts.TheVariants.{Read, Refused}
+use Rattle.inputs.specs.declared.TextRefusal.{TextRefusal}
 
 -- ---- a shape
 
@@ -49,20 +49,21 @@ pub record ShapePasses (l : Limits) (text : Bytes) (p shapes' p' : List ℕ) (to
   pub grows : top ≤ top'
   pub front : take top p' ≡ take top p
 
-abbrev pub ShapeOutcome : Limits → Bytes → (p shapes' p' : List ℕ) (top : ℕ) → ShapeRead → Type 0
-ShapeOutcome l text p shapes' p' top (shape_read.Read words top') = ShapePasses l text p shapes' p' top words top'
-ShapeOutcome l text p shapes' p' top (shape_read.Refused n place) =
-    (k : ℕ) → judge_text k l read_shape text ≡ stopped (refusal n k place)
+abbrev pub ShapeOutcome : Limits → Bytes → (p shapes' p' : List ℕ) (top : ℕ) → std.Result Extent Refusal → Type 0
+ShapeOutcome l text p shapes' p' top (Ok e) = ShapePasses l text p shapes' p' top e.words e.top
+ShapeOutcome l text p shapes' p' top (Err r) =
+    (k : ℕ) → judge_text k l read_shape text ≡ stopped (refusal (number_of r.cause) k r.place)
 
-pub record JudgesShape (l : Limits) (text : Bytes) (p shapes' p' : List ℕ) (top : ℕ) (r : ShapeRead) : Type 0 where
+pub record JudgesShape (l : Limits) (text : Bytes) (p shapes' p' : List ℕ) (top : ℕ) (r : std.Result Extent Refusal)
+    : Type 0 where
   pub answer : ShapeOutcome l text p shapes' p' top r
   pub kept : length p' ≡ length p
 
 -- ---- the first text of two: its names take no more words than one text's can
 
-pub record JudgesFirst (l : Limits) (text : Bytes) (p shapes' p' : List ℕ) (r : ShapeRead) : Type 0 where
+pub record JudgesFirst (l : Limits) (text : Bytes) (p shapes' p' : List ℕ) (r : std.Result Extent Refusal) : Type 0 where
   pub answer : ShapeOutcome l text p shapes' p' 0 r
-  pub low : (words top : ℕ) → r ≡ shape_read.Read words top → top ≤ name_words l (length text)
+  pub low : (e : Extent) → r ≡ Ok e → e.top ≤ name_words l (length text)
 
 -- ---- a reader, which is always the first text
 
@@ -90,11 +91,12 @@ pub record ReaderPasses (l : Limits) (text : Bytes) (forms' p' : List ℕ) (word
   pub table : ReaderTable l forms' p' words top reader
   pub low : top ≤ reader_texts l (length text)
 
-abbrev pub ReaderOutcome : Limits → Bytes → (forms' p' : List ℕ) → FormsRead → Type 0
-ReaderOutcome l text forms' p' (forms_read.Read words top) = ReaderPasses l text forms' p' words top
-ReaderOutcome l text forms' p' (forms_read.Refused n place) = (k : ℕ) → judge_text k l read_reader text ≡ stopped (refusal n k place)
+abbrev pub ReaderOutcome : Limits → Bytes → (forms' p' : List ℕ) → std.Result Extent Refusal → Type 0
+ReaderOutcome l text forms' p' (Ok e) = ReaderPasses l text forms' p' e.words e.top
+ReaderOutcome l text forms' p' (Err r) =
+    (k : ℕ) → judge_text k l read_reader text ≡ stopped (refusal (number_of r.cause) k r.place)
 
-pub record JudgesReader (l : Limits) (text : Bytes) (forms' p' : List ℕ) (r : FormsRead) : Type 0 where
+pub record JudgesReader (l : Limits) (text : Bytes) (forms' p' : List ℕ) (r : std.Result Extent Refusal) : Type 0 where
   pub answer : ReaderOutcome l text forms' p' r
 
 -- ---- both
@@ -108,13 +110,15 @@ pub record BothPass
   pub held : Held first second
 
 abbrev pub BothOutcome
-    : {A B : Type 0} → Limits → Reading A → Bytes → Reading B → Bytes → (ℕ → ℕ → ℕ → A → B → Type 0) → Texts → Type 0
-BothOutcome l read s read' t Held (Read a b top) = BothPass l read s read' t (Held a b top)
-BothOutcome l read s read' t Held (Refused n k place) = judge_both l read s read' t ≡ stopped (refusal n k place)
+    : {A B : Type 0} → Limits → Reading A → Bytes → Reading B → Bytes → (ℕ → ℕ → ℕ → A → B → Type 0)
+    → std.Result Texts TextRefusal → Type 0
+BothOutcome l read s read' t Held (Ok x) = BothPass l read s read' t (Held x.first x.second x.top)
+BothOutcome l read s read' t Held (Err r) =
+    judge_both l read s read' t ≡ stopped (refusal (number_of r.refusal.cause) r.text r.refusal.place)
 
 pub record JudgesBoth
     {A B : Type 0} (l : Limits) (read : Reading A) (s : Bytes) (read' : Reading B) (t : Bytes)
-    (Held : ℕ → ℕ → ℕ → A → B → Type 0) (r : Texts) : Type 0 where
+    (Held : ℕ → ℕ → ℕ → A → B → Type 0) (r : std.Result Texts TextRefusal) : Type 0 where
   pub answer : BothOutcome l read s read' t Held r
 
 -- ---- a shape and a document

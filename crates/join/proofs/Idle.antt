@@ -11,8 +11,8 @@ use lib.Seq.{set-get_or}
 use Rattle.definitions.specs.Join.{join}
 use Rattle.laws.specs.Tests.{eqb_eq}
 use Rattle.shapes.specs.Shapes.{has_bit, head_of, size_at}
-use Rattle.shapes.specs.ShapesLaws.{stands_row}
-use Rattle.join.specs.declared.Joined.TheVariants.{Grown}
+use Rattle.shapes.specs.ShapesLaws.{stands_row, bit_tested}
+use Rattle.std.specs.Prelude.{Some}
 use Rattle.join.specs.Joining.{AddsNothing, JoinsTo}
 use Rattle.join.proofs.Heads.{head_set}
 use Rattle.join.proofs.Joining.{record_none, element_none}
@@ -20,12 +20,12 @@ use Rattle.join.proofs.Whole.{members_joins, whole_grown}
 
 -- the tests tell it
 pub told_idle
-    : {shapes second : List ℕ} {row other a b : ℕ} {x y z : Bool} → a ≡ get_or second other 0 % 128 → b ≡ get_or shapes row 0 % 128
-    → x ≡ has_bit a 32 → x ≡ false → y ≡ has_bit a 64 → y ≡ false → z ≡ eqb (bit_or a b) b → z ≡ true → AddsNothing shapes second row other
-told_idle {a} {b} e f x x' y y' z z' =
+    : {shapes second : List ℕ} {row other a b : ℕ} {z : Bool} → a ≡ get_or second other 0 % 128 → b ≡ get_or shapes row 0 % 128
+    → false ≡ has_bit a 32 → false ≡ has_bit a 64 → z ≡ eqb (bit_or a b) b → z ≡ true → AddsNothing shapes second row other
+told_idle {a} {b} e f x y z z' =
     record {
-      no_list = ap (λ (i : ℕ). has_bit i 32) (sym e) ∙ sym x ∙ x';
-      no_rec = ap (λ (i : ℕ). has_bit i 64) (sym e) ∙ sym y ∙ y';
+      no_list = bit_tested 32 e x;
+      no_rec = bit_tested 64 e y;
       within = ap₂ bit_or (sym f) (sym e) ∙ or_comm b a ∙ eqb_eq (sym z ∙ z') ∙ f;
     }
 
@@ -43,7 +43,7 @@ head_kept xs row kinds h e =
 
 pub idle
     : {shapes second pool : List ℕ} {used row other left : ℕ} → AddsNothing shapes second row other
-    → JoinsTo join shapes shapes second pool used row other left (Grown 0)
+    → JoinsTo join shapes shapes second pool used row other left (Some 0)
 idle {shapes} {second} {row} {other} i p m k s t j =
     let q = record_none i.no_rec s t j in
     let v = element_none i.no_list _ t (members_joins j q) in

@@ -11,13 +11,11 @@ use Rattle.definitions.specs.Join.{join, join_element, join_record}
 use Rattle.laws.specs.OrderInduction.{ascending_of_element, ascending_of_record}
 use Rattle.shapes.specs.Shapes.{bit, has_bit, ShapeRows, element_rows, record_rows, FieldRows, FieldsStand, size_at, members_at}
 use Rattle.shapes.specs.ShapesLaws.{stands_size, stands_within, stands_element, stands_members, members_at_is}
-use Rattle.join.specs.declared.Joined.{Joined}
-use Rattle.join.specs.declared.Joined.TheVariants.{Grown, Full}
+use Rattle.std.specs.Prelude.{Some, None}
 use Rattle.join.specs.Replacing.{Put, Over}
 use Rattle.join.specs.ReplacingLaws.{put_map}
 use Rattle.join.specs.Merge.{merge}
 use Rattle.join.specs.Joining.{Walks, Mergeable, Merges, Joins, Joinable, JoinsTo, join_records, join_elements}
-use Rattle.join.proofs.Answers.{grown_of, full_of}
 use Rattle.join.proofs.Rows.{record_changed, element_changed, unchanged}
 use Rattle.join.proofs.Parts.{clash, bit_list, bit_rec}
 
@@ -110,20 +108,20 @@ module _ {shapes second pool p : List ℕ} {used row m other k left : ℕ} where
       record_asks (shape n c x y e (rec_of fs)) (shape n' c' x' y' e' (rec_of gs)) j l =
           record { p = p; ours = fs; theirs = gs; walks = span_walks j; small = l }
 
-      module _ (shapes₁ : List ℕ) (r : Joined) (f : Merges shapes shapes₁ second pool used at end from to (left - 1) r) where
+      module _ (shapes₁ : List ℕ) where
         pub record_full
-            : r ≡ Full → (s t : Shape) → Joins shapes second pool p used row m other k left s t
+            : Merges shapes shapes₁ second pool used at end from to (left - 1) None → (s t : Shape) → Joins shapes second pool p used row m other k left s t
             → Over shapes shapes₁ used (2 * forms s) (2 * forms (join_records s t))
         unfolding has_rec join_records record_of join merge forms
         record_full g (shape n c x y e no_rec) t j = clash b refl (bit_rec j.both.ours)
         record_full g (shape n c x y e (rec_of fs)) (shape n' c' x' y' e' no_rec) j = clash d refl (bit_rec j.both.theirs)
         record_full g (shape n c x y e (rec_of fs)) (shape n' c' x' y' e' (rec_of gs)) j =
-            let o = full_of shapes shapes₁ used at (2 * forms_fields fs) (2 * forms_fields (merge fs gs)) (FieldRows p (merge fs gs)) g
-            (f p fs gs (span_walks j)) in
+            let o = g p fs gs (span_walks j) in
             record { over = omega (arith, o.over); same = o.same }
 
         pub record_inner
-            : {words : ℕ} → r ≡ Grown words → (s t : Shape) → Joins shapes second pool p used row m other k left s t
+            : {words : ℕ} → Merges shapes shapes₁ second pool used at end from to (left - 1) (Some words) → (s t : Shape)
+            → Joins shapes second pool p used row m other k left s t
             → (fs gs : Fields) × Put shapes shapes₁ used words at (2 * forms_fields fs) (FieldRows p (merge fs gs)) × (row < at) × (at ≤ used)
         unfolding has_rec forms
         record_inner g (shape n c x y e no_rec) t j = clash b refl (bit_rec j.both.ours)
@@ -131,13 +129,13 @@ module _ {shapes second pool p : List ℕ} {used row m other k left : ℕ} where
         record_inner g (shape n c x y e (rec_of fs)) (shape n' c' x' y' e' (rec_of gs)) j = (
           fs,
           gs,
-          grown_of shapes shapes₁ used at (2 * forms_fields fs) (2 * forms_fields (merge fs gs)) (FieldRows p (merge fs gs)) g (f p fs gs (span_walks j)),
+          g p fs gs (span_walks j),
           omega (arith, z.at_is, members_at_is j.both.ours),
           omega (arith, z.at_is, members_at_is j.both.ours, j.both.within),
         )
 
         pub record_grown
-            : {words : ℕ} {shapes₂ : List ℕ} → r ≡ Grown words
+            : {words : ℕ} {shapes₂ : List ℕ} → Merges shapes shapes₁ second pool used at end from to (left - 1) (Some words)
             → shapes₂ ≡ take row shapes₁ ++ (get_or shapes₁ row 0 + 0 + 128 * words) ∷ drop (row + 1) shapes₁ → length shapes₂ ≡ length shapes₁
             → (s t : Shape) → Joins shapes second pool p used row m other k left s t
             → Put shapes shapes₂ used words row (2 * forms s) (ShapeRows p m (join_records s t))
@@ -148,7 +146,7 @@ module _ {shapes second pool p : List ℕ} {used row m other k left : ℕ} where
             record_changed 0 j.both.ours j.both.within j.both.used_within
             (put_map
             (λ rows q. record_rows q)
-            (grown_of shapes shapes₁ used at (2 * forms_fields fs) (2 * forms_fields (merge fs gs)) (FieldRows p (merge fs gs)) g (f p fs gs (span_walks j))))
+            (g p fs gs (span_walks j)))
             (omega (arith, z.at_is, members_at_is j.both.ours)) refl refl h i
 
   -- ---- element
@@ -182,19 +180,21 @@ module _ {shapes second pool p : List ℕ} {used row m other k left : ℕ} where
     element_asks (shape n c x y (list_of a) r) (shape n' c' x' y' (list_of a') r') j l =
         record { p = p; name = 0; other_name = 0; ours = a; theirs = a'; joins = inner_joins j; small = l }
 
-    module _ (shapes₁ : List ℕ) (q : Joined) (f : JoinsTo join shapes shapes₁ second pool used (row + 2) (other + 2) (left - 1) q) where
+    module _ (shapes₁ : List ℕ) where
       pub element_full
-          : q ≡ Full → (s t : Shape) → Joins shapes second pool p used row m other k left s t
+          : JoinsTo join shapes shapes₁ second pool used (row + 2) (other + 2) (left - 1) None → (s t : Shape)
+          → Joins shapes second pool p used row m other k left s t
           → Over shapes shapes₁ used (2 * forms s) (2 * forms (join_elements s t))
       unfolding has_list join_elements element_of join forms
       element_full g (shape n c x y no_list r) t j = clash b refl (bit_list j.both.ours)
       element_full g (shape n c x y (list_of a) r) (shape n' c' x' y' no_list r') j = clash d refl (bit_list j.both.theirs)
       element_full g (shape n c x y (list_of a) r) (shape n' c' x' y' (list_of a') r') j =
-          let o = full_of shapes shapes₁ used (row + 2) (2 * forms a) (2 * forms (join a a')) (ShapeRows p 0 (join a a')) g (f p 0 0 a a' (inner_joins j)) in
+          let o = g p 0 0 a a' (inner_joins j) in
           record { over = omega (arith, o.over); same = o.same }
 
       pub element_inner
-          : {words : ℕ} → q ≡ Grown words → (s t : Shape) → Joins shapes second pool p used row m other k left s t
+          : {words : ℕ} → JoinsTo join shapes shapes₁ second pool used (row + 2) (other + 2) (left - 1) (Some words) → (s t : Shape)
+          → Joins shapes second pool p used row m other k left s t
           → (a u : Shape) × Put shapes shapes₁ used words (row + 2) (2 * forms a) (ShapeRows p 0 u) × (row + 2 ≤ used)
       unfolding has_list forms
       element_inner g (shape n c x y no_list r) t j = clash b refl (bit_list j.both.ours)
@@ -202,12 +202,12 @@ module _ {shapes second pool p : List ℕ} {used row m other k left : ℕ} where
       element_inner g (shape n c x y (list_of a) r) (shape n' c' x' y' (list_of a') r') j = (
         a,
         join a a',
-        grown_of shapes shapes₁ used (row + 2) (2 * forms a) (2 * forms (join a a')) (ShapeRows p 0 (join a a')) g (f p 0 0 a a' (inner_joins j)),
+        g p 0 0 a a' (inner_joins j),
         omega (arith, j.both.within),
       )
 
       pub element_grown
-          : {words : ℕ} {shapes₂ : List ℕ} → q ≡ Grown words
+          : {words : ℕ} {shapes₂ : List ℕ} → JoinsTo join shapes shapes₁ second pool used (row + 2) (other + 2) (left - 1) (Some words)
           → shapes₂ ≡ take row shapes₁ ++ (get_or shapes₁ row 0 + 0 + 128 * words) ∷ drop (row + 1) shapes₁ → length shapes₂ ≡ length shapes₁
           → (s t : Shape) → Joins shapes second pool p used row m other k left s t
           → Put shapes shapes₂ used words row (2 * forms s) (ShapeRows p m (join_elements s t))
@@ -218,5 +218,5 @@ module _ {shapes second pool p : List ℕ} {used row m other k left : ℕ} where
           element_changed 0 j.both.ours j.both.within j.both.used_within
           (put_map
           (λ rows v. element_rows v)
-          (grown_of shapes shapes₁ used (row + 2) (2 * forms a) (2 * forms (join a a')) (ShapeRows p 0 (join a a')) g (f p 0 0 a a' (inner_joins j))))
+          (g p 0 0 a a' (inner_joins j)))
           refl refl refl h i

@@ -1,5 +1,4 @@
 pub mod Gaps
-pub mod Copies
 pub mod Heads
 pub mod Walks
 pub mod Rows

@@ -4,16 +4,14 @@ use native.Mathlib.Omega.{arith}
 use mathlib.Core.Path.{◌≡◌}
 use mathlib.Core.List.{List}
 use lib.ListN.{length}
-use Rattle.definitions.specs.Shape.{Fields, forms, forms_fields}
-use Rattle.pool.specs.declared.Comparison.{Comparison}
+use Rattle.definitions.specs.Shape.{Fields, forms_fields}
+use Rattle.std.specs.declared.cmp.Ordering.{Ordering}
 use Rattle.shapes.specs.Shapes.{size_at}
 use Rattle.shapes.specs.ShapesLaws.{fields_end, fields_within}
-use Rattle.join.specs.declared.Joined.{Joined}
-use Rattle.join.specs.declared.Joined.TheVariants.{Grown, Full}
+use Rattle.std.specs.Prelude.{Some, None}
 use Rattle.join.specs.Replacing.{Put, Over}
 use Rattle.join.specs.Merge.{merge}
 use Rattle.join.specs.Joining.{Walks, Next, TellsNext, MemberRows, passed_words, Mergeable, Turns, Turned}
-use Rattle.join.proofs.Answers.{grown_of, full_of}
 use Rattle.join.proofs.Merging.{Merging, merging_end, merging_walks, merging_full, merging_on, merging_less}
 
 -- the invariant: all members that stood in the tables at first are joined so far
@@ -53,7 +51,7 @@ module _
         }
 
 module _
-    {shapes₀ second pool : List ℕ} {used row end other to left : ℕ} {shapes : List ℕ} {words i j : ℕ} {o : Comparison}
+    {shapes₀ second pool : List ℕ} {used row end other to left : ℕ} {shapes : List ℕ} {words i j : ℕ} {o : Ordering}
     (inv : Underway shapes₀ second pool used row end other to left shapes words i j)
     (tells : TellsNext shapes second pool i (end + words) j to o) (test : i + j < end + words + to)
   where
@@ -82,20 +80,20 @@ module _
           small = omega (arith, m.same, w.small);
         }
 
-    module _ (shapes' : List ℕ) {r : Joined} (turned : Turned o shapes shapes' second pool (used + words) i j left r) where
+    module _ (shapes' : List ℕ) where
       -- a turn that is full says that the members of both are more than fit
       pub loop_full
-          : r ≡ Full → (p : List ℕ) (fs gs : Fields) → Walks shapes₀ second pool p used row end other to left fs gs
+          : Turned o shapes shapes' second pool (used + words) i j left None → (p : List ℕ) (fs gs : Fields)
+          → Walks shapes₀ second pool p used row end other to left fs gs
           → Over shapes₀ shapes' used (2 * forms_fields fs) (2 * forms_fields (merge fs gs))
-      loop_full e p fs gs v =
+      loop_full turned p fs gs v =
           let m = inv p fs gs v in
           let x = next v in
-          merging_full m x.turn
-          (full_of shapes shapes' (used + words) i x.old (2 * forms x.shape) (MemberRows p x.name x.shape) e
-          (turned p (end + words) to m.ours m.theirs x.name x.shape x.old x.ours x.theirs (left_walks v) x.turn))
+          merging_full m x.turn (turned p (end + words) to m.ours m.theirs x.name x.shape x.old x.ours x.theirs (left_walks v) x.turn)
 
       module _
-          {more : ℕ} (e : r ≡ Grown more) (size passed : ℕ) (es : size ≡ size_at shapes' i) (ep : passed ≡ passed_words second j o)
+          {more : ℕ} (turned : Turned o shapes shapes' second pool (used + words) i j left (Some more)) (size passed : ℕ)
+          (es : size ≡ size_at shapes' i) (ep : passed ≡ passed_words second j o)
         where
           -- the next member joined
           put
@@ -104,8 +102,7 @@ module _
           put {p} {fs} {gs} v =
               let m = inv p fs gs v in
               let x = next v in
-              grown_of shapes shapes' (used + words) i x.old (2 * forms x.shape) (MemberRows p x.name x.shape) e
-              (turned p (end + words) to m.ours m.theirs x.name x.shape x.old x.ours x.theirs (left_walks v) x.turn)
+              turned p (end + words) to m.ours m.theirs x.name x.shape x.old x.ours x.theirs (left_walks v) x.turn
 
           -- after a turn that grows the table the invariant holds again
           pub loop_again : Underway shapes₀ second pool used row end other to left shapes' (words + more) (i + size) (j + passed)

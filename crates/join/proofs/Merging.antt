@@ -9,7 +9,7 @@ use lib.Seq.{length-take-le}
 use Rattle.definitions.specs.Bytes.{Bytes}
 use Rattle.definitions.specs.Shape.{Shape, Fields, no_fields, field, ascending_fields, forms, forms_fields, levels, levels_fields}
 use Rattle.laws.specs.Fields.{ascending_rest}
-use Rattle.pool.specs.declared.Comparison.{Comparison}
+use Rattle.std.specs.declared.cmp.Ordering.{Ordering}
 use Rattle.plain.specs.Table.{Used}
 use Rattle.shapes.specs.Shapes.{FieldRows, no_field_rows, field_rows, Stands, FieldsStand, size_at}
 use Rattle.shapes.specs.ShapesLaws.{length_shape_rows, length_field_rows, stands_size, forms_some, fields_first, fields_rest, fields_end}
@@ -26,7 +26,7 @@ empty (x ∷ l) e = absurd (let z : ⊥ = omega arith in z)
 -- ---- one turn of the definition
 
 turn_merge
-    : {o : Comparison} {fs gs : Fields} {n : Bytes} {u : Shape} {old : ℕ} {fs' gs' : Fields} → Turn o fs gs n u old fs' gs'
+    : {o : Ordering} {fs gs : Fields} {n : Bytes} {u : Shape} {old : ℕ} {fs' gs' : Fields} → Turn o fs gs n u old fs' gs'
     → ascending_fields fs ≡ true → ascending_fields gs ≡ true → merge fs gs ≡ field n u (merge fs' gs')
 turn_merge (turn_first {n} {a} {fs} {gs} h) i j = merge_first n a fs gs i j h
 turn_merge (turn_second {m} {b} {fs} {gs} h) i j = merge_second m b fs gs i h
@@ -34,21 +34,21 @@ turn_merge (turn_both {n} {a} {b} {fs} {gs}) i j = merge_both n a b fs gs i j
 
 -- the members left ascend, and are nested no deeper
 turn_ours
-    : {o : Comparison} {fs gs : Fields} {n : Bytes} {u : Shape} {old : ℕ} {fs' gs' : Fields} → Turn o fs gs n u old fs' gs'
+    : {o : Ordering} {fs gs : Fields} {n : Bytes} {u : Shape} {old : ℕ} {fs' gs' : Fields} → Turn o fs gs n u old fs' gs'
     → ascending_fields fs ≡ true → ascending_fields fs' ≡ true
 turn_ours (turn_first {n} {a} {fs} h) i = ascending_rest n a fs i
 turn_ours (turn_second h) i = i
 turn_ours (turn_both {n} {a} {b} {fs}) i = ascending_rest n a fs i
 
 turn_theirs
-    : {o : Comparison} {fs gs : Fields} {n : Bytes} {u : Shape} {old : ℕ} {fs' gs' : Fields} → Turn o fs gs n u old fs' gs'
+    : {o : Ordering} {fs gs : Fields} {n : Bytes} {u : Shape} {old : ℕ} {fs' gs' : Fields} → Turn o fs gs n u old fs' gs'
     → ascending_fields gs ≡ true → ascending_fields gs' ≡ true
 turn_theirs (turn_first h) i = i
 turn_theirs (turn_second {m} {b} {fs} {gs} h) i = ascending_rest m b gs i
 turn_theirs (turn_both {n} {a} {b} {fs} {gs}) i = ascending_rest n b gs i
 
 turn_nests
-    : {o : Comparison} {fs gs : Fields} {n : Bytes} {u : Shape} {old : ℕ} {fs' gs' : Fields} → Turn o fs gs n u old fs' gs' → (left : ℕ)
+    : {o : Ordering} {fs gs : Fields} {n : Bytes} {u : Shape} {old : ℕ} {fs' gs' : Fields} → Turn o fs gs n u old fs' gs' → (left : ℕ)
     → levels_fields gs ≤ left → levels_fields gs' ≤ left
 unfolding levels
 turn_nests (turn_first h) left i = i
@@ -69,7 +69,7 @@ first_taken : {p rows : List ℕ} {n : Bytes} {a : Shape} {fs : Fields} → Fiel
 first_taken (field_rows {rs} {qs} f is js) = record { taken = rs; others = qs; whole = refl; size = length_shape_rows is; encoded = js }
 
 turn_taken
-    : {p rows : List ℕ} {o : Comparison} {fs gs : Fields} {n : Bytes} {u : Shape} {old : ℕ} {fs' gs' : Fields} → Turn o fs gs n u old fs' gs'
+    : {p rows : List ℕ} {o : Ordering} {fs gs : Fields} {n : Bytes} {u : Shape} {old : ℕ} {fs' gs' : Fields} → Turn o fs gs n u old fs' gs'
     → FieldRows p fs rows → Taken p old fs' rows
 turn_taken (turn_first h) e = first_taken e
 turn_taken {rows} (turn_second h) e = record { taken = []; others = rows; whole = refl; size = refl; encoded = e }
@@ -77,7 +77,7 @@ turn_taken turn_both e = first_taken e
 
 -- the second's members left, and that a turn passes something
 turn_passes
-    : {second p : List ℕ} {j to : ℕ} {o : Comparison} {fs gs : Fields} {n : Bytes} {u : Shape} {old : ℕ} {fs' gs' : Fields}
+    : {second p : List ℕ} {j to : ℕ} {o : Ordering} {fs gs : Fields} {n : Bytes} {u : Shape} {old : ℕ} {fs' gs' : Fields}
     → Turn o fs gs n u old fs' gs' → FieldsStand second p j to gs
     → FieldsStand second p (j + passed_words second j o) to gs' × (0 < old + passed_words second j o)
 turn_passes {second} {p} {j} {to} (turn_first {a} {gs} h) w = (
@@ -173,7 +173,7 @@ module _
         }
 
     module _
-        {o : Comparison} {n : Bytes} {u : Shape} {old : ℕ} {fs' gs' : Fields} (t : Turn o m.ours m.theirs n u old fs' gs')
+        {o : Ordering} {n : Bytes} {u : Shape} {old : ℕ} {fs' gs' : Fields} (t : Turn o m.ours m.theirs n u old fs' gs')
       where
         pub merging_full
             : {shapes' : List ℕ} → Over shapes shapes' (used + words) old (2 * forms u)

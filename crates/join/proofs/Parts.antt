@@ -82,6 +82,11 @@ pub record Putting (shapes second : List ℕ) (row other end from to : ℕ) : Ty
   pub from_is : from ≡ members_at second other
   pub to_is : to ≡ other + size_at second other
 
+pub putting
+    : {shapes second : List ℕ} (row other : ℕ) {size from passed : ℕ} → size ≡ size_at shapes row → from ≡ members_at second other
+    → passed ≡ size_at second other → Putting shapes second row other (row + size) from (other + passed)
+putting row other e f g = record { end_is = ap (λ (i : ℕ). row + i) e; from_is = f; to_is = ap (λ (i : ℕ). other + i) g }
+
 module _ {shapes second p : List ℕ} {used row m other k end from to : ℕ} where
   pub put_members_room : (s t : Shape) → Both shapes second p used row m other k s t → Putting shapes second row other end from to
       → (row < end) × (end ≤ used) × (from ≤ to) × (to ≤ length second)

@@ -9,13 +9,12 @@ use Rattle.definitions.specs.Shape.{Shape, Fields, field, forms, levels}
 use Rattle.definitions.specs.Join.{with_null, join}
 use Rattle.laws.specs.Fields.{ascending_first}
 use Rattle.laws.specs.FieldsPut.{forms_with_null}
-use Rattle.pool.specs.declared.Comparison.{Comparison}
-use Rattle.pool.specs.declared.Comparison.TheVariants.{Less, Equal, Greater}
+use Rattle.std.specs.declared.cmp.Ordering.{Ordering}
+use Rattle.std.specs.declared.cmp.Ordering.TheVariants.{Less, Equal, Greater}
 use Rattle.nodes.specs.Nodes.{Refers}
 use Rattle.shapes.specs.Shapes.{ShapeRows}
 use Rattle.shapes.specs.ShapesLaws.{stands_within, forms_some, fields_first, fields_end}
-use Rattle.join.specs.declared.Joined.{Joined}
-use Rattle.join.specs.declared.Joined.TheVariants.{Grown, Full}
+use Rattle.std.specs.Prelude.{Option, Some, None}
 use Rattle.join.specs.Replacing.{Put, Puts}
 use Rattle.join.specs.ReplacingLaws.{put_map}
 use Rattle.join.specs.Joining.{Walks, Turn, turn_first, turn_second, turn_both, Next, MemberRows}
@@ -28,10 +27,10 @@ named : {p : List ℕ} {n : Bytes} {k : ℕ} {u : Shape} → Refers p n k → (r
 named {k} f rows e = record { name = k; refers = f; encoded = e }
 
 puts_named
-    : (shapes shapes' : List ℕ) (used row old new new' : ℕ) {p : List ℕ} {n : Bytes} {k : ℕ} (u : Shape) (r : Joined) → Refers p n k → new ≡ new'
+    : (shapes shapes' : List ℕ) (used row old new new' : ℕ) {p : List ℕ} {n : Bytes} {k : ℕ} (u : Shape) (r : Option ℕ) → Refers p n k → new ≡ new'
     → Puts shapes shapes' used row old new (ShapeRows p k u) r → Puts shapes shapes' used row old new' (MemberRows p n u) r
-puts_named shapes shapes' used row old new new' u (Grown words) f e h = put_map (named f) h
-puts_named shapes shapes' used row old new new' u Full f e h = record { over = omega (arith, h.over); same = h.same }
+puts_named shapes shapes' used row old new new' u (Some words) f e h = put_map (named f) h
+puts_named shapes shapes' used row old new new' u None f e h = record { over = omega (arith, h.over); same = h.same }
 
 module _ {shapes second pool p : List ℕ} {used row end other to left : ℕ} where
   -- ---- a member of the first alone
@@ -42,9 +41,9 @@ module _ {shapes second pool p : List ℕ} {used row end other to left : ℕ} wh
   ours_within w = omega (arith, fields_end w.walk.ours, w.within)
 
   pub less_asks
-      : {o : Comparison} {fs gs : Fields} → o ≡ Less → Walks shapes second pool p used row end other to left fs gs → Next o fs gs → length shapes ≤ 65536
+      : {o : Ordering} {fs gs : Fields} → o ≡ Less → Walks shapes second pool p used row end other to left fs gs → Next o fs gs → length shapes ≤ 65536
       → (row < length shapes) × (get_or shapes row 0 + 1 < 18446744073709551616)
-  less_asks {fs} {gs} e w x l = go (subst (λ (z : Comparison). Turn z fs gs x.name x.shape x.old x.ours x.theirs) e x.turn) w
+  less_asks {fs} {gs} e w x l = go (subst (λ (z : Ordering). Turn z fs gs x.name x.shape x.old x.ours x.theirs) e x.turn) w
     where
       go
           : {fs gs : Fields} {n : Bytes} {u : Shape} {old : ℕ} {fs' gs' : Fields} → Turn Less fs gs n u old fs' gs'
@@ -54,12 +53,12 @@ module _ {shapes second pool p : List ℕ} {used row end other to left : ℕ} wh
           (omega (arith, stands_within s, forms_some a), omega (arith, head_small s l))
 
   pub less_turned
-      : {o : Comparison} {fs gs : Fields} {n : Bytes} {u : Shape} {old : ℕ} {fs' gs' : Fields} {shapes' : List ℕ} → o ≡ Less
+      : {o : Ordering} {fs gs : Fields} {n : Bytes} {u : Shape} {old : ℕ} {fs' gs' : Fields} {shapes' : List ℕ} → o ≡ Less
       → shapes' ≡ take row shapes ++ null_head (get_or shapes row 0) ∷ drop (row + 1) shapes → length shapes' ≡ length shapes
       → Walks shapes second pool p used row end other to left fs gs → Turn o fs gs n u old fs' gs'
       → Put shapes shapes' used 0 row old (MemberRows p n u)
   less_turned {fs = fs₀} {gs = gs₀} {n = n₀} {u = u₀} {old = old₀} {fs' = fs₁} {gs' = gs₁} {shapes'} e f l w t =
-      go (subst (λ (z : Comparison). Turn z fs₀ gs₀ n₀ u₀ old₀ fs₁ gs₁) e t) w
+      go (subst (λ (z : Ordering). Turn z fs₀ gs₀ n₀ u₀ old₀ fs₁ gs₁) e t) w
     where
       go
           : {fs gs : Fields} {n : Bytes} {u : Shape} {old : ℕ} {fs' gs' : Fields} → Turn Less fs gs n u old fs' gs'
@@ -71,9 +70,9 @@ module _ {shapes second pool p : List ℕ} {used row end other to left : ℕ} wh
   -- ---- a member of the second alone
 
   pub greater_asks
-      : {o : Comparison} {fs gs : Fields} → o ≡ Greater → Walks shapes second pool p used row end other to left fs gs → Next o fs gs → length shapes ≤ 65536
+      : {o : Ordering} {fs gs : Fields} → o ≡ Greater → Walks shapes second pool p used row end other to left fs gs → Next o fs gs → length shapes ≤ 65536
       → Puttable shapes second used row other
-  greater_asks {fs} {gs} e w x l = go (subst (λ (z : Comparison). Turn z fs gs x.name x.shape x.old x.ours x.theirs) e x.turn) w
+  greater_asks {fs} {gs} e w x l = go (subst (λ (z : Ordering). Turn z fs gs x.name x.shape x.old x.ours x.theirs) e x.turn) w
     where
       go
           : {fs gs : Fields} {n : Bytes} {u : Shape} {old : ℕ} {fs' gs' : Fields} → Turn Greater fs gs n u old fs' gs'
@@ -91,12 +90,12 @@ module _ {shapes second pool p : List ℕ} {used row end other to left : ℕ} wh
           }
 
   pub greater_turned
-      : {o : Comparison} {fs gs : Fields} {n : Bytes} {u : Shape} {old : ℕ} {fs' gs' : Fields} (shapes' : List ℕ) (r : Joined) → o ≡ Greater
+      : {o : Ordering} {fs gs : Fields} {n : Bytes} {u : Shape} {old : ℕ} {fs' gs' : Fields} (shapes' : List ℕ) (r : Option ℕ) → o ≡ Greater
       → PutsNull shapes shapes' second used row other r
       → Walks shapes second pool p used row end other to left fs gs → Turn o fs gs n u old fs' gs'
       → Puts shapes shapes' used row old (2 * forms u) (MemberRows p n u) r
   greater_turned {fs = fs₀} {gs = gs₀} {n = n₀} {u = u₀} {old = old₀} {fs' = fs₁} {gs' = gs₁} shapes' r e f w t =
-      go (subst (λ (z : Comparison). Turn z fs₀ gs₀ n₀ u₀ old₀ fs₁ gs₁) e t) w
+      go (subst (λ (z : Ordering). Turn z fs₀ gs₀ n₀ u₀ old₀ fs₁ gs₁) e t) w
     where
       go
           : {fs gs : Fields} {n : Bytes} {u : Shape} {old : ℕ} {fs' gs' : Fields} → Turn Greater fs gs n u old fs' gs'
@@ -127,9 +126,9 @@ module _ {shapes second pool p : List ℕ} {used row end other to left : ℕ} wh
       }
 
   pub equal_asks
-      : {o : Comparison} {fs gs : Fields} → o ≡ Equal → Walks shapes second pool p used row end other to left fs gs → Next o fs gs → length shapes ≤ 65536
+      : {o : Ordering} {fs gs : Fields} → o ≡ Equal → Walks shapes second pool p used row end other to left fs gs → Next o fs gs → length shapes ≤ 65536
       → Joinable shapes second pool used row other left
-  equal_asks {fs} {gs} e w x l = go (subst (λ (z : Comparison). Turn z fs gs x.name x.shape x.old x.ours x.theirs) e x.turn) w
+  equal_asks {fs} {gs} e w x l = go (subst (λ (z : Ordering). Turn z fs gs x.name x.shape x.old x.ours x.theirs) e x.turn) w
     where
       go
           : {fs gs : Fields} {n : Bytes} {u : Shape} {old : ℕ} {fs' gs' : Fields} → Turn Equal fs gs n u old fs' gs'
@@ -146,12 +145,12 @@ module _ {shapes second pool p : List ℕ} {used row end other to left : ℕ} wh
           }
 
   pub equal_turned
-      : {o : Comparison} {fs gs : Fields} {n : Bytes} {u : Shape} {old : ℕ} {fs' gs' : Fields} (shapes' : List ℕ) (r : Joined) → o ≡ Equal
+      : {o : Ordering} {fs gs : Fields} {n : Bytes} {u : Shape} {old : ℕ} {fs' gs' : Fields} (shapes' : List ℕ) (r : Option ℕ) → o ≡ Equal
       → JoinsTo join shapes shapes' second pool used row other left r
       → Walks shapes second pool p used row end other to left fs gs → Turn o fs gs n u old fs' gs'
       → Puts shapes shapes' used row old (2 * forms u) (MemberRows p n u) r
   equal_turned {fs = fs₀} {gs = gs₀} {n = n₀} {u = u₀} {old = old₀} {fs' = fs₁} {gs' = gs₁} shapes' r e f w t =
-      go (subst (λ (z : Comparison). Turn z fs₀ gs₀ n₀ u₀ old₀ fs₁ gs₁) e t) w
+      go (subst (λ (z : Ordering). Turn z fs₀ gs₀ n₀ u₀ old₀ fs₁ gs₁) e t) w
     where
       go
           : {fs gs : Fields} {n : Bytes} {u : Shape} {old : ℕ} {fs' gs' : Fields} → Turn Equal fs gs n u old fs' gs'

@@ -10,8 +10,8 @@ use Rattle.definitions.specs.Shape.{Shape, Fields, no_fields, field, behind}
 use Rattle.definitions.specs.Join.{with_null, join}
 use Rattle.laws.specs.Names.{order_refl, order_eq, before_lt, before_gt}
 use Rattle.pool.specs.Pool.{text_in, ordering_of}
-use Rattle.pool.specs.declared.Comparison.{Comparison}
-use Rattle.pool.specs.declared.Comparison.TheVariants.{Less, Equal, Greater}
+use Rattle.std.specs.declared.cmp.Ordering.{Ordering}
+use Rattle.std.specs.declared.cmp.Ordering.TheVariants.{Less, Equal, Greater}
 use Rattle.shapes.specs.ShapesLaws.{stands_name, SomeFields, some_fields, fields_left, fields_none, fields_some, fields_first}
 use Rattle.join.specs.Joining.{MembersWalk, turn_first, turn_second, turn_both, Next}
 use Rattle.nodes.specs.StandingLaws.{text_referred}
@@ -33,7 +33,7 @@ next_both {n} {m} {a} {b} {fs} {gs} e =
 
 -- a comparison of two names tells which member is next
 by_order
-    : (o : Comparison) {n m : Bytes} {a b : Shape} {fs gs : Fields} → ordering_of o ≡ order n m
+    : (o : Ordering) {n m : Bytes} {a b : Shape} {fs gs : Fields} → ordering_of o ≡ order n m
     → Next o (field n a fs) (field m b gs)
 unfolding ordering_of behind
 by_order Less {n} {m} e = next_first (before_lt n m (sym e))
@@ -56,10 +56,10 @@ module _ {shapes second pool p : List ℕ} {row end other to : ℕ} where
   none_ours (field n a fs) gs w l h = absurd (let z : ⊥ = omega (arith, fields_some w.ours) in z)
 
   pub compared
-      : (o : Comparison) {x y w v k m : ℕ} → x ≡ get_or shapes (row + 1) 0 → y ≡ get_or second (other + 1) 0 → w ≡ x % 65536 → v ≡ y % 65536
-      → k ≡ x / 65536 → m ≡ y / 65536 → ordering_of o ≡ order (text_in pool w k) (text_in pool v m) → row < end → other < to
+      : (o : Ordering) {x y : ℕ} → x ≡ get_or shapes (row + 1) 0 → y ≡ get_or second (other + 1) 0
+      → ordering_of o ≡ order (text_in pool (x % 65536) (x / 65536)) (text_in pool (y % 65536) (y / 65536)) → row < end → other < to
       → (fs gs : Fields) → MembersWalk shapes second pool p row end other to fs gs → Next o fs gs
-  compared o e f ew ev ek em q h i fs gs w =
+  compared o e f q h i fs gs w =
       go (fields_left w.ours h) (fields_left w.theirs i) w
     where
       go : {fs gs : Fields} → SomeFields fs → SomeFields gs → MembersWalk shapes second pool p row end other to fs gs → Next o fs gs
@@ -69,10 +69,8 @@ module _ {shapes second pool p : List ℕ} {row end other to : ℕ} where
           by_order o
           (q
           ∙ ap₂ (λ (s t : Bytes). order s t)
-          (ap₂ (text_in pool) (ew ∙ ap (λ (i : ℕ). i % 65536) (e ∙ stands_name a.2)) (ek ∙ ap (λ (i : ℕ). i / 65536) (e ∙ stands_name a.2))
-          ∙ text_referred pool w.pooled.front w.pooled.small a.1)
-          (ap₂ (text_in pool) (ev ∙ ap (λ (i : ℕ). i % 65536) (f ∙ stands_name b.2)) (em ∙ ap (λ (i : ℕ). i / 65536) (f ∙ stands_name b.2))
-          ∙ text_referred pool w.pooled.front w.pooled.small b.1))
+          (ap (λ (x : ℕ). text_in pool (x % 65536) (x / 65536)) (e ∙ stands_name a.2) ∙ text_referred pool w.pooled.front w.pooled.small a.1)
+          (ap (λ (y : ℕ). text_in pool (y % 65536) (y / 65536)) (f ∙ stands_name b.2) ∙ text_referred pool w.pooled.front w.pooled.small b.1))
 
   -- names at one reference are the same
   pub one_name
@@ -80,7 +78,7 @@ module _ {shapes second pool p : List ℕ} {row end other to : ℕ} where
       → MembersWalk shapes second pool p row end other to fs gs → Next Equal fs gs
   unfolding ordering_of
   one_name {x} e f q h i fs gs w =
-      compared Equal e f refl refl refl refl
+      compared Equal e f
       (sym (order_refl (text_in pool (x % 65536) (x / 65536)))
       ∙ ap (λ (y : ℕ). order (text_in pool (x % 65536) (x / 65536)) (text_in pool (y % 65536) (y / 65536))) q)
       h

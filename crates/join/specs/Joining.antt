@@ -1,16 +1,15 @@
 -- What the functions that join a shape into another ask and answer. Assumes nothing.
-use Rattle.std.specs.Prelude.{ℕ, ◌+◌, ◌*◌, ◌%◌, ◌≤◌, ◌<◌, ◌≡◌, true, false, List, length, get_or, take, drop}
+use Rattle.std.specs.Prelude.{ℕ, ◌+◌, ◌*◌, ◌%◌, ◌≤◌, ◌<◌, ◌≡◌, true, false, List, length, get_or, take, drop, Option}
 use Rattle.std.specs.Int.Bits.{bit_or}
 use Rattle.definitions.specs.Bytes.{Bytes}
 use Rattle.definitions.specs.Shape.{Shape, shape, Fields, field, element_of, record_of, behind, ascending}
 use Rattle.definitions.specs.Shape.{ascending_fields, forms, forms_fields, levels, levels_fields}
 use Rattle.definitions.specs.Join.{with_null, join, join_element, join_record}
-use Rattle.pool.specs.declared.Comparison.{Comparison}
-use Rattle.pool.specs.declared.Comparison.TheVariants.{Less, Equal, Greater}
+use Rattle.std.specs.declared.cmp.Ordering.{Ordering}
+use Rattle.std.specs.declared.cmp.Ordering.TheVariants.{Less, Equal, Greater}
 use Rattle.nodes.specs.Nodes.{Refers}
 use Rattle.plain.specs.Table.{Used}
 use Rattle.shapes.specs.Shapes.{has_bit, ShapeRows, FieldRows, Stands, FieldsStand, size_at}
-use Rattle.join.specs.declared.Joined.{Joined}
 use Rattle.join.specs.Replacing.{Puts, Becomes}
 use Rattle.join.specs.Merge.{merge}
 
@@ -44,7 +43,7 @@ pub record MembersWalk (shapes second pool p : List ℕ) (row end other to : ℕ
 
 -- the next member of both: its name and its shape in the join, how many words of the first it takes the place of, and
 -- the members left. A comparison tells whose it is: less is the first's alone
-pub data Turn : Comparison → (fs gs : Fields) (n : Bytes) (u : Shape) (old : ℕ) (fs' gs' : Fields) → Type 0 where
+pub data Turn : Ordering → (fs gs : Fields) (n : Bytes) (u : Shape) (old : ℕ) (fs' gs' : Fields) → Type 0 where
   turn_first
       : {n : Bytes} {a : Shape} {fs gs : Fields} → behind n gs ≡ true
       → Turn Less (field n a fs) gs n (with_null a) (2 * forms a) fs gs
@@ -54,7 +53,7 @@ pub data Turn : Comparison → (fs gs : Fields) (n : Bytes) (u : Shape) (old : �
   turn_both
       : {n : Bytes} {a b : Shape} {fs gs : Fields} → Turn Equal (field n a fs) (field n b gs) n (join a b) (2 * forms a) fs gs
 
-pub record Next (o : Comparison) (fs gs : Fields) : Type 0 where
+pub record Next (o : Ordering) (fs gs : Fields) : Type 0 where
   pub name : Bytes
   pub shape : Shape
   pub old : ℕ
@@ -63,7 +62,7 @@ pub record Next (o : Comparison) (fs gs : Fields) : Type 0 where
   pub turn : Turn o fs gs name shape old ours theirs
 
 -- where a member is left, a comparison tells which is the next
-abbrev pub TellsNext : (shapes second pool : List ℕ) (row end other to : ℕ) → Comparison → Type 0
+abbrev pub TellsNext : (shapes second pool : List ℕ) (row end other to : ℕ) → Ordering → Type 0
 TellsNext shapes second pool row end other to o =
     (p : List ℕ) (fs gs : Fields) → MembersWalk shapes second pool p row end other to fs gs → row + other < end + to → Next o fs gs
 
@@ -74,7 +73,7 @@ pub record MemberRows (p : List ℕ) (n : Bytes) (u : Shape) (rows : List ℕ) :
   pub encoded : ShapeRows p name u rows
 
 -- how many words of the second a turn passes
-abbrev pub passed_words : List ℕ → ℕ → Comparison → ℕ
+abbrev pub passed_words : List ℕ → ℕ → Ordering → ℕ
 passed_words second other Less = 0
 passed_words second other Equal = size_at second other
 passed_words second other Greater = size_at second other
@@ -94,13 +93,13 @@ pub record Mergeable (shapes second pool : List ℕ) (used row end other to left
   pub walks : Walks shapes second pool p used row end other to left ours theirs
   pub small : length shapes ≤ 65536
 
-abbrev pub Merges : (shapes shapes' second pool : List ℕ) (used row end other to left : ℕ) → Joined → Type 0
+abbrev pub Merges : (shapes shapes' second pool : List ℕ) (used row end other to left : ℕ) → Option ℕ → Type 0
 Merges shapes shapes' second pool used row end other to left r =
     (p : List ℕ) (fs gs : Fields) → Walks shapes second pool p used row end other to left fs gs
     → Puts shapes shapes' used row (2 * forms_fields fs) (2 * forms_fields (merge fs gs)) (FieldRows p (merge fs gs)) r
 
 -- one turn of it
-pub record Turns (o : Comparison) (shapes second pool : List ℕ) (used row other left : ℕ) : Type 0 where
+pub record Turns (o : Ordering) (shapes second pool : List ℕ) (used row other left : ℕ) : Type 0 where
   pub p : List ℕ
   pub end : ℕ
   pub to : ℕ
@@ -110,7 +109,7 @@ pub record Turns (o : Comparison) (shapes second pool : List ℕ) (used row othe
   pub next : Next o ours theirs
   pub small : length shapes ≤ 65536
 
-abbrev pub Turned : (o : Comparison) (shapes shapes' second pool : List ℕ) (used row other left : ℕ) → Joined → Type 0
+abbrev pub Turned : (o : Ordering) (shapes shapes' second pool : List ℕ) (used row other left : ℕ) → Option ℕ → Type 0
 Turned o shapes shapes' second pool used row other left r =
     (p : List ℕ) (end to : ℕ) (fs gs : Fields) (n : Bytes) (u : Shape) (old : ℕ) (fs' gs' : Fields)
     → Walks shapes second pool p used row end other to left fs gs → Turn o fs gs n u old fs' gs'
@@ -127,7 +126,7 @@ pub record Puttable (shapes second : List ℕ) (used at from : ℕ) : Type 0 whe
   pub small : length shapes ≤ 65536
 
 -- every such shape is put there with null added
-abbrev pub PutsNull : (shapes shapes' second : List ℕ) (used at from : ℕ) → Joined → Type 0
+abbrev pub PutsNull : (shapes shapes' second : List ℕ) (used at from : ℕ) → Option ℕ → Type 0
 PutsNull shapes shapes' second used at from r =
     (p : List ℕ) (k : ℕ) (b : Shape) → Stands second p from k b
     → Puts shapes shapes' used at 0 (2 * forms b) (ShapeRows p k (with_null b)) r
@@ -158,7 +157,7 @@ pub record Beside (shapes second : List ℕ) (used row other : ℕ) : Type 0 whe
   pub small : length shapes ≤ 65536
 
 -- for every such two shapes, the first becomes what `f` makes of both
-abbrev pub BecomesBoth : (f : Shape → Shape → Shape) (shapes shapes' second : List ℕ) (used row other : ℕ) → Joined → Type 0
+abbrev pub BecomesBoth : (f : Shape → Shape → Shape) (shapes shapes' second : List ℕ) (used row other : ℕ) → Option ℕ → Type 0
 BecomesBoth f shapes shapes' second used row other r =
     (p : List ℕ) (m k : ℕ) (s t : Shape) → Both shapes second p used row m other k s t
     → Becomes shapes shapes' p used row m s (f s t) r
@@ -181,7 +180,7 @@ pub record Joinable (shapes second pool : List ℕ) (used row other left : ℕ) 
   pub small : length shapes ≤ 65536
 
 abbrev pub JoinsTo
-    : (f : Shape → Shape → Shape) (shapes shapes' second pool : List ℕ) (used row other left : ℕ) → Joined → Type 0
+    : (f : Shape → Shape → Shape) (shapes shapes' second pool : List ℕ) (used row other left : ℕ) → Option ℕ → Type 0
 JoinsTo f shapes shapes' second pool used row other left r =
     (p : List ℕ) (m k : ℕ) (s t : Shape) → Joins shapes second pool p used row m other k left s t
     → Becomes shapes shapes' p used row m s (f s t) r

@@ -2,8 +2,7 @@
 use Rattle.std.specs.Prelude.{ℕ, ◌+◌, ◌*◌, ◌≤◌, ◌<◌, ◌≡◌, List, ◌++◌, length, take, drop}
 use Rattle.definitions.specs.Shape.{Shape, forms}
 use Rattle.shapes.specs.Shapes.{ShapeRows}
-use Rattle.join.specs.declared.Joined.{Joined}
-use Rattle.join.specs.declared.Joined.TheVariants.{Grown, Full}
+use Rattle.std.specs.Prelude.{Option, Some, None}
 
 -- the first words, as many as are used, moved up by a gap; what stands in the gap is free
 pub record Opened (part part' : List ℕ) (used gap : ℕ) : Type 0 where
@@ -29,10 +28,10 @@ pub record Over (shapes shapes' : List ℕ) (used old new : ℕ) : Type 0 where
   pub same : length shapes' ≡ length shapes
 
 -- what an answer means where rows of a kind, so many words, are to stand in the place of the old words from a row on
-abbrev pub Puts : (shapes shapes' : List ℕ) (used row old new : ℕ) (Rows : List ℕ → Type 0) → Joined → Type 0
-Puts shapes shapes' used row old new Rows (Grown words) = Put shapes shapes' used words row old Rows
-Puts shapes shapes' used row old new Rows Full = Over shapes shapes' used old new
+abbrev pub Puts : (shapes shapes' : List ℕ) (used row old new : ℕ) (Rows : List ℕ → Type 0) → Option ℕ → Type 0
+Puts shapes shapes' used row old new Rows (Some words) = Put shapes shapes' used words row old Rows
+Puts shapes shapes' used row old new Rows None = Over shapes shapes' used old new
 
 -- the shape s at a row, under the name word m, becomes u
-abbrev pub Becomes : (shapes shapes' p : List ℕ) (used row m : ℕ) (s u : Shape) → Joined → Type 0
+abbrev pub Becomes : (shapes shapes' p : List ℕ) (used row m : ℕ) (s u : Shape) → Option ℕ → Type 0
 Becomes shapes shapes' p used row m s u = Puts shapes shapes' used row (2 * forms s) (2 * forms u) (ShapeRows p m u)

@@ -1,12 +1,13 @@
 -- Laws of words replaced in place. Assumes nothing.
-use Rattle.std.specs.Prelude.{ℕ, suc, ◌+◌, ◌*◌, ◌≤◌, ◌≡◌, refl, List, [], ◌∷◌, ◌++◌, length, get_or, take, drop}
-use Rattle.std.proofs.Common.{arith, sym, ap, subst, ◌∙◌, append_assoc, length-append, length-drop, take-append-drop, length-take-le, take-take, take-add}
-use Rattle.std.proofs.Common.{take_at, drop_at, drop-drop}
+use Rattle.std.specs.Prelude.{ℕ, suc, ◌+◌, ◌-◌, ◌*◌, ◌≤◌, ◌≡◌, refl, List, [], ◌∷◌, ◌++◌, length, get_or, take, drop}
+use Rattle.std.proofs.Common.{arith, sym, ap, ap₂, subst, ◌∙◌, append_assoc, length-append, length-drop, take-append-drop, length-take-le, take-take, take-add}
+use Rattle.std.proofs.Common.{take_all, take_at, drop_at, drop-drop, append-nil}
+use Rattle.std.proofs.Math.Seq.{drop-length}
 use Rattle.std.proofs.lemmas.List.{get_or_at}
 use Rattle.definitions.specs.Shape.{Shape, Fields, forms, forms_fields}
 use Rattle.shapes.specs.Shapes.{ShapeRows, FieldRows, Stands, FieldsStand}
 use Rattle.shapes.specs.ShapesLaws.{length_shape_rows, length_field_rows}
-use Rattle.join.specs.Replacing.{Replaced, Put}
+use Rattle.join.specs.Replacing.{Opened, Replaced, Put}
 
 -- ---- the used words, in parts
 
@@ -323,3 +324,71 @@ split_behind_as {middle} {behind} w e f =
       size = w.size;
       fits = w.fits;
     }
+
+-- ---- rows put where a gap was opened
+
+-- a table with the part from a row on changed
+abbrev with_part : (t part : List ℕ) (row : ℕ) → List ℕ
+with_part t part row = take row t ++ (part ++ drop (length t - row) (drop row t))
+
+module _ (t part' t₂ : List ℕ) (used row gap : ℕ) (rows : List ℕ) (i : row ≤ used) (j : used + gap ≤ length t) where
+  whole_part : take (length t - row) (drop row t) ≡ drop row t
+  whole_part = take_all (length t - row) (drop row t) (omega (arith, length-drop row t))
+
+  none_behind : drop (length t - row) (drop row t) ≡ []
+  none_behind =
+      drop-drop (length t - row) row t
+      ∙ ap (λ (n : ℕ). drop n t) (let e : row + (length t - row) ≡ length t = omega arith in e)
+      ∙ drop-length t
+
+  changed : with_part t part' row ≡ take row t ++ part'
+  changed = ap (λ (z : List ℕ). take row t ++ (part' ++ z)) none_behind ∙ ap (λ (z : List ℕ). take row t ++ z) (append-nil part')
+
+  front_length : length (take row t) ≡ row
+  front_length = length-take-le row t (omega arith)
+
+  used_moved : drop row (take used t) ≡ take (used - row) (drop row t)
+  used_moved =
+      ap (λ (n : ℕ). drop row (take n t)) (let q : used ≡ row + (used - row) = omega arith in q)
+      ∙ ap (drop row) (take-add row (used - row) t)
+      ∙ drop_at (take row t) (take (used - row) (drop row t)) row front_length
+
+  -- rows put into the gap that was opened at a row
+  pub gap_filled
+      : Opened (take (length t - row) (drop row t)) part' (used - row) gap → length rows ≡ gap
+      → t₂ ≡ take row (with_part t part' row) ++ (rows ++ drop (row + gap) (with_part t part' row)) → length t₂ ≡ length t
+      → Replaced t t₂ used gap row 0 rows
+  gap_filled o n f same =
+      let free : List ℕ = drop (used - row + gap) (drop row t) in
+      let front : take row (with_part t part' row) ≡ take row t
+      = ap (take row) changed ∙ take_at (take row t) part' row front_length in
+      let moved : drop (row + gap) (with_part t part' row) ≡ drop row (take used t) ++ free
+      = ap (drop (row + gap)) changed
+      ∙ sym (drop-drop gap row (take row t ++ part'))
+      ∙ ap (drop gap) (drop_at (take row t) part' row front_length)
+      ∙ o.moved
+      ∙ ap (λ (z : List ℕ). take (used - row) z ++ drop (used - row + gap) z) whole_part
+      ∙ ap (λ (z : List ℕ). z ++ free) (sym used_moved) in
+      let whole : t₂ ≡ (take row t ++ (rows ++ drop row (take used t))) ++ free
+      = f
+      ∙ ap₂ (λ (x y : List ℕ). x ++ (rows ++ y)) front moved
+      ∙ ap (λ (x : List ℕ). take row t ++ x) (sym (append_assoc rows (drop row (take used t)) free))
+      ∙ sym (append_assoc (take row t) (rows ++ drop row (take used t)) free) in
+      let w : length (take row t ++ (rows ++ drop row (take used t))) ≡ used + gap
+      = omega (
+        arith,
+        length-append (take row t) (rows ++ drop row (take used t)),
+        length-append rows (drop row (take used t)),
+        length-drop row (take used t),
+        length-take-le used t (omega arith),
+        front_length,
+        n,
+      ) in
+      record {
+        held = ap (take (used + gap)) whole
+            ∙ take_at (take row t ++ (rows ++ drop row (take used t))) free (used + gap) w
+            ∙ ap (λ (k : ℕ). take row t ++ (rows ++ drop k (take used t))) (let q : row ≡ row + 0 = omega arith in q);
+        grown = omega (arith, n);
+        within = j;
+        same = same;
+      }

@@ -8,40 +8,18 @@ ghost use Rattle.join.specs.Replacing.{Opened, Puts};
 ghost use Rattle.join.specs.Joining.{Insertable, Copied, null_head, TellsNext, passed_words, Mergeable, Merges, Turns, Turned};
 ghost use Rattle.join.specs.Joining.{AddsNothing, Puttable, PutsNull, Beside, BecomesBoth, Joinable, JoinsTo, join_records, join_elements};
 
-use pool::Comparison;
 use shapes::Shape;
+use std::cmp::Ordering;
 
-// How a table takes a change in place: it uses so many words more, or it can't hold what is to stand in it.
-#[derive(Clone, Copy)]
-pub enum Joined {
-    Grown { words: usize },
-    Full,
-}
+// A function that changes a table in place answers how many words more it uses, or nothing where it can't hold what is to stand in it.
+// The tables stay parameters of their own: a struct would be lent on at each call with another count of used words, which is no plainer.
 
 // Moves the first words of a part, as many as are used, up by a gap.
 pub fn open_gap(part: &mut [u64], used: usize, gap: usize)
     requires { used + gap ≤ length part.old }
     ensures opened { Opened part.old part.new used gap }
 {
-    let mut i = used;
-    while 0 < i {
-        i -= 1;
-        part[i + gap] = part[i];
-    }
-}
-
-// Copies words of a second table into a first.
-fn copy_rows(shapes: &mut [u64], at: usize, second: &[u64], from: usize, count: usize)
-    requires count_in_bounds { at + count ≤ length shapes.old }
-    requires within { from + count ≤ length second.now }
-    ensures copied { shapes.new
-        ≡ take at shapes.old ++ take count (drop from second.now) ++ drop (at + count) shapes.old }
-{
-    let mut i: usize = 0;
-    while i < count {
-        shapes[at + i] = second[from + i];
-        i += 1;
-    }
+    part.copy_within(0..used, gap);
 }
 
 // Puts words of a second table at a place of a first, whose later words move up.
@@ -52,39 +30,41 @@ fn put_rows(
     second: &[u64],
     from: usize,
     count: usize,
-) -> Joined
+) -> Option<usize>
     requires { Insertable shapes.old second.now used at from count }
     ensures put { Puts shapes.old shapes.new used at 0 count (Copied second.now from count) result }
 {
     if shapes.len() - used < count {
-        return Joined::Full;
+        return None;
     }
     open_gap(&mut shapes[at..], used - at, count);
-    copy_rows(shapes, at, second, from, count);
-    Joined::Grown { words: count }
+    shapes[at..at + count].copy_from_slice(&second[from..from + count]);
+    Some(count)
 }
 
 // Adds null to the shape at a row.
+#[tactic(auto, using(crate::proofs::Heads::null_kept, crate::proofs::Heads::null_put))]
 fn add_null(shapes: &mut [u64], row: usize)
     requires row_in_bounds { row < length shapes.old }
     requires fits { get_or shapes.old row 0 + 1 < 2 ^ 64 }
     ensures added { shapes.new
         ≡ take row shapes.old ++ null_head (get_or shapes.old row 0) ∷ drop (row + 1) shapes.old }
 {
-    if shapes::has(shapes::kinds(shapes, row), Shape::NULL) {
+    if shapes::kinds(shapes, row).has(Shape::NULL) {
         return;
     }
-    shapes[row] = shapes[row] + 1;
+    shapes[row] += 1;
 }
 
 // Tells in the first word of the shape at a row that it has a kind more, or none, and words more.
+#[tactic(auto, using(crate::proofs::Heads::head_set))]
 fn grow_head(shapes: &mut [u64], row: usize, kind: Shape, words: usize)
     requires row_in_bounds { row < length shapes.old }
     requires fits { get_or shapes.old row 0 + kind.kinds + 128 * words < 2 ^ 64 }
     ensures told { shapes.new
         ≡ take row shapes.old ++ (get_or shapes.old row 0 + kind.kinds + 128 * words) ∷ drop (row + 1) shapes.old }
 {
-    shapes[row] = shapes[row] + kind.kinds + 128 * (words as u64);
+    shapes[row] += kind.kinds + 128 * (words as u64);
 }
 
 // Whose member is next where those of two shapes are walked together: less is the first's alone.
@@ -96,52 +76,59 @@ fn next_member(
     other: usize,
     to: usize,
     pool: &[u64],
-) -> Comparison
+) -> Ordering
     ensures told { TellsNext shapes.now second.now pool.now row end other to result }
 {
     if to <= other {
-        return Comparison::Less;
+        return Ordering::Less;
     }
     if end <= row {
-        return Comparison::Greater;
+        return Ordering::Greater;
     }
     let k = shapes::name(shapes, row);
     let m = shapes::name(second, other);
     // the two shapes mostly have their names from one
     if k == m {
-        return Comparison::Equal;
+        return Ordering::Equal;
     }
-    let w = nodes::text_word(k);
-    let v = nodes::text_word(m);
-    pool::compare(pool, w, nodes::text_bytes(k), v, nodes::text_bytes(m))
+    shapes::compare_names(pool, k, m)
 }
 
 // How many words of the second a turn passes.
-fn second_step(second: &[u64], other: usize, order: Comparison) -> usize
+fn second_step(second: &[u64], other: usize, order: Ordering) -> usize
     ensures told { result ≡ passed_words second.now other order }
 {
     match order {
-        Comparison::Less => 0,
-        Comparison::Equal => shapes::size(second, other),
-        Comparison::Greater => shapes::size(second, other),
+        Ordering::Less => 0,
+        Ordering::Equal | Ordering::Greater => shapes::size(second, other),
     }
 }
 
 // Puts a shape of a second table at a place of a first, with null added.
-fn put_member(shapes: &mut [u64], used: usize, at: usize, second: &[u64], from: usize) -> Joined
+fn put_member(
+    shapes: &mut [u64],
+    used: usize,
+    at: usize,
+    second: &[u64],
+    from: usize,
+) -> Option<usize>
     requires { Puttable shapes.old second.now used at from }
     ensures put { PutsNull shapes.old shapes.new second.now used at from result }
 {
     let count = shapes::size(second, from);
-    let Joined::Grown { words } = put_rows(shapes, used, at, second, from, count) else {
-        return Joined::Full;
-    };
+    let words = put_rows(shapes, used, at, second, from, count)?;
     add_null(shapes, at);
-    Joined::Grown { words }
+    Some(words)
 }
 
 // Gives the first, which lacks rec, the second's members.
-fn put_members(shapes: &mut [u64], used: usize, row: usize, second: &[u64], other: usize) -> Joined
+fn put_members(
+    shapes: &mut [u64],
+    used: usize,
+    row: usize,
+    second: &[u64],
+    other: usize,
+) -> Option<usize>
     requires beside { Beside shapes.old second.now used row other }
     requires lacks { has_bit (get_or shapes.old row 0 % 128) 64 ≡ false }
     requires there { has_bit (get_or second.now other 0 % 128) 64 ≡ true }
@@ -150,26 +137,28 @@ fn put_members(shapes: &mut [u64], used: usize, row: usize, second: &[u64], othe
     let end = row + shapes::size(shapes, row);
     let from = shapes::members(second, other);
     let to = other + shapes::size(second, other);
-    let Joined::Grown { words } = put_rows(shapes, used, end, second, from, to - from) else {
-        return Joined::Full;
-    };
+    let words = put_rows(shapes, used, end, second, from, to - from)?;
     grow_head(shapes, row, Shape::REC, words);
-    Joined::Grown { words }
+    Some(words)
 }
 
 // Gives the first, which lacks list, the second's element.
-fn put_element(shapes: &mut [u64], used: usize, row: usize, second: &[u64], other: usize) -> Joined
+fn put_element(
+    shapes: &mut [u64],
+    used: usize,
+    row: usize,
+    second: &[u64],
+    other: usize,
+) -> Option<usize>
     requires beside { Beside shapes.old second.now used row other }
     requires lacks { has_bit (get_or shapes.old row 0 % 128) 32 ≡ false }
     requires there { has_bit (get_or second.now other 0 % 128) 32 ≡ true }
     ensures put { BecomesBoth join_elements shapes.old shapes.new second.now used row other result }
 {
     let count = shapes::size(second, other + 2);
-    let Joined::Grown { words } = put_rows(shapes, used, row + 2, second, other + 2, count) else {
-        return Joined::Full;
-    };
+    let words = put_rows(shapes, used, row + 2, second, other + 2, count)?;
     grow_head(shapes, row, Shape::LIST, words);
-    Joined::Grown { words }
+    Some(words)
 }
 
 // Whether the shape at a row of a second table has no parts and no kind that the one at a row of a first lacks: a join changes nothing.
@@ -177,13 +166,7 @@ fn adds_nothing(shapes: &[u64], row: usize, second: &[u64], other: usize) -> boo
     ensures told { result ≡ true → AddsNothing shapes.now second.now row other }
 {
     let kinds = shapes::kinds(second, other);
-    if shapes::has(kinds, Shape::LIST) {
-        return false;
-    }
-    if shapes::has(kinds, Shape::REC) {
-        return false;
-    }
-    shapes::is_within(kinds, shapes::kinds(shapes, row))
+    !kinds.has(Shape::LIST) && !kinds.has(Shape::REC) && kinds.is_within(shapes::kinds(shapes, row))
 }
 
 // Joins the next member of the second into the first: a member of only one is kept with null added.
@@ -194,25 +177,25 @@ fn join_next(
     row: usize,
     second: &[u64],
     other: usize,
-    order: Comparison,
+    order: Ordering,
     pool: &[u64],
     left: usize,
-) -> Joined
+) -> Option<usize>
     requires { Turns order shapes.old second.now pool.now used row other left }
     ensures turned { Turned order shapes.old shapes.new second.now pool.now used row other left result }
 {
     match order {
-        Comparison::Less => {
+        Ordering::Less => {
             add_null(shapes, row);
-            Joined::Grown { words: 0 }
+            Some(0)
         }
-        Comparison::Equal => {
+        Ordering::Equal => {
             if adds_nothing(shapes, row, second, other) {
-                return Joined::Grown { words: 0 };
+                return Some(0);
             }
             join_at(shapes, used, row, second, other, pool, left)
         }
-        Comparison::Greater => put_member(shapes, used, row, second, other),
+        Ordering::Greater => put_member(shapes, used, row, second, other),
     }
 }
 
@@ -228,24 +211,22 @@ fn join_members(
     to: usize,
     pool: &[u64],
     left: usize,
-) -> Joined
+) -> Option<usize>
     requires { Mergeable shapes.old second.now pool.now used row end other to left }
     ensures merged { Merges shapes.old shapes.new second.now pool.now used row end other to left result }
 {
     let mut i = row;
     let mut j = other;
     let mut words: usize = 0;
+    // rows differ in size: no iterator of std's walks them
     while i + j < end + words + to {
         let order = next_member(shapes, i, end + words, second, j, to, pool);
-        let r = join_next(shapes, used + words, i, second, j, order, pool, left);
-        let Joined::Grown { words: more } = r else {
-            return Joined::Full;
-        };
+        let more = join_next(shapes, used + words, i, second, j, order, pool, left)?;
         i += shapes::size(shapes, i);
         j += second_step(second, j, order);
         words += more;
     }
-    Joined::Grown { words }
+    Some(words)
 }
 
 // Joins the second's members into the first's.
@@ -258,26 +239,23 @@ pub fn join_record(
     other: usize,
     pool: &[u64],
     left: usize,
-) -> Joined
+) -> Option<usize>
     requires { Joinable shapes.old second.now pool.now used row other left }
     ensures joined { JoinsTo join_records shapes.old shapes.new second.now pool.now used row other left result }
 {
-    if !shapes::has(shapes::kinds(second, other), Shape::REC) {
-        return Joined::Grown { words: 0 };
+    if !shapes::kinds(second, other).has(Shape::REC) {
+        return Some(0);
     }
-    if !shapes::has(shapes::kinds(shapes, row), Shape::REC) {
+    if !shapes::kinds(shapes, row).has(Shape::REC) {
         return put_members(shapes, used, row, second, other);
     }
     let at = shapes::members(shapes, row);
     let end = row + shapes::size(shapes, row);
     let from = shapes::members(second, other);
     let to = other + shapes::size(second, other);
-    let r = join_members(shapes, used, at, end, second, from, to, pool, left - 1);
-    let Joined::Grown { words } = r else {
-        return Joined::Full;
-    };
+    let words = join_members(shapes, used, at, end, second, from, to, pool, left - 1)?;
     grow_head(shapes, row, Shape::NOTHING, words);
-    Joined::Grown { words }
+    Some(words)
 }
 
 // Joins the second's element into the first's.
@@ -290,23 +268,20 @@ pub fn join_element(
     other: usize,
     pool: &[u64],
     left: usize,
-) -> Joined
+) -> Option<usize>
     requires { Joinable shapes.old second.now pool.now used row other left }
     ensures joined { JoinsTo join_elements shapes.old shapes.new second.now pool.now
         used row other left result }
 {
-    if !shapes::has(shapes::kinds(second, other), Shape::LIST) {
-        return Joined::Grown { words: 0 };
+    if !shapes::kinds(second, other).has(Shape::LIST) {
+        return Some(0);
     }
-    if !shapes::has(shapes::kinds(shapes, row), Shape::LIST) {
+    if !shapes::kinds(shapes, row).has(Shape::LIST) {
         return put_element(shapes, used, row, second, other);
     }
-    let r = join_at(shapes, used, row + 2, second, other + 2, pool, left - 1);
-    let Joined::Grown { words } = r else {
-        return Joined::Full;
-    };
+    let words = join_at(shapes, used, row + 2, second, other + 2, pool, left - 1)?;
     grow_head(shapes, row, Shape::NOTHING, words);
-    Joined::Grown { words }
+    Some(words)
 }
 
 // Joins the shape at a row of a second table into that at a row of a first, in place.
@@ -319,22 +294,14 @@ pub fn join_at(
     other: usize,
     pool: &[u64],
     left: usize,
-) -> Joined
+) -> Option<usize>
     requires { Joinable shapes.old second.now pool.now used row other left }
     ensures joined { JoinsTo join shapes.old shapes.new second.now pool.now used row other left result }
 {
-    let r = join_record(shapes, used, row, second, other, pool, left);
-    let Joined::Grown { words } = r else {
-        return Joined::Full;
-    };
-    let r = join_element(shapes, used + words, row, second, other, pool, left);
-    let Joined::Grown { words: more } = r else {
-        return Joined::Full;
-    };
-    let kinds = shapes::union(shapes::kinds(shapes, row), shapes::kinds(second, other));
+    let words = join_record(shapes, used, row, second, other, pool, left)?;
+    let more = join_element(shapes, used + words, row, second, other, pool, left)?;
+    let kinds = shapes::kinds(shapes, row).union(shapes::kinds(second, other));
     let size = shapes::size(shapes, row);
     shapes::put_head(shapes, row, kinds, size);
-    Joined::Grown {
-        words: words + more,
-    }
+    Some(words + more)
 }

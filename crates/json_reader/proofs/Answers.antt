@@ -4,6 +4,7 @@ use mathlib.Core.Path.{◌≡◌, sym, ap, ◌∙◌, subst}
 use mathlib.Core.List.{List, [], ◌∷◌}
 use native.Mathlib.Omega.{arith}
 use lib.ListN.{length, take, drop, get_or}
+use Rattle.std.specs.Prelude.{Result, Ok, Err}
 use lib.Seq.{length-take-le, get_or_at}
 use Rattle.definitions.specs.declared.Limits.{Limits}
 use Rattle.definitions.specs.Bytes.{Bytes}
@@ -12,28 +13,28 @@ use Rattle.definitions.specs.Value.{Value, size}
 use Rattle.definitions.specs.Plain.{plain}
 use Rattle.definitions.specs.Json.{Open, Gap, gap, put, scan}
 use Rattle.nodes.specs.Nodes.{Rows}
-use Rattle.json_reader.specs.declared.reading.Cursor.{Cursor}
-use Rattle.json_reader.specs.declared.reading.ValueRead.{ValueRead}
-use Rattle.json_reader.specs.declared.reading.ValueRead.TheVariants.{Done, Refused}
+use Rattle.reading.specs.declared.Cursor.{Cursor}
+use Rattle.reading.specs.declared.Refusal.{Refusal}
+use Rattle.reading.specs.Refusals.{number_of}
 use Rattle.json_reader.specs.JsonParts.{OpenLimited, Moves, Reads}
 use Rattle.nodes.specs.RowLaws.{with_row, length_with_row, row_alone}
 
 -- an answer that is another: that of a word
 pub as_word
-    : {g : Open → Gap} {n left values : ℕ} {doc : Bytes} {nodes pool nodes' pool' : List ℕ} {name : ℕ} {c : Cursor} {r a : ValueRead}
+    : {g : Open → Gap} {n left values : ℕ} {doc : Bytes} {nodes pool nodes' pool' : List ℕ} {name : ℕ} {c : Cursor} {r a : Result Cursor Refusal}
     → r ≡ a
     → Reads g n left values doc nodes pool nodes' pool' name c a
     → Reads g n left values doc nodes pool nodes' pool' name c r
 as_word {g} {n} {left} {values} {doc} {nodes} {pool} {nodes'} {pool'} {name} {c} e d =
-    subst (λ (z : ValueRead). Reads g n left values doc nodes pool nodes' pool' name c z) (sym e) d
+    subst (λ (z : Result Cursor Refusal). Reads g n left values doc nodes pool nodes' pool' name c z) (sym e) d
 
 -- a refusal; the tables are as long as they were
 pub refuses
-    : {g : Open → Gap} {n left values : ℕ} {doc : Bytes} {nodes pool nodes' pool' : List ℕ} {name : ℕ} {c : Cursor} {number place : ℕ}
-    → length nodes' ≡ length nodes → length pool' ≡ length pool → place ≤ length doc
+    : {g : Open → Gap} {n left values : ℕ} {doc : Bytes} {nodes pool nodes' pool' : List ℕ} {name : ℕ} {c : Cursor} {r : Refusal}
+    → length nodes' ≡ length nodes → length pool' ≡ length pool → r.place ≤ length doc
     → ((l : Limits) (o : Open) → OpenLimited l o values left → (kept : Bytes)
-    → scan l n kept (gap (g o)) (drop c.at doc) ≡ refused number (drop place doc))
-    → Reads g n left values doc nodes pool nodes' pool' name c (Refused number place)
+    → scan l n kept (gap (g o)) (drop c.at doc) ≡ refused (number_of r.cause) (drop r.place doc))
+    → Reads g n left values doc nodes pool nodes' pool' name c (Err r)
 refuses e f h r = record { answer = record { run = r; within = h }; nodes_kept = e; pool_kept = f }
 
 -- the first word of the row that was put
@@ -56,7 +57,7 @@ pub one_row
     → Moves doc values c to (length (plain v))
     → ((l : Limits) (o : Open) → OpenLimited l o values left → (kept : Bytes)
     → scan l c.begun kept (gap (Gap.value o)) (drop c.at doc) ≡ scan l (suc c.begun) kept (gap (put v o)) (drop to.at doc))
-    → Reads Gap.value c.begun left values doc nodes pool nodes' pool' name c (Done to)
+    → Reads Gap.value c.begun left values doc nodes pool nodes' pool' name c (Ok to)
 one_row {doc} {nodes} {nodes'} {name} {h} {x} {c} {to} v one next room row held kept front wrote moves run =
     record {
       answer =

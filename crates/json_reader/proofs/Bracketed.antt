@@ -13,7 +13,9 @@ use Rattle.definitions.specs.Plain.{plain, plain_items, plain_members}
 use Rattle.definitions.specs.Json.{Open, Gap, gap, put, broken, token_move, gap_move, gap_end, move, end_move, judge, scan}
 use Rattle.nodes.specs.Nodes.{kind_code, number_bits, head_word, Rows, list_rows, rec_rows, no_items_before, no_members_before}
 use Rattle.nodes.specs.NodesLaws.{items_before_grow, members_before_grow, items_read, members_read, size_items_onto, size_members_onto}
-use Rattle.json_reader.specs.JsonParts.{Bracket, square, curly, Parts, no_parts, code_of, closing_of, start_of, next_of}
+use Rattle.json_reader.specs.declared.parts.Bracket.{Bracket}
+use Rattle.json_reader.specs.declared.parts.Bracket.TheVariants.{Square, Curly}
+use Rattle.json_reader.specs.JsonParts.{Parts, no_parts, code_of, closing_of, start_of, next_of}
 use Rattle.json_reader.specs.JsonParts.{behind_of, Before, count_of, items_length, members_length, length_of, whole_of}
 use Rattle.json_reader.proofs.Scan.{Here, at_end, at_byte, here, scan_token, first_value}
 
@@ -24,22 +26,22 @@ module _ (l : Limits) (n : ℕ) (kept : Bytes) (o : Open) where
       : (k : Bracket) (s : Parts k) (r : Bytes)
       → scan l n kept (gap (behind_of k s o)) (0x2C ∷ r) ≡ scan l n kept (gap (next_of k s o)) r
   unfolding scan judge move gap_move token_move white white_table found look between is
-  comma square s r = refl
-  comma curly s r = refl
+  comma Square s r = refl
+  comma Curly s r = refl
 
   pub closes
       : (k : Bracket) (s : Parts k) (r : Bytes)
       → scan l n kept (gap (behind_of k s o)) (closing_of k ∷ r) ≡ scan l n kept (gap (put (whole_of k s) o)) r
   unfolding scan judge move gap_move token_move white white_table found look between is
-  closes square s r = refl
-  closes curly s r = refl
+  closes Square s r = refl
+  closes Curly s r = refl
 
   pub closes_empty
       : (k : Bracket) (r : Bytes)
       → scan l n kept (gap (start_of k o)) (closing_of k ∷ r) ≡ scan l n kept (gap (put (whole_of k (no_parts k)) o)) r
   unfolding scan judge move gap_move token_move white white_table found look between is items_onto members_onto
-  closes_empty square r = refl
-  closes_empty curly r = refl
+  closes_empty Square r = refl
+  closes_empty Curly r = refl
 
   first_name
       : (doc : Bytes) (at : ℕ) → white (get_or doc at 256) ≡ false → (get_or doc at 256 ≡ 0x7D → ⊥)
@@ -60,56 +62,56 @@ module _ (l : Limits) (n : ℕ) (kept : Bytes) (o : Open) where
   pub first_part
       : (k : Bracket) (doc : Bytes) (at : ℕ) → white (get_or doc at 256) ≡ false → (get_or doc at 256 ≡ closing_of k → ⊥)
       → scan l n kept (gap (start_of k o)) (drop at doc) ≡ scan l n kept (gap (next_of k (no_parts k) o)) (drop at doc)
-  first_part square doc at w h = first_value l n kept doc at o w h
-  first_part curly doc at w h = first_name doc at w h
+  first_part Square doc at w h = first_value l n kept doc at o w h
+  first_part Curly doc at w h = first_name doc at w h
 
 -- nothing else may stand behind a part
 pub behind_end : (k : Bracket) (s : Parts k) (o : Open) → gap_end (behind_of k s o) ≡ broken
 unfolding gap_end
-behind_end square s o = refl
-behind_end curly s o = refl
+behind_end Square s o = refl
+behind_end Curly s o = refl
 
 pub behind_broken
     : (k : Bracket) (s : Parts k) (o : Open) (b : ℕ) → (b ≡ 0x2C → ⊥) → (b ≡ closing_of k → ⊥) → token_move (behind_of k s o) b ≡ broken
 unfolding token_move is
-behind_broken square s o b h i = rw (ne_eqb b 0x2C h, token_move) (rw (ne_eqb b 0x5D i))
-behind_broken curly s o b h i = rw (ne_eqb b 0x2C h, token_move) (rw (ne_eqb b 0x7D i))
+behind_broken Square s o b h i = rw (ne_eqb b 0x2C h, token_move) (rw (ne_eqb b 0x5D i))
+behind_broken Curly s o b h i = rw (ne_eqb b 0x2C h, token_move) (rw (ne_eqb b 0x7D i))
 
 -- ---- rows
 
 pub no_rows : (k : Bracket) (p : List ℕ) → Before k p (no_parts k) []
-no_rows square p = no_items_before
-no_rows curly p = no_members_before
+no_rows Square p = no_items_before
+no_rows Curly p = no_members_before
 
 pub before_grow : (k : Bracket) (p : List ℕ) (s : Parts k) (rs q : List ℕ) → Before k p s rs → Before k (p ++ q) s rs
-before_grow square p s rs q b = items_before_grow q b
-before_grow curly p s rs q b = members_before_grow q b
+before_grow Square p s rs q b = items_before_grow q b
+before_grow Curly p s rs q b = members_before_grow q b
 
 pub whole_rows
     : (k : Bracket) (p : List ℕ) (s : Parts k) (rs : List ℕ) (m : ℕ) → Before k p s rs
     → Rows p m (whole_of k s) (head_word (whole_of k s) ∷ 3 * size (whole_of k s) ∷ m ∷ rs)
-whole_rows square p s rs m b = list_rows (items_read b)
-whole_rows curly p s rs m b = rec_rows (members_read b)
+whole_rows Square p s rs m b = list_rows (items_read b)
+whole_rows Curly p s rs m b = rec_rows (members_read b)
 
 pub count_none : (k : Bracket) → count_of k (no_parts k) ≡ 0
 unfolding size
-count_none square = refl
-count_none curly = refl
+count_none Square = refl
+count_none Curly = refl
 
 pub size_whole : (k : Bracket) (s : Parts k) → size (whole_of k s) ≡ suc (count_of k s)
 unfolding size
-size_whole square s = omega (arith, size_items_onto s no_items)
-size_whole curly s = omega (arith, size_members_onto s no_members)
+size_whole Square s = omega (arith, size_items_onto s no_items)
+size_whole Curly s = omega (arith, size_members_onto s no_members)
 
 pub code_whole : (k : Bracket) (s : Parts k) → code_of k ≡ kind_code (whole_of k s)
 unfolding kind_code
-code_whole square s = refl
-code_whole curly s = refl
+code_whole Square s = refl
+code_whole Curly s = refl
 
 pub bits_whole : (k : Bracket) (s : Parts k) → number_bits (whole_of k s) ≡ 0
 unfolding number_bits
-bits_whole square s = refl
-bits_whole curly s = refl
+bits_whole Square s = refl
+bits_whole Curly s = refl
 
 -- ---- plain JSON
 
@@ -155,14 +157,14 @@ length_rec ms = simp length-append (omega arith)
 
 pub length_whole : (k : Bracket) (s : Parts k) → 0 < count_of k s → suc (length_of k s) ≡ length (plain (whole_of k s))
 unfolding items_length members_length
-length_whole square s h =
+length_whole Square s h =
     omega (
       arith,
       length_list (items_onto s no_items),
       items_first (items_onto s no_items) (omega (arith, size_items_onto s no_items)),
       items_length_onto s no_items,
     )
-length_whole curly s h =
+length_whole Curly s h =
     omega (
       arith,
       length_rec (members_onto s no_members),
@@ -172,10 +174,10 @@ length_whole curly s h =
 
 pub length_none : (k : Bracket) → 2 ≡ length (plain (whole_of k (no_parts k)))
 unfolding items_onto members_onto plain bytes
-length_none square = refl
-length_none curly = refl
+length_none Square = refl
+length_none Curly = refl
 
 pub parts_none : (k : Bracket) → length_of k (no_parts k) ≡ 0
 unfolding items_length members_length
-parts_none square = refl
-parts_none curly = refl
+parts_none Square = refl
+parts_none Curly = refl

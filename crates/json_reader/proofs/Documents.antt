@@ -6,14 +6,16 @@ use mathlib.Core.List.{List}
 use native.Mathlib.Omega.{arith}
 use lib.ListN.{length, drop, get_or, length-drop, drop_of_length-le}
 use lib.Seq.{drop-cons}
+use Rattle.std.specs.Prelude.{Ok, Err}
 use Rattle.definitions.specs.declared.Limits.{Limits}
 use Rattle.definitions.specs.Bytes.{Bytes, white}
 use Rattle.definitions.specs.Outcome.{ok, refused, place, placed}
 use Rattle.definitions.specs.Value.{Value}
 use Rattle.definitions.specs.Json.{root, Gap, gap, put, token_move, gap_end, end_move, depth, judge, scan, read_json}
-use Rattle.json_reader.specs.declared.reading.Cursor.{Cursor}
-use Rattle.json_reader.specs.declared.reading.ValueRead.TheVariants.{Done, Refused}
-use Rattle.json_reader.specs.declared.DocumentRead.TheVariants as DocumentIs
+use Rattle.reading.specs.declared.Cursor.{Cursor}
+use Rattle.reading.specs.declared.Refusal.{Refusal}
+use Rattle.reading.specs.declared.Cause.TheVariants.{JsonSyntax}
+use Rattle.reading.specs.Refusals.{number_of, refused_as}
 use Rattle.json_reader.specs.JsonRead.{Tables, ReadsDocument}
 use Rattle.json_reader.specs.JsonParts.{Skips, OpenLimited, Ready, Reads}
 use Rattle.json_reader.proofs.Scan.{scan_token}
@@ -42,12 +44,13 @@ at_root l = record { most = refl; nests = omega arith }
 -- ---- outcomes
 
 read_refused
-    : (l : Limits) (doc : Bytes) (number at : ℕ) → at ≤ length doc
-    → scan l 0 doc (gap (Gap.value root)) doc ≡ refused number (drop at doc) → read_json l doc ≡ refused number at
+    : (l : Limits) (doc : Bytes) (r : Refusal) → r.place ≤ length doc
+    → scan l 0 doc (gap (Gap.value root)) doc ≡ refused (number_of r.cause) (drop r.place doc) → read_json l doc ≡ refused_as r
 unfolding read_json placed place
-read_refused l doc number at h e =
+read_refused l doc r h e =
     ap (placed doc) e
-    ∙ ap (λ (p : ℕ). refused number p) (let f : length doc - length (drop at doc) ≡ at = omega (arith, length-drop at doc) in f)
+    ∙ ap (λ (p : ℕ). refused (number_of r.cause) p)
+    (let f : length doc - length (drop r.place doc) ≡ r.place = omega (arith, length-drop r.place doc) in f)
 
 read_ok
     : (l : Limits) (doc : Bytes) (v : Value) → scan l 0 doc (gap (Gap.value root)) doc ≡ ok v → read_json l doc ≡ ok v
@@ -71,28 +74,28 @@ whole_goes_on l n kept doc v at h w =
 
 module _ (l : Limits) {doc nodes pool nodes' pool' : List ℕ} (top : ℕ) where
   pub document_refused
-      : {number at : ℕ} → Reads Gap.value 0 l.nesting l.values doc nodes pool nodes' pool' 0 (start top) (Refused number at)
-      → ReadsDocument l doc nodes pool nodes' pool' top (DocumentIs.Refused number at)
-  document_refused {number} {at} d =
+      : {r : Refusal} → Reads Gap.value 0 l.nesting l.values doc nodes pool nodes' pool' 0 (start top) (Err r)
+      → ReadsDocument l doc nodes pool nodes' pool' top (Err r)
+  document_refused {r} d =
       record {
-        answer = read_refused l doc number at d.answer.within (d.answer.run l root (at_root l) doc);
+        answer = read_refused l doc r d.answer.within (d.answer.run l root (at_root l) doc);
         nodes_kept = d.nodes_kept;
         pool_kept = d.pool_kept;
       }
 
   module _
-      {end : ℕ} (to : Cursor) (d : Reads Gap.value 0 l.nesting l.values doc nodes pool nodes' pool' 0 (start top) (Done to))
+      {end : ℕ} (to : Cursor) (d : Reads Gap.value 0 l.nesting l.values doc nodes pool nodes' pool' 0 (start top) (Ok to))
       (s : Skips doc to.at end) where
     run_to_end
         : scan l 0 doc (gap (Gap.value root)) doc ≡ scan l to.begun doc (gap (Gap.whole d.answer.value)) (drop end doc)
     unfolding put
     run_to_end = d.answer.run l root (at_root l) doc ∙ s.run l to.begun doc (Gap.whole d.answer.value)
 
-    pub document_goes_on : end < length doc → ReadsDocument l doc nodes pool nodes' pool' top (DocumentIs.Refused 3 end)
+    pub document_goes_on : end < length doc → ReadsDocument l doc nodes pool nodes' pool' top (Err (record { cause = JsonSyntax; place = end }))
     document_goes_on h =
         record {
           answer =
-              read_refused l doc 3 end s.within
+              read_refused l doc (record { cause = JsonSyntax; place = end }) s.within
               (run_to_end ∙ whole_goes_on l to.begun doc doc d.answer.value end h s.stops);
           nodes_kept = d.nodes_kept;
           pool_kept = d.pool_kept;
@@ -100,7 +103,7 @@ module _ (l : Limits) {doc nodes pool nodes' pool' : List ℕ} (top : ℕ) where
 
     pub document_read
         : Tables doc nodes pool top l.values → length doc ≤ end
-        → ReadsDocument l doc nodes pool nodes' pool' top (DocumentIs.Read (3 * to.begun) to.top)
+        → ReadsDocument l doc nodes pool nodes' pool' top (Ok (record { words = 3 * to.begun; top = to.top }))
     document_read t h =
         let v = d.answer in
         record {

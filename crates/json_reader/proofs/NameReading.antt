@@ -7,6 +7,8 @@ use native.Mathlib.Omega.{arith}
 use borrow.Author.Tests.{ne_eqb}
 use lib.Bits.{bit_or}
 use lib.ListN.{length, take, drop, get_or}
+use Rattle.std.specs.Prelude.{Result, Ok, Err, IsErrAnd, MatchResult}
+use Rattle.std.proofs.lemmas.Result.{err_from_is_err_and}
 use Rattle.definitions.specs.declared.Limits.{Limits}
 use Rattle.definitions.specs.Bytes.{Bytes, look, between, is, white, white_table, found}
 use Rattle.definitions.specs.Outcome.{refused}
@@ -19,13 +21,23 @@ use Rattle.nodes.specs.Nodes.{reference, MemberRows}
 use Rattle.nodes.specs.NodesLaws.{members_read, has_name_read}
 use Rattle.nodes.specs.StandingLaws.{text_refers}
 use Rattle.text.specs.TextLaws.{scan_broke, scan_ended}
-use Rattle.text.specs.TextRead.{TextClosed, TextBroken}
-use Rattle.json_reader.specs.declared.reading.Cursor.{Cursor}
-use Rattle.json_reader.specs.declared.name.NameRead.TheVariants as NameIs
-use Rattle.json_reader.specs.JsonParts.{Skips, Token, Neither, NamedRows, Walkable, MembersAt, name_place, Covers, covers_none, NameReady, ReadsName}
+use Rattle.text.specs.declared.Decoded.{Decoded}
+use Rattle.text.specs.TextRead.{ReadsText, TextClosed, TextBroken}
+use Rattle.reading.specs.declared.Cursor.{Cursor}
+use Rattle.reading.specs.declared.Cause.TheVariants.{JsonSyntax, DuplicateName}
+use Rattle.reading.specs.declared.Refusal.{Refusal}
+use Rattle.json_reader.specs.JsonParts.{Skips, Token, NamedRows, Walkable, MembersAt, name_place, Covers, covers_none, NameReady, ReadsName, ColonAnswer}
 use Rattle.json_reader.proofs.Kept.{scan_kept}
 use Rattle.json_reader.proofs.Seen.{covers_onto, covers_with}
 use Rattle.json_reader.proofs.Scan.{byte_inside, byte_here, scan_broken}
+
+-- the refusal where a text breaks off
+abbrev pub broken_at : ℕ → Refusal
+broken_at place = record { cause = JsonSyntax; place = place }
+
+-- s is the text r, or that refusal
+abbrev pub BrokenAt : Result Decoded ℕ → Result Decoded Refusal → Type 0
+BrokenAt r s = MatchResult r (λ y. s ≡ Ok y) (λ place. IsErrAnd s (λ q. q ≡ broken_at place))
 
 -- ---- reading
 
@@ -80,7 +92,7 @@ members_named {nodes} {pool} {pool'} {first} c {ms} h few front m =
           (subst (λ (rs : List ℕ). MemberRows (take c.top pool) (members_onto ms no_members) rs) (sym m.table) (members_read m.held));
     }
 
-module _ {doc nodes pool : List ℕ} {values first : ℕ} (c : Cursor) (p : NameReady doc nodes pool values first c) where
+module _ {doc nodes pool : List ℕ} {first : ℕ} (c : Cursor) (p : NameReady doc nodes pool first c) where
   pub few_used : c.top < 65536
   few_used = p.ready.placed.small
 
@@ -98,10 +110,31 @@ module _ {doc nodes pool : List ℕ} {values first : ℕ} (c : Cursor) (p : Name
         within = omega (arith, p.ready.placed.rows, p.ready.placed.limit);
       }
 
+-- ---- the text of the name, or why there is none
+
+module _ {doc pool pool' : List ℕ} {at w : ℕ} {s : Result Decoded Refusal} where
+  pub text_closed
+      : (r : Result Decoded ℕ) {d : Decoded} → ReadsText doc at pool pool' w r → BrokenAt r s → s ≡ Ok d
+      → TextClosed doc at pool' w d.end d.length d.written
+  text_closed (Ok y) {d} t m e =
+      let same : y ≡ d = cc in subst (λ (x : Decoded). TextClosed doc at pool' w x.end x.length x.written) same t.answer
+  text_closed (Err place) t m e = let p = err_from_is_err_and s m in let q = p.1 in let z : ⊥ = cc in absurd z
+
+  pub text_wrong
+      : (r : Result Decoded ℕ) {q : Refusal} → ReadsText doc at pool pool' w r → BrokenAt r s → s ≡ Err q
+      → (q.cause ≡ JsonSyntax) × TextBroken doc at q.place
+  text_wrong (Ok y) t m e = let z : ⊥ = cc in absurd z
+  text_wrong (Err place) {q} t m e =
+      let p = err_from_is_err_and s m in
+      let named = p.1 in
+      let made = p.2 in
+      let same : broken_at place ≡ q = cc in
+      subst (λ (x : Refusal). (x.cause ≡ JsonSyntax) × TextBroken doc at x.place) same (refl, t.answer)
+
 -- ---- answers
 
-module _ {doc nodes pool : List ℕ} {values first at : ℕ} (c : Cursor) (p : NameReady doc nodes pool values first c) (s : Skips doc c.at at) where
-  pub no_name : {seen : ℕ} → (get_or doc at 256 ≡ 0x22 → ⊥) → ReadsName doc nodes pool pool first seen c (NameIs.Refused 3 at)
+module _ {doc nodes pool : List ℕ} {first at : ℕ} (c : Cursor) (p : NameReady doc nodes pool first c) (s : Skips doc c.at at) where
+  pub no_name : {seen : ℕ} → (get_or doc at 256 ≡ 0x22 → ⊥) → ReadsName doc nodes pool pool first seen c (Err (record { cause = JsonSyntax; place = at }))
   no_name h =
       record {
         answer =
@@ -110,7 +143,7 @@ module _ {doc nodes pool : List ℕ} {values first at : ℕ} (c : Cursor) (p : N
                   let miss = name_missing ms o (get_or doc at 256) h in
                   s.run l n kept (Gap.next_name ms o) ∙ scan_broken l n kept doc at (Gap.next_name ms o) miss.0 s.stops miss.1;
               within = s.within;
-              numbered = omega arith;
+              caused = refl;
             };
         pool_kept = refl;
       }
@@ -128,16 +161,18 @@ module _ {doc nodes pool : List ℕ} {values first at : ℕ} (c : Cursor) (p : N
 
   module _ {pool' : List ℕ} (e : get_or doc at 256 ≡ 0x22) (same : length pool' ≡ length pool) where
     pub name_broken
-        : {place seen : ℕ} → TextBroken doc (at + 1) place → ReadsName doc nodes pool pool' first seen c (NameIs.Refused 3 place)
-    name_broken {place} t =
+        : {r : Refusal} {seen : ℕ} → (r.cause ≡ JsonSyntax) × TextBroken doc (at + 1) r.place
+        → ReadsName doc nodes pool pool' first seen c (Err r)
+    name_broken {r} (u, t) =
         record {
           answer =
               record {
                 run = λ ms m covered l n kept o.
                     begins e ms l n kept o
-                    ∙ scan_broke l n (drop at doc) (as_name ms o) Inside.chars [] (drop (at + 1) doc) (drop place doc) t.run;
+                    ∙ rw u
+                    (scan_broke l n (drop at doc) (as_name ms o) Inside.chars [] (drop (at + 1) doc) (drop r.place doc) t.run);
                 within = t.within;
-                numbered = omega arith;
+                caused = rw u;
               };
           pool_kept = same;
         }
@@ -166,28 +201,27 @@ module _ {doc nodes pool : List ℕ} {values first at : ℕ} (c : Cursor) (p : N
           (covers_onto ms covered covers_none)
           ∙ has_name_read (text_in pool' c.top k) ms))
 
-      pub name_twice : found_now ≡ true → ReadsName doc nodes pool pool' first seen c (NameIs.Refused 5 at)
+      pub name_twice : found_now ≡ true → ReadsName doc nodes pool pool' first seen c (Err (record { cause = DuplicateName; place = at }))
       name_twice g =
           record {
-            answer = record { run = λ ms m covered l n kept o. judged ms m covered l n kept o ∙ rw g; within = s.within; numbered = omega arith };
+            answer = record { run = λ ms m covered l n kept o. judged ms m covered l n kept o ∙ rw g; within = s.within; caused = refl };
             pool_kept = same;
           }
 
       pub no_colon
-          : {place : ℕ} → found_now ≡ false → Neither doc end 0x3A 0x3A place
-          → ReadsName doc nodes pool pool' first seen c (NameIs.Refused 3 place)
-      no_colon {place} g q =
+          : {r : Refusal} → found_now ≡ false → ColonAnswer doc end (Err r) → ReadsName doc nodes pool pool' first seen c (Err r)
+      no_colon {r} g (e, q) =
           record {
             answer =
                 record {
                   run = λ ms m covered l n kept o.
-                      let miss = colon_missing (text_in pool' c.top k) ms o (get_or doc place 256) q.first in
+                      let miss = colon_missing (text_in pool' c.top k) ms o (get_or doc r.place 256) q.first in
                       judged ms m covered l n kept o
-                      ∙ rw g
+                      ∙ rw (g, e)
                       (q.skips.run l n (drop at doc) (Gap.colon ms (text_in pool' c.top k) o)
-                      ∙ scan_broken l n (drop at doc) doc place (Gap.colon ms (text_in pool' c.top k) o) miss.0 q.skips.stops miss.1);
+                      ∙ scan_broken l n (drop at doc) doc r.place (Gap.colon ms (text_in pool' c.top k) o) miss.0 q.skips.stops miss.1);
                   within = q.skips.within;
-                  numbered = omega arith;
+                  caused = rw e;
                 };
             pool_kept = same;
           }
@@ -196,7 +230,12 @@ module _ {doc nodes pool : List ℕ} {values first at : ℕ} (c : Cursor) (p : N
           : {next word place x : ℕ} → place ≡ name_place (text_in pool' c.top k) → x ≡ 1 * 2 ^ place → found_now ≡ false
           → Token doc end 0x3A next → word ≡ reference c.top k
           → ReadsName doc nodes pool pool' first seen c
-          (NameIs.Done (record { at = next; begun = c.begun; top = c.top + (k + 7) / 8 }) word w (bit_or seen x))
+          (Ok (record {
+            to = record { at = next; begun = c.begun; top = c.top + (k + 7) / 8 };
+            word = word;
+            written = w;
+            seen = bit_or seen x;
+          }))
       name_read {next} {word} at_bit bit g q u =
           record {
             answer =
@@ -227,7 +266,7 @@ module _ {doc nodes pool : List ℕ} {values first at : ℕ} (c : Cursor) (p : N
 
 -- the pool has room for the name
 pub name_room
-    : {doc nodes pool : List ℕ} {values first at : ℕ} (c : Cursor) → NameReady doc nodes pool values first c → Skips doc c.at at
+    : {doc nodes pool : List ℕ} {first at : ℕ} (c : Cursor) → NameReady doc nodes pool first c → Skips doc c.at at
     → get_or doc at 256 ≡ 0x22
     → (at + 1 ≤ length doc) × (c.top + words (length doc - (at + 1)) ≤ length pool)
 name_room {doc} {pool} {at} c p s e =

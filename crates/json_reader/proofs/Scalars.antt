@@ -7,6 +7,7 @@ use mathlib.Core.Option.{Option, none, some}
 use native.Mathlib.Omega.{arith}
 use lib.ListN.{length, take, drop, get_or, length-drop, drop_of_length-le, get_or-eq_default}
 use lib.Seq.{drop-cons}
+use Rattle.std.specs.Prelude.{Ok, Err}
 use Rattle.definitions.specs.declared.Limits.{Limits}
 use Rattle.definitions.specs.Bytes.{Bytes, look, white, white_table, found, between}
 use Rattle.definitions.specs.Outcome.{refused}
@@ -27,8 +28,8 @@ use Rattle.number.specs.NumberLaws.{longest_on, longest_off, longest_stops, scan
 use Rattle.number.specs.NumberWrite.{Bounded}
 use Rattle.text.specs.TextLaws.{scan_broke, scan_ended}
 use Rattle.text.specs.TextRead.{TextClosed, TextBroken}
-use Rattle.json_reader.specs.declared.reading.Cursor.{Cursor}
-use Rattle.json_reader.specs.declared.reading.ValueRead.TheVariants.{Done, Refused}
+use Rattle.reading.specs.declared.Cursor.{Cursor}
+use Rattle.reading.specs.declared.Cause.TheVariants.{JsonSyntax, NumberLimit, ValueLimit}
 use Rattle.json_reader.specs.JsonParts.{answer_of, OpenLimited, JudgesFull, Matches, Literal, TablePlaced, Ready, Reads, PutsNumber, NoRow}
 use Rattle.json_reader.proofs.Kept.{scan_kept}
 use Rattle.json_reader.proofs.Scan as Scan
@@ -88,14 +89,16 @@ module _ {doc name : Bytes} {kind values left : ℕ} (c : Cursor) (li : Literal 
       ∙ m.run l (suc c.begun) kept li.value o
 
   module _ {nodes : List ℕ} {m : ℕ} (p : TablePlaced doc nodes values c) (pool : List ℕ) where
-    pub literal_full : JudgesFull values left c.begun true → Reads Gap.value c.begun left values doc nodes pool nodes pool m c (Refused 6 c.at)
+    pub literal_full
+        : JudgesFull values left c.begun true
+        → Reads Gap.value c.begun left values doc nodes pool nodes pool m c (Err (record { cause = ValueLimit; place = c.at }))
     literal_full j =
         refuses refl refl p.within
         (full_here doc c.at (get_or name 0 256) (λ o. spell (drop 1 name) li.value o) e li.byte li.visible li.begins j)
 
     pub literal_broken
         : {k : ℕ} → JudgesFull values left c.begun false → Matches doc c.at name k → k < length name
-        → Reads Gap.value c.begun left values doc nodes pool nodes pool m c (Refused 3 (c.at + k))
+        → Reads Gap.value c.begun left values doc nodes pool nodes pool m c (Err (record { cause = JsonSyntax; place = c.at + k }))
     literal_broken {k} j ms h =
         refuses refl refl ms.within
         (λ l o a kept.
@@ -107,7 +110,7 @@ module _ {doc name : Bytes} {kind values left : ℕ} (c : Cursor) (li : Literal 
         : {k : ℕ} {nodes' : List ℕ} → JudgesFull values left c.begun false → Matches doc c.at name k → length name ≤ k
         → nodes' ≡ with_row nodes c.begun (head_of kind 0 k) 0 m
         → Reads Gap.value c.begun left values doc nodes pool nodes' pool m c
-        (Done (record { at = c.at + k; begun = c.begun + 1; top = c.top }))
+        (Ok (record { at = c.at + k; begun = c.begun + 1; top = c.top }))
     literal_read {k} {nodes'} j ms h row =
         let whole : k ≡ length (plain li.value) = (let f : k ≡ length name = omega (arith, ms.most) in f) ∙ ap length li.wrote in
         let free = j.within refl in
@@ -163,7 +166,9 @@ module _ {doc nodes pool : List ℕ} {values left : ℕ} (c : Cursor) (p : Ready
   text_begins j =
       begins_here doc c.at 0x22 (λ o. in_text (as_value o) Inside.chars []) e (omega arith) quote_visible quote_begins j
 
-  pub text_full : {m : ℕ} → JudgesFull values left c.begun true → Reads Gap.value c.begun left values doc nodes pool nodes pool m c (Refused 6 c.at)
+  pub text_full
+      : {m : ℕ} → JudgesFull values left c.begun true
+      → Reads Gap.value c.begun left values doc nodes pool nodes pool m c (Err (record { cause = ValueLimit; place = c.at }))
   text_full j =
       refuses refl refl p.placed.within
       (full_here doc c.at 0x22 (λ o. in_text (as_value o) Inside.chars []) e (omega arith) quote_visible quote_begins j)
@@ -171,7 +176,7 @@ module _ {doc nodes pool : List ℕ} {values left : ℕ} (c : Cursor) (p : Ready
   module _ {pool' : List ℕ} (same : length pool' ≡ length pool) where
     pub text_broken
         : {place m : ℕ} → JudgesFull values left c.begun false → TextBroken doc (c.at + 1) place
-        → Reads Gap.value c.begun left values doc nodes pool nodes pool' m c (Refused 3 place)
+        → Reads Gap.value c.begun left values doc nodes pool nodes pool' m c (Err (record { cause = JsonSyntax; place = place }))
     text_broken {place} j t =
         refuses refl same t.within
         (λ l o a kept.
@@ -183,7 +188,7 @@ module _ {doc nodes pool : List ℕ} {values left : ℕ} (c : Cursor) (p : Ready
         → TextClosed doc (c.at + 1) pool' c.top end n k
         → nodes' ≡ with_row nodes c.begun (head_of 4 0 k) (reference c.top n) m
         → Reads Gap.value c.begun left values doc nodes pool nodes' pool' m c
-        (Done (record { at = end; begun = c.begun + 1; top = c.top + (n + 7) / 8 }))
+        (Ok (record { at = end; begun = c.begun + 1; top = c.top + (n + 7) / 8 }))
     unfolding words size plain kind_code number_bits
     text_read {end} {n} {k} {m} {nodes'} front j t row =
         let free = j.within refl in
@@ -285,7 +290,7 @@ module _ {doc nodes : List ℕ} {values : ℕ} (c : Cursor) {x : NumberRead} (p 
     (r : ReadsNumber doc c.at x) (pool : List ℕ) where
   -- no value begins
   pub number_none
-      : {m left : ℕ} → x.end ≡ c.at → Reads Gap.value c.begun left values doc nodes pool nodes pool m c (Refused 3 c.at)
+      : {m left : ℕ} → x.end ≡ c.at → Reads Gap.value c.begun left values doc nodes pool nodes pool m c (Err (record { cause = JsonSyntax; place = c.at }))
   unfolding gap_end
   number_none e =
       refuses refl refl p.within
@@ -358,28 +363,28 @@ module _ {doc nodes : List ℕ} {values : ℕ} (c : Cursor) {x : NumberRead} (p 
     module _ {left m : ℕ} {full_now : Bool} (j : JudgesFull values left c.begun full_now) where
       pub number_broken
           : x.complete ≡ false → full_now ≡ false
-          → Reads Gap.value c.begun left values doc nodes pool nodes pool m c (Refused 3 x.end)
+          → Reads Gap.value c.begun left values doc nodes pool nodes pool m c (Err (record { cause = JsonSyntax; place = x.end }))
       number_broken e f =
           refuses refl refl r.within
           (λ l o a kept. incomplete l o kept e ∙ rw (sym (j.judged l o a) ∙ f))
 
       pub number_broken_full
           : x.complete ≡ false → full_now ≡ true
-          → Reads Gap.value c.begun left values doc nodes pool nodes pool m c (Refused 6 c.at)
+          → Reads Gap.value c.begun left values doc nodes pool nodes pool m c (Err (record { cause = ValueLimit; place = c.at }))
       number_broken_full e f =
           refuses refl refl p.within
           (λ l o a kept. incomplete l o kept e ∙ rw (sym (j.judged l o a) ∙ f))
 
       pub number_beyond
           : x.complete ≡ true → x.beyond ≡ true
-          → Reads Gap.value c.begun left values doc nodes pool nodes pool m c (Refused 4 c.at)
+          → Reads Gap.value c.begun left values doc nodes pool nodes pool m c (Err (record { cause = NumberLimit; place = c.at }))
       number_beyond e f =
           refuses refl refl p.within
           (λ l o a kept. whole_run l o kept e ∙ rw (sym r.over ∙ f))
 
       pub number_full
           : x.complete ≡ true → x.beyond ≡ false → full_now ≡ true
-          → Reads Gap.value c.begun left values doc nodes pool nodes pool m c (Refused 6 c.at)
+          → Reads Gap.value c.begun left values doc nodes pool nodes pool m c (Err (record { cause = ValueLimit; place = c.at }))
       number_full e f g =
           refuses refl refl p.within
           (λ l o a kept. whole_run l o kept e ∙ rw (sym r.over ∙ f) (rw (sym (j.judged l o a) ∙ g)))

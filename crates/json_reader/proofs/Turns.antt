@@ -11,11 +11,14 @@ use Rattle.definitions.specs.Plain.{plain}
 use Rattle.definitions.specs.Json.{Open, gap, put, scan}
 use Rattle.nodes.specs.Nodes.{head_word, head_of}
 use Rattle.nodes.specs.NodesLaws.{head_word_is}
-use Rattle.json_reader.specs.declared.reading.Cursor.{Cursor}
-use Rattle.json_reader.specs.declared.reading.ValueRead.TheVariants.{Refused}
+use Rattle.std.specs.Prelude.{Err}
+use Rattle.reading.specs.declared.Cursor.{Cursor}
+use Rattle.reading.specs.declared.Cause.TheVariants.{JsonSyntax}
+use Rattle.json_reader.specs.declared.parts.Bracket.{Bracket}
+use Rattle.json_reader.specs.declared.parts.Bracket.TheVariants.{Square, Curly}
 use Rattle.json_reader.specs.JsonParts.{answer_of, Skips, Token, Neither, OpenLimited, TablePlaced}
-use Rattle.json_reader.specs.JsonParts.{Moves, Reads, Bracket, Parts, no_parts, code_of, closing_of}
-use Rattle.json_reader.specs.JsonParts.{square, curly, start_of, next_of, behind_of, Before, count_of, whole_of, Marked, covers_none}
+use Rattle.json_reader.specs.JsonParts.{Moves, Reads, Parts, no_parts, code_of, closing_of}
+use Rattle.json_reader.specs.JsonParts.{start_of, next_of, behind_of, Before, count_of, whole_of, Marked, covers_none}
 use Rattle.json_reader.specs.JsonParts.{OpenParts, Closes, BehindReady}
 use Rattle.json_reader.proofs.Scan.{scan_broken}
 use Rattle.nodes.specs.RowLaws.{length_with_row, row_put}
@@ -25,17 +28,16 @@ use Rattle.json_reader.proofs.Bracketed.{count_none, size_whole, code_whole, bit
 
 -- ---- a list or record that is whole
 
-code_small : (k : Bracket) → code_of k < 8
-code_small square = omega arith
-code_small curly = omega arith
+pub code_small : (k : Bracket) → code_of k < 8
+code_small Square = omega arith
+code_small Curly = omega arith
 
 module _
-    (k : Bracket) {left values : ℕ} {doc : Bytes} {nodes₀ pool₀ nodes nodes' pool : List ℕ} {kind name written r : ℕ} {c to : Cursor}
+    (k : Bracket) {left values : ℕ} {doc : Bytes} {nodes₀ pool₀ nodes nodes' pool : List ℕ} {name written r : ℕ} {c to : Cursor}
     (s : Parts k) (rs : List ℕ) where
   -- its row is put before those of its parts
   whole_read
-      : kind ≡ code_of k
-      → Closes nodes nodes' c.begun kind name to written r
+      : Closes nodes nodes' c.begun k name to written r
       → 3 * c.begun + 3 ≤ length nodes
       → length nodes ≡ length nodes₀
       → length pool ≡ length pool₀
@@ -48,7 +50,7 @@ module _
       → ((l : Limits) (o : Open) → OpenLimited l o values (suc left) → (kept : Bytes)
       → scan l (suc c.begun) kept (gap (start_of k o)) (drop c.at doc) ≡ scan l to.begun kept (gap (put (whole_of k s) o)) (drop to.at doc))
       → Reads (start_of k) (suc c.begun) (suc left) values doc nodes₀ pool₀ nodes' pool name c (answer_of r)
-  whole_read code u room same_nodes same_pool held table counted wrote front moves run =
+  whole_read u room same_nodes same_pool held table counted wrote front moves run =
       as_word u.answer
       (record {
         answer =
@@ -59,41 +61,45 @@ module _
               held = whole_rows k (take to.top pool) s rs name held;
               table =
                   ap (λ (z : List ℕ). take (3 * to.begun) z) u.row
-                  ∙ row_put nodes c.begun (head_of kind 0 written) (3 * (to.begun - c.begun)) name room nodes₀ rs to.begun
+                  ∙ row_put nodes c.begun (head_of (code_of k) 0 written) (3 * (to.begun - c.begun)) name room nodes₀ rs to.begun
                   (omega (arith, counted)) (omega (arith, same_nodes)) table
                   ∙ ap₂ (λ (h x : ℕ). take (3 * c.begun) nodes₀ ++ h ∷ x ∷ name ∷ rs)
-                  (head_word_is (whole_of k s) (code ∙ code_whole k s) (sym (bits_whole k s)) wrote)
+                  (head_word_is (whole_of k s) (code_whole k s) (sym (bits_whole k s)) wrote)
                   (let e : 3 * (to.begun - c.begun) ≡ 3 * size (whole_of k s) = omega (arith, counted, size_whole k s) in e);
               counted = omega (arith, counted, size_whole k s);
               wrote =
                   ap (λ (w : ℕ). w / 256)
-                  (row_first nodes c.begun (head_of kind 0 written) (3 * (to.begun - c.begun)) name room u.row)
-                  ∙ omega (arith, wrote, code, code_small k);
+                  (row_first nodes c.begun (head_of (code_of k) 0 written) (3 * (to.begun - c.begun)) name room u.row)
+                  ∙ omega (arith, wrote, code_small k);
               front = front;
               moves = moves;
             };
         nodes_kept =
             ap length u.row
-            ∙ length_with_row nodes c.begun (head_of kind 0 written) (3 * (to.begun - c.begun)) name room
+            ∙ length_with_row nodes c.begun (head_of (code_of k) 0 written) (3 * (to.begun - c.begun)) name room
             ∙ same_nodes;
         pool_kept = same_pool;
       })
 
 -- ---- behind an opening bracket
 
+pub closing_byte : (k : Bracket) → closing_of k < 256
+closing_byte Square = omega arith
+closing_byte Curly = omega arith
+
 none_marked : (k : Bracket) (seen : ℕ) → Marked k seen (no_parts k)
-none_marked square seen = tt
-none_marked curly seen = covers_none
+none_marked Square seen = tt
+none_marked Curly seen = covers_none
 
 module _
-    {left values : ℕ} {doc : Bytes} {nodes pool : List ℕ} {kind closing : ℕ} (c : Cursor) {at : ℕ} (p : TablePlaced doc nodes values c)
-    (free : c.begun < values) (k : Bracket) (code : kind ≡ code_of k) (shut : closing ≡ closing_of k) (s : Skips doc c.at at) where
+    {left values : ℕ} {doc : Bytes} {nodes pool : List ℕ} (c : Cursor) {at : ℕ} (p : TablePlaced doc nodes values c)
+    (free : c.begun < values) (k : Bracket) (s : Skips doc c.at at) where
   pub first_part_stop
-      : {name r : ℕ} {nodes' : List ℕ} → Token doc c.at closing (at + 1)
-      → Closes nodes nodes' c.begun kind name (record { at = at + 1; begun = c.begun + 1; top = c.top }) 2 r
+      : {name r : ℕ} {nodes' : List ℕ} → Token doc c.at (closing_of k) (at + 1)
+      → Closes nodes nodes' c.begun k name (record { at = at + 1; begun = c.begun + 1; top = c.top }) 2 r
       → Reads (start_of k) (suc c.begun) (suc left) values doc nodes pool nodes' pool name c (answer_of r)
   first_part_stop t u =
-      whole_read k (no_parts k) [] code u (omega (arith, p.rows)) refl refl (no_rows k (take c.top pool))
+      whole_read k (no_parts k) [] u (omega (arith, p.rows)) refl refl (no_rows k (take c.top pool))
       (ap (λ (i : ℕ). take (3 * i) nodes) (let e : c.begun + 1 ≡ suc c.begun = omega arith in e) ∙ sym (append-nil (take (3 * suc c.begun) nodes)))
       (omega (arith, count_none k))
       (length_none k)
@@ -108,20 +114,19 @@ module _
       })
       (λ l o a kept.
       t.run l (suc c.begun) kept (start_of k o)
-      ∙ ap (λ (b : ℕ). scan l (suc c.begun) kept (gap (start_of k o)) (b ∷ drop (at + 1) doc)) shut
       ∙ closes_empty l (suc c.begun) kept o k (drop (at + 1) doc)
       ∙ ap (λ (i : ℕ). scan l i kept (gap (put (whole_of k (no_parts k)) o)) (drop (at + 1) doc))
       (let e : suc c.begun ≡ c.begun + 1 = omega arith in e))
 
   pub first_part_more
-      : {seen : ℕ} → (get_or doc at 256 ≡ closing → ⊥)
+      : {seen : ℕ} → (get_or doc at 256 ≡ closing_of k → ⊥)
       → OpenParts k seen (next_of k) 1 left values doc nodes pool nodes pool c (record { at = at; begun = c.begun + 1; top = c.top }) 1
   first_part_more {seen} h =
       record {
         parts = no_parts k;
         run = λ l o a kept.
             s.run l (suc c.begun) kept (start_of k o)
-            ∙ first_part l (suc c.begun) kept o k doc at s.stops (λ e. h (e ∙ sym shut))
+            ∙ first_part l (suc c.begun) kept o k doc at s.stops h
             ∙ ap (λ (i : ℕ). scan l i kept (gap (next_of k (no_parts k) o)) (drop at doc))
             (let e : suc c.begun ≡ c.begun + 1 = omega arith in e);
         rows = [];
@@ -149,8 +154,8 @@ module _
 -- ---- behind a part
 
 module _
-    {seen left values : ℕ} {doc : Bytes} {nodes₀ pool₀ nodes pool : List ℕ} {kind closing written : ℕ} (c to : Cursor)
-    (b : BehindReady doc nodes c kind closing to written) (k : Bracket) (code : kind ≡ code_of k) (shut : closing ≡ closing_of k)
+    {seen left values : ℕ} {doc : Bytes} {nodes₀ pool₀ nodes pool : List ℕ} {written : ℕ} (c to : Cursor)
+    (b : BehindReady doc nodes c to written) (k : Bracket)
     (op : OpenParts k seen (behind_of k) 0 left values doc nodes₀ pool₀ nodes pool c to written) where
   pub next_part_more
       : {at : ℕ} → Token doc to.at 0x2C at
@@ -183,12 +188,12 @@ module _
       }
 
   pub next_part_stop
-      : {at name r : ℕ} {nodes' : List ℕ} → Token doc to.at closing at
-      → Closes nodes nodes' c.begun kind name (record { at = at; begun = to.begun; top = to.top }) written r
+      : {at name r : ℕ} {nodes' : List ℕ} → Token doc to.at (closing_of k) at
+      → Closes nodes nodes' c.begun k name (record { at = at; begun = to.begun; top = to.top }) written r
       → Reads (start_of k) (suc c.begun) (suc left) values doc nodes₀ pool₀ nodes' pool name c (answer_of r)
   next_part_stop {at} t u =
       let whole = op.wrote ∙ length_whole k op.parts (omega (arith, op.counted, b.more)) in
-      whole_read k op.parts op.rows code u (omega (arith, b.rows, b.more)) op.nodes_kept op.pool_kept op.held op.table
+      whole_read k op.parts op.rows u (omega (arith, b.rows, b.more)) op.nodes_kept op.pool_kept op.held op.table
       op.counted
       whole
       op.front
@@ -203,12 +208,11 @@ module _
       (λ l o a kept.
       op.run l o a kept
       ∙ t.run l to.begun kept (behind_of k op.parts o)
-      ∙ ap (λ (y : ℕ). scan l to.begun kept (gap (behind_of k op.parts o)) (y ∷ drop at doc)) shut
       ∙ closes l to.begun kept o k op.parts (drop at doc))
 
   pub next_part_broken
-      : {place name : ℕ} → Neither doc to.at 0x2C closing place
-      → Reads (start_of k) (suc c.begun) (suc left) values doc nodes₀ pool₀ nodes pool name c (Refused 3 place)
+      : {place name : ℕ} → Neither doc to.at 0x2C (closing_of k) place
+      → Reads (start_of k) (suc c.begun) (suc left) values doc nodes₀ pool₀ nodes pool name c (Err (record { cause = JsonSyntax; place = place }))
   next_part_broken {place} t =
       record {
         answer =
@@ -217,7 +221,7 @@ module _
                   op.run l o a kept
                   ∙ t.skips.run l to.begun kept (behind_of k op.parts o)
                   ∙ scan_broken l to.begun kept doc place (behind_of k op.parts o) (behind_end k op.parts o) t.skips.stops
-                  (behind_broken k op.parts o (get_or doc place 256) t.first (λ e. t.second (e ∙ sym shut)));
+                  (behind_broken k op.parts o (get_or doc place 256) t.first t.second);
               within = t.skips.within;
             };
         nodes_kept = op.nodes_kept;

@@ -6,35 +6,33 @@ use mathlib.Core.List.{List}
 use mathlib.Core.Option.{some}
 use native.Mathlib.Omega.{arith}
 use lib.ListN.{length, drop, get_or}
+use Rattle.std.specs.Prelude.{Result, Ok, Err}
 use Rattle.definitions.specs.declared.Limits.{Limits}
 use Rattle.definitions.specs.Bytes.{Bytes, look, between, white, white_table, found}
 use Rattle.definitions.specs.Json.{Open, Gap, gap, value_rows, scan}
-use Rattle.json_reader.specs.declared.reading.Cursor.{Cursor}
-use Rattle.json_reader.specs.declared.reading.ValueRead.{ValueRead}
-use Rattle.json_reader.specs.declared.reading.ValueRead.TheVariants.{Done, Refused}
-use Rattle.json_reader.specs.JsonParts.{Skips, OpenLimited, JudgesFull, Ready, Reads, ScalarByte, Bracket, square, curly, start_of}
+use Rattle.reading.specs.declared.Cursor.{Cursor}
+use Rattle.reading.specs.declared.Cause.TheVariants.{ValueLimit}
+use Rattle.reading.specs.declared.Refusal.{Refusal}
+use Rattle.json_reader.specs.declared.parts.Bracket.{Bracket}
+use Rattle.json_reader.specs.declared.parts.Bracket.TheVariants.{Square, Curly}
+use Rattle.json_reader.specs.JsonParts.{Skips, OpenLimited, JudgesFull, Ready, Reads, ScalarByte, opening_of, start_of}
 use Rattle.json_reader.proofs.Scan.{byte_inside}
 use Rattle.json_reader.proofs.Scalars.{full_here, begins_here}
 use Rattle.json_reader.proofs.Answers.{refuses}
 
--- the opening bracket
-abbrev pub opening_of : Bracket → ℕ
-opening_of square = 0x5B
-opening_of curly = 0x7B
-
 opens : (k : Bracket) (o : Open) → look (value_rows o) (opening_of k) ≡ some (gap (start_of k o))
 unfolding value_rows look between
-opens square o = refl
-opens curly o = refl
+opens Square o = refl
+opens Curly o = refl
 
 opening_visible : (k : Bracket) → white (opening_of k) ≡ false
 unfolding white white_table found look between
-opening_visible square = refl
-opening_visible curly = refl
+opening_visible Square = refl
+opening_visible Curly = refl
 
 opening_byte : (k : Bracket) → opening_of k < 256
-opening_byte square = omega arith
-opening_byte curly = omega arith
+opening_byte Square = omega arith
+opening_byte Curly = omega arith
 
 -- the cursor at another place of the text
 abbrev pub moved : Cursor → ℕ → Cursor
@@ -42,17 +40,18 @@ moved c at = record { at = at; begun = c.begun; top = c.top }
 
 -- an answer from a place that reading comes to is one from where it came from
 pub from_there
-    : {g h : Open → Gap} {n m left left' values : ℕ} {doc : Bytes} {nodes pool nodes' pool' : List ℕ} {name : ℕ} (c : Cursor) (at : ℕ) (r : ValueRead)
+    : {g h : Open → Gap} {n m left left' values : ℕ} {doc : Bytes} {nodes pool nodes' pool' : List ℕ} {name : ℕ} (c : Cursor) (at : ℕ)
+    (r : Result Cursor Refusal)
     → c.at ≤ at
     → ((l : Limits) (o : Open) → OpenLimited l o values left → (kept : Bytes)
     → scan l n kept (gap (g o)) (drop c.at doc) ≡ scan l m kept (gap (h o)) (drop at doc))
     → ((l : Limits) (o : Open) → OpenLimited l o values left → OpenLimited l o values left')
     → Reads h m left' values doc nodes pool nodes' pool' name (moved c at) r
     → Reads g n left values doc nodes pool nodes' pool' name c r
-from_there c at (Refused number place) e run around d =
+from_there c at (Err q) e run around d =
     refuses d.nodes_kept d.pool_kept d.answer.within
     (λ l o a kept. run l o a kept ∙ d.answer.run l o (around l o a) kept)
-from_there c at (Done to) e run around d =
+from_there c at (Ok to) e run around d =
     let v = d.answer in
     record {
       answer =
@@ -85,7 +84,8 @@ module _
 
   module _ (k : Bracket) (e : get_or doc at 256 ≡ opening_of k) where
     pub bracket_full
-        : {left name : ℕ} → JudgesFull values left c.begun true → Reads Gap.value c.begun left values doc nodes pool nodes pool name c (Refused 6 at)
+        : {left name : ℕ} → JudgesFull values left c.begun true
+        → Reads Gap.value c.begun left values doc nodes pool nodes pool name c (Err (record { cause = ValueLimit; place = at }))
     bracket_full j =
         refuses refl refl s.within
         (λ l o a kept.
@@ -113,7 +113,7 @@ module _
         }
 
     pub bracket_value
-        : {left name : ℕ} {nodes' pool' : List ℕ} {r : ValueRead} → JudgesFull values left c.begun false
+        : {left name : ℕ} {nodes' pool' : List ℕ} {r : Result Cursor Refusal} → JudgesFull values left c.begun false
         → Reads (start_of k) (suc c.begun) (suc (left - 1)) values doc nodes pool nodes' pool' name (moved c (at + 1)) r
         → Reads Gap.value c.begun left values doc nodes pool nodes' pool' name c r
     bracket_value {r} j d =
@@ -126,8 +126,8 @@ module _
 
   -- ---- any other
 
-  pub scalar_byte : {b : ℕ} → b ≡ get_or doc at 256 → (b ≡ 0x5B → ⊥) → (b ≡ 0x7B → ⊥) → ScalarByte (get_or doc at 256)
-  scalar_byte e h i = record { visible = s.stops; no_list = λ z. h (e ∙ z); no_record = λ z. i (e ∙ z) }
+  pub scalar_byte : {b : ℕ} → b ≡ get_or doc at 256 → (b ≡ 0x5B → ⊥) × (b ≡ 0x7B → ⊥) → ScalarByte (get_or doc at 256)
+  scalar_byte e (h, i) = record { visible = s.stops; no_list = λ z. h (e ∙ z); no_record = λ z. i (e ∙ z) }
 
   pub scalar_ready : Ready doc nodes pool values (moved c at)
   scalar_ready =
@@ -149,6 +149,7 @@ module _
       }
 
   pub scalar_value
-      : {left name : ℕ} {nodes' pool' : List ℕ} {r : ValueRead} → Reads Gap.value c.begun left values doc nodes pool nodes' pool' name (moved c at) r
+      : {left name : ℕ} {nodes' pool' : List ℕ} {r : Result Cursor Refusal}
+      → Reads Gap.value c.begun left values doc nodes pool nodes' pool' name (moved c at) r
       → Reads Gap.value c.begun left values doc nodes pool nodes' pool' name c r
   scalar_value {r} d = from_there c at r s.from (λ l o a kept. s.run l c.begun kept (Gap.value o)) (λ l o a. a) d

@@ -1,20 +1,17 @@
 -- White space and the byte behind it. Assumes nothing.
 use Prim.Native.Nat.{ℕ, ◌+◌, ◌≤◌, ◌<◌}
 use mathlib.Core.Path.{◌≡◌, refl, sym, ap, ◌∙◌}
-use mathlib.Core.Bool.{Bool, true, false, true≢false}
+use mathlib.Core.Bool.{true, false, true≢false}
 use mathlib.Core.List.{List, ◌∷◌}
-use mathlib.Core.Option.{none, some}
 use native.Mathlib.Numerals.{add-one}
 use native.Mathlib.Decide.{dec_lt}
 use native.Mathlib.Omega.{arith}
-use borrow.Author.Tests.{eqb-true, eqb-false}
-use lib.Dec.{eqb}
 use lib.ListN.{length, drop, get_or, get_or-eq_default}
 use lib.Seq.{drop-cons}
 use Rattle.definitions.specs.declared.Limits.{Limits}
 use Rattle.definitions.specs.Bytes.{Bytes, white, white_table, look, found, between}
 use Rattle.definitions.specs.Json.{Gap, gap, scan}
-use Rattle.number.proofs.Rows.{Looks, looked, nowhere, in_one, past_one}
+use Rattle.number.proofs.Rows.{looked, nowhere, past_one}
 use Rattle.json_reader.specs.JsonParts.{Skips, Token}
 use Rattle.json_reader.proofs.Scan.{byte_inside, byte_here, scan_white}
 
@@ -24,22 +21,27 @@ get_d_any l i d e h = cc (drop-cons l i d h, drop-cons l i e h)
 
 -- ---- which bytes are white
 
-pub is_white : {b : ℕ} → Looks b white_table (some tt) → true ≡ white b
-unfolding white found
-is_white w = ap found (looked w)
+pub space_white : {b : ℕ} → b ≡ 0x20 → true ≡ white b
+unfolding white white_table found look between
+space_white e = rw e
 
-pub not_white : {b : ℕ} → Looks b white_table none → false ≡ white b
-unfolding white found
-not_white w = ap found (looked w)
+pub tab_white : {b : ℕ} → b ≡ 0x09 → true ≡ white b
+unfolding white white_table found look between
+tab_white e = rw e
 
--- the last row alone decides
-pub last_white : (b : ℕ) → (b ≡ 0x20 → ⊥) → (b ≡ 0x09 → ⊥) → (b ≡ 0x0A → ⊥) → eqb b 0x0D ≡ white b
-unfolding white_table
-last_white b h i j = go (eqb b 0x0D) refl
-  where
-    go : (t : Bool) → eqb b 0x0D ≡ t → t ≡ white b
-    go true e = is_white (past_one h (past_one i (past_one j (in_one (eqb-true b 0x0D e)))))
-    go false e = not_white (past_one h (past_one i (past_one j (past_one (eqb-false b 0x0D e) nowhere))))
+pub line_feed_white : {b : ℕ} → b ≡ 0x0A → true ≡ white b
+unfolding white white_table found look between
+line_feed_white e = rw e
+
+pub return_white : {b : ℕ} → b ≡ 0x0D → true ≡ white b
+unfolding white white_table found look between
+return_white e = rw e
+
+pub ruleset white_bytes = (space_white, tab_white, line_feed_white, return_white)
+
+pub other_byte : {b : ℕ} → (b ≡ 0x20 → ⊥) → (b ≡ 0x09 → ⊥) → (b ≡ 0x0A → ⊥) → (b ≡ 0x0D → ⊥) → false ≡ white b
+unfolding white white_table found
+other_byte h i j k = ap found (looked (past_one h (past_one i (past_one j (past_one k nowhere)))))
 
 -- ---- white space passed
 

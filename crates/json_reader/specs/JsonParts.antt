@@ -1,6 +1,9 @@
 -- What the parts of reading a document answer: each says how `scan` goes from where it starts to where it ends, for every stack
 -- of what is open around it, and what it put into the tables. Assumes nothing.
-use Rattle.std.specs.Prelude.{ℕ, suc, ◌+◌, ◌-◌, ◌*◌, ◌/◌, ◌%◌, ◌^◌, ◌≤◌, ◌<◌, ◌≡◌, Bool, true, false, List, [], ◌∷◌, ◌++◌, ltb, length, take, drop, get_or}
+use Rattle.std.specs.Prelude.{ℕ, suc, ◌+◌, ◌-◌, ◌*◌, ◌/◌, ◌%◌, ◌^◌, ◌≤◌, ◌<◌, ◌≡◌, Bool, true, false, List, [], ◌∷◌, ◌++◌, ltb}
+use Rattle.std.specs.Prelude.{length, take, drop, get_or, Result, Ok, Err, Some, None, nat_eq, if◌then◌else◌}
+use Rattle.std.specs.Prelude as std
+use Rattle.std.proofs.Common.{ControlFlow, Continue, Break}
 use Rattle.std.proofs.Math.Option.{none, some}
 use Rattle.definitions.specs.declared.Limits.{Limits}
 use Rattle.definitions.specs.Bytes.{Bytes, look, white}
@@ -11,24 +14,33 @@ use Rattle.definitions.specs.Json.{Open, in_list, in_rec, Gap, gap, value_rows, 
 use Rattle.nodes.specs.Nodes.{kind_code, number_bits, head_word, head_of, Refers, Rows, MemberRows, ItemsBefore, MembersBefore}
 use Rattle.number.specs.declared.NumberRead.{NumberRead}
 use Rattle.number.specs.NumberRead.{number_in}
-use Rattle.json_reader.specs.declared.reading.Cursor.{Cursor}
-use Rattle.json_reader.specs.declared.reading.ValueRead.{ValueRead}
-use Rattle.json_reader.specs.declared.reading.ValueRead.TheVariants.{Done, Refused}
-use Rattle.json_reader.specs.declared.name.NameRead.{NameRead}
-use Rattle.json_reader.specs.declared.name.NameRead.TheVariants as NameIs
-use Rattle.json_reader.specs.declared.name.Colon.{Colon}
-use Rattle.json_reader.specs.declared.name.Colon.TheVariants.{At, Missing}
-use Rattle.json_reader.specs.declared.parts.Turn.{Turn}
-use Rattle.json_reader.specs.declared.parts.Turn.TheVariants.{More, Stop}
+use Rattle.reading.specs.declared.Cause.{Cause}
+use Rattle.reading.specs.declared.Cause.TheVariants.{JsonSyntax, NumberLimit, DuplicateName, ValueLimit}
+use Rattle.reading.specs.declared.Cursor.{Cursor}
+use Rattle.reading.specs.declared.Refusal.{Refusal}
+use Rattle.reading.specs.Refusals.{number_of}
+use Rattle.json_reader.specs.declared.name.Name.{Name}
+use Rattle.json_reader.specs.declared.parts.Bracket.{Bracket}
+use Rattle.json_reader.specs.declared.parts.Bracket.TheVariants.{Square, Curly}
+use Rattle.json_reader.specs.declared.parts.Part.{Part}
 
 -- ---- answers as words
 
+-- the cause of this number, of those that a document is refused for
+abbrev pub cause_of : ℕ → Cause
+cause_of n =
+    if nat_eq n 3 then JsonSyntax else if nat_eq n 4 then NumberLimit else if nat_eq n 5 then DuplicateName else ValueLimit
+
+-- a document is refused for it
+abbrev pub Caused : Cause → Type 0
+Caused q = cause_of (number_of q) ≡ q
+
 -- what a word stands for; the highest bit tells
-unfoldable pub answer_of : ℕ → ValueRead
+unfoldable pub answer_of : ℕ → Result Cursor Refusal
 answer_of r =
     elim (ltb r (2 ^ 63)) [
-      | true ↦ Done (record { at = r % 2 ^ 17; begun = r / 2 ^ 17 % 2 ^ 16; top = r / 2 ^ 33 })
-      | false ↦ Refused (r / 2 ^ 32 % 2 ^ 31) (r % 2 ^ 32)
+      | true ↦ Ok (record { at = r % 2 ^ 17; begun = r / 2 ^ 17 % 2 ^ 16; top = r / 2 ^ 33 })
+      | false ↦ Err (record { cause = cause_of (r / 2 ^ 32 % 2 ^ 31); place = r % 2 ^ 32 })
     ]
 
 -- a word has room for where reading stands
@@ -146,22 +158,23 @@ pub record ValueDone
   pub moves : Moves doc values from to (length (plain value))
 
 -- reading is refused
-pub record ValueRefused (g : Open → Gap) (n left values : ℕ) (doc : Bytes) (at number place : ℕ) : Type 0 where
+pub record ValueRefused (g : Open → Gap) (n left values : ℕ) (doc : Bytes) (at : ℕ) (r : Refusal) : Type 0 where
   pub run
       : (l : Limits) (o : Open) → OpenLimited l o values left → (kept : Bytes)
-      → scan l n kept (gap (g o)) (drop at doc) ≡ refused number (drop place doc)
-  pub within : place ≤ length doc
+      → scan l n kept (gap (g o)) (drop at doc) ≡ refused (number_of r.cause) (drop r.place doc)
+  pub within : r.place ≤ length doc
 
 abbrev pub ValueAnswer
-    : (g : Open → Gap) (n left values : ℕ) (doc : Bytes) (nodes pool nodes' pool' : List ℕ) (name : ℕ) (from : Cursor) → ValueRead → Type 0
-ValueAnswer g n left values doc nodes pool nodes' pool' name from (Done to) =
+    : (g : Open → Gap) (n left values : ℕ) (doc : Bytes) (nodes pool nodes' pool' : List ℕ) (name : ℕ) (from : Cursor) → Result Cursor Refusal → Type 0
+ValueAnswer g n left values doc nodes pool nodes' pool' name from (Ok to) =
     ValueDone g n left values doc nodes pool nodes' pool' name from to
-ValueAnswer g n left values doc nodes pool nodes' pool' name from (Refused number place) =
-    ValueRefused g n left values doc from.at number place
+ValueAnswer g n left values doc nodes pool nodes' pool' name from (Err r) =
+    ValueRefused g n left values doc from.at r
 
 -- the answer r where a value may begin as g says, and the tables that were nodes and pool
 pub record Reads
-    (g : Open → Gap) (n left values : ℕ) (doc : Bytes) (nodes pool nodes' pool' : List ℕ) (name : ℕ) (from : Cursor) (r : ValueRead)
+    (g : Open → Gap) (n left values : ℕ) (doc : Bytes) (nodes pool nodes' pool' : List ℕ) (name : ℕ) (from : Cursor)
+    (r : Result Cursor Refusal)
     : Type 0 where
   pub answer : ValueAnswer g n left values doc nodes pool nodes' pool' name from r
   pub nodes_kept : length nodes' ≡ length nodes
@@ -190,7 +203,7 @@ pub record PutsNumber (nodes nodes' : List ℕ) (c : Cursor) (name : ℕ) (x : N
   pub row
       : nodes'
       ≡ take (3 * c.begun) nodes ++ head_word (Value.number (number_in x)) ∷ x.coefficient ∷ name ∷ drop (3 * c.begun + 3) nodes
-  pub answer : answer_of r ≡ Done (record { at = x.end; begun = c.begun + 1; top = c.top })
+  pub answer : answer_of r ≡ Ok (record { at = x.end; begun = c.begun + 1; top = c.top })
   pub short : length (plain_number (number_in x)) ≤ 20
 
 -- ---- names
@@ -226,7 +239,8 @@ pub data Covers (seen : ℕ) : Members → Type 0 where
       : {n : Bytes} {v : Value} {ms : Members} → seen / 2 ^ name_place n % 2 ≡ 1 → Covers seen ms → Covers seen (member n v ms)
 
 -- where a name may begin behind some members
-pub record NameReady (doc : Bytes) (nodes pool : List ℕ) (values first : ℕ) (c : Cursor) : Type 0 where
+pub record NameReady (doc : Bytes) (nodes pool : List ℕ) (first : ℕ) (c : Cursor) : Type 0 where
+  pub values : ℕ
   pub ready : Ready doc nodes pool values c
   -- the record itself is a value without a text
   pub spare : 8 * c.top + 8 ≤ c.at + 8 * c.begun + 8 * ready.base
@@ -243,90 +257,95 @@ pub record NameMoves (doc : Bytes) (from to : Cursor) (written : ℕ) : Type 0 w
   pub room : 8 * to.top + from.at ≤ to.at + 8 * from.top + 4
   pub short : written + 1 + from.at ≤ to.at
 
-pub record NameDone
-    (doc : Bytes) (nodes pool pool' : List ℕ) (first seen : ℕ) (from to : Cursor) (word written seen' : ℕ) : Type 0 where
+pub record NameDone (doc : Bytes) (nodes pool pool' : List ℕ) (first seen : ℕ) (from : Cursor) (read : Name) : Type 0 where
   pub name : Bytes
   pub run
       : (ms : Members) → MembersAt nodes pool first from ms → Covers seen ms → (l : Limits) (n : ℕ) (kept : Bytes) (o : Open)
       → scan l n kept (gap (Gap.next_name ms o)) (drop from.at doc)
-      ≡ scan l n kept (gap (Gap.value (in_rec ms name o))) (drop to.at doc)
-  pub refers : Refers (take to.top pool') name word
-  pub wrote : written ≡ length (plain_text name)
-  pub covers : (v : Value) {ms : Members} → Covers seen ms → Covers seen' (member name v ms)
+      ≡ scan l n kept (gap (Gap.value (in_rec ms name o))) (drop read.to.at doc)
+  pub refers : Refers (take read.to.top pool') name read.word
+  pub wrote : read.written ≡ length (plain_text name)
+  pub covers : (v : Value) {ms : Members} → Covers seen ms → Covers read.seen (member name v ms)
   pub front : take from.top pool' ≡ take from.top pool
-  pub moves : NameMoves doc from to written
+  pub moves : NameMoves doc from read.to read.written
 
-pub record NameRefused (doc : Bytes) (nodes pool : List ℕ) (first seen : ℕ) (from : Cursor) (number place : ℕ) : Type 0 where
+pub record NameRefused (doc : Bytes) (nodes pool : List ℕ) (first seen : ℕ) (from : Cursor) (r : Refusal) : Type 0 where
   pub run
       : (ms : Members) → MembersAt nodes pool first from ms → Covers seen ms → (l : Limits) (n : ℕ) (kept : Bytes) (o : Open)
-      → scan l n kept (gap (Gap.next_name ms o)) (drop from.at doc) ≡ refused number (drop place doc)
-  pub within : place ≤ length doc
-  pub numbered : number < 256
+      → scan l n kept (gap (Gap.next_name ms o)) (drop from.at doc) ≡ refused (number_of r.cause) (drop r.place doc)
+  pub within : r.place ≤ length doc
+  pub caused : Caused r.cause
 
-abbrev pub NameAnswer : (doc : Bytes) (nodes pool pool' : List ℕ) (first seen : ℕ) (from : Cursor) → NameRead → Type 0
-NameAnswer doc nodes pool pool' first seen from (NameIs.Done to word written seen') =
-    NameDone doc nodes pool pool' first seen from to word written seen'
-NameAnswer doc nodes pool pool' first seen from (NameIs.Refused number place) =
-    NameRefused doc nodes pool first seen from number place
+abbrev pub NameAnswer : (doc : Bytes) (nodes pool pool' : List ℕ) (first seen : ℕ) (from : Cursor) → Result Name Refusal → Type 0
+NameAnswer doc nodes pool pool' first seen from (Ok read) = NameDone doc nodes pool pool' first seen from read
+NameAnswer doc nodes pool pool' first seen from (Err r) = NameRefused doc nodes pool first seen from r
 
-pub record ReadsName (doc : Bytes) (nodes pool pool' : List ℕ) (first seen : ℕ) (from : Cursor) (r : NameRead) : Type 0 where
+pub record ReadsName
+    (doc : Bytes) (nodes pool pool' : List ℕ) (first seen : ℕ) (from : Cursor) (r : Result Name Refusal)
+    : Type 0 where
   pub answer : NameAnswer doc nodes pool pool' first seen from r
   pub pool_kept : length pool' ≡ length pool
 
-abbrev pub ColonAnswer : Bytes → ℕ → Colon → Type 0
-ColonAnswer doc at (At next) = Token doc at 0x3A next
-ColonAnswer doc at (Missing place) = Neither doc at 0x3A 0x3A place
+-- a colon, and reading goes on behind it; or the document goes wrong where it is missing
+abbrev pub ColonAnswer : Bytes → ℕ → Result ℕ Refusal → Type 0
+ColonAnswer doc at (Ok next) = Token doc at 0x3A next
+ColonAnswer doc at (Err r) = (r.cause ≡ JsonSyntax) × Neither doc at 0x3A 0x3A r.place
 
 -- ---- lists and records
 
--- a list or a record
-pub data Bracket : Type 0 where
-  square curly : Bracket
-
 -- the parts before, latest first
 abbrev pub Parts : Bracket → Type 0
-Parts square = Items
-Parts curly = Members
+Parts Square = Items
+Parts Curly = Members
 
 abbrev pub no_parts : (k : Bracket) → Parts k
-no_parts square = no_items
-no_parts curly = no_members
+no_parts Square = no_items
+no_parts Curly = no_members
 
 abbrev pub code_of : Bracket → ℕ
-code_of square = 5
-code_of curly = 6
+code_of Square = 5
+code_of Curly = 6
+
+abbrev pub opening_of : Bracket → ℕ
+opening_of Square = 0x5B
+opening_of Curly = 0x7B
+
+-- b opens these brackets, or none
+abbrev pub OpenedBy : ℕ → std.Option Bracket → Type 0
+OpenedBy b (Some k) = b ≡ opening_of k
+OpenedBy b None = (b ≡ 0x5B → ⊥) × (b ≡ 0x7B → ⊥)
 
 abbrev pub closing_of : Bracket → ℕ
-closing_of square = 0x5D
-closing_of curly = 0x7D
+closing_of Square = 0x5D
+closing_of Curly = 0x7D
 
 -- behind the opening bracket
 abbrev pub start_of : Bracket → Open → Gap
-start_of square o = Gap.first_item o
-start_of curly o = Gap.first_name o
+start_of Square o = Gap.first_item o
+start_of Curly o = Gap.first_name o
 
 -- behind a comma
 abbrev pub next_of : (k : Bracket) → Parts k → Open → Gap
-next_of square vs o = Gap.value (in_list vs o)
-next_of curly ms o = Gap.next_name ms o
+next_of Square vs o = Gap.value (in_list vs o)
+next_of Curly ms o = Gap.next_name ms o
 
 -- behind a part
 abbrev pub behind_of : (k : Bracket) → Parts k → Open → Gap
-behind_of square vs o = Gap.after_item vs o
-behind_of curly ms o = Gap.after_member ms o
+behind_of Square vs o = Gap.after_item vs o
+behind_of Curly ms o = Gap.after_member ms o
 
 abbrev pub Before : (k : Bracket) → List ℕ → Parts k → List ℕ → Type 0
-Before square p vs rs = ItemsBefore p vs rs
-Before curly p ms rs = MembersBefore p ms rs
+Before Square p vs rs = ItemsBefore p vs rs
+Before Curly p ms rs = MembersBefore p ms rs
 
 -- of members, the bits of their names are set
 abbrev pub Marked : (k : Bracket) → ℕ → Parts k → Type 0
-Marked square seen vs = Unit {0}
-Marked curly seen ms = Covers seen ms
+Marked Square seen vs = Unit {0}
+Marked Curly seen ms = Covers seen ms
 
 abbrev pub count_of : (k : Bracket) → Parts k → ℕ
-count_of square vs = size_items vs
-count_of curly ms = size_members ms
+count_of Square vs = size_items vs
+count_of Curly ms = size_members ms
 
 -- the length of elements as plain JSON, with a comma to each
 unfoldable pub items_length : Items → ℕ
@@ -339,12 +358,12 @@ members_length no_members = 0
 members_length (member n v ms) = length (plain_text n) + suc (suc (length (plain v))) + members_length ms
 
 abbrev pub length_of : (k : Bracket) → Parts k → ℕ
-length_of square vs = items_length vs
-length_of curly ms = members_length ms
+length_of Square vs = items_length vs
+length_of Curly ms = members_length ms
 
 abbrev pub whole_of : (k : Bracket) → Parts k → Value
-whole_of square vs = Value.list (items_onto vs no_items)
-whole_of curly ms = Value.rec (members_onto ms no_members)
+whole_of Square vs = Value.list (items_onto vs no_items)
+whole_of Curly ms = Value.rec (members_onto ms no_members)
 
 -- how far reading has come in a list or record that was opened at c; behind a comma there is more to spare
 pub record PartMoves (spare : ℕ) (doc : Bytes) (values : ℕ) (c from : Cursor) (written : ℕ) : Type 0 where
@@ -378,21 +397,27 @@ pub record OpenParts
 
 -- another part, or the answer
 abbrev pub TurnAnswer
-    : (k : Bracket) (seen left values : ℕ) (doc : Bytes) (nodes pool nodes' pool' : List ℕ) (name : ℕ) (c : Cursor) → Turn → Type 0
-TurnAnswer k seen left values doc nodes pool nodes' pool' name c (More from written) =
-    OpenParts k seen (next_of k) 1 left values doc nodes pool nodes' pool' c from written
-TurnAnswer k seen left values doc nodes pool nodes' pool' name c (Stop r) =
+    : (k : Bracket) (seen left values : ℕ) (doc : Bytes) (nodes pool nodes' pool' : List ℕ) (name : ℕ) (c : Cursor)
+    → ControlFlow ℕ Part → Type 0
+TurnAnswer k seen left values doc nodes pool nodes' pool' name c (Continue part) =
+    OpenParts k seen (next_of k) 1 left values doc nodes pool nodes' pool' c part.from part.written
+TurnAnswer k seen left values doc nodes pool nodes' pool' name c (Break r) =
     Reads (start_of k) (suc c.begun) (suc left) values doc nodes pool nodes' pool' name c (answer_of r)
 
+pub record Turns
+    (k : Bracket) (seen left values : ℕ) (doc : Bytes) (nodes pool nodes' pool' : List ℕ) (name : ℕ) (c : Cursor) (r : ControlFlow ℕ Part)
+    : Type 0 where
+  pub answer : TurnAnswer k seen left values doc nodes pool nodes' pool' name c r
+
 -- the row of a list or record at value `begun` is put
-pub record Closes (nodes nodes' : List ℕ) (begun kind name : ℕ) (to : Cursor) (written r : ℕ) : Type 0 where
+pub record Closes (nodes nodes' : List ℕ) (begun : ℕ) (k : Bracket) (name : ℕ) (to : Cursor) (written r : ℕ) : Type 0 where
   pub row
       : nodes'
-      ≡ take (3 * begun) nodes ++ head_of kind 0 written ∷ 3 * (to.begun - begun) ∷ name ∷ drop (3 * begun + 3) nodes
-  pub answer : answer_of r ≡ Done to
+      ≡ take (3 * begun) nodes ++ head_of (code_of k) 0 written ∷ 3 * (to.begun - begun) ∷ name ∷ drop (3 * begun + 3) nodes
+  pub answer : answer_of r ≡ Ok to
 
 -- behind a part
-pub record BehindReady (doc : Bytes) (nodes : List ℕ) (c : Cursor) (kind closing : ℕ) (to : Cursor) (written : ℕ) : Type 0 where
+pub record BehindReady (doc : Bytes) (nodes : List ℕ) (c to : Cursor) (written : ℕ) : Type 0 where
   pub within : to.at ≤ length doc
   pub brief : length doc ≤ 65536
   pub small : to.top < 65536
@@ -400,19 +425,18 @@ pub record BehindReady (doc : Bytes) (nodes : List ℕ) (c : Cursor) (kind closi
   pub more : suc c.begun < to.begun
   pub few : to.begun ≤ 32768
   pub short : written ≤ 2 ^ 40
-  pub coded : kind < 8
-  pub closes : closing < 256
 
 -- the next part lies behind
-abbrev pub Ahead : Cursor → Turn → Type 0
-Ahead to (More from written) = to.at < from.at
-Ahead to (Stop r) = Unit {0}
+abbrev pub Ahead : Cursor → ControlFlow ℕ Part → Type 0
+Ahead to (Continue part) = to.at < part.from.at
+Ahead to (Break r) = Unit {0}
 
--- reading goes on behind a part, of whichever kind the brackets are
+-- reading goes on behind a part
 pub record Goes_on
-    (doc : Bytes) (nodes nodes' : List ℕ) (c : Cursor) (kind closing name : ℕ) (to : Cursor) (written : ℕ) (r : Turn) : Type 0 where
+    (doc : Bytes) (nodes nodes' : List ℕ) (c : Cursor) (k : Bracket) (name : ℕ) (to : Cursor) (written : ℕ)
+    (r : ControlFlow ℕ Part) : Type 0 where
   pub answer
-      : (k : Bracket) → kind ≡ code_of k → closing ≡ closing_of k → (seen left values : ℕ) (nodes₀ pool₀ pool : List ℕ)
+      : (seen left values : ℕ) (nodes₀ pool₀ pool : List ℕ)
       → OpenParts k seen (behind_of k) 0 left values doc nodes₀ pool₀ nodes pool c to written
-      → TurnAnswer k seen left values doc nodes₀ pool₀ nodes' pool name c r
+      → Turns k seen left values doc nodes₀ pool₀ nodes' pool name c r
   pub ahead : Ahead to r

@@ -1,13 +1,14 @@
 -- What `read_document` answers: what the definitions come to, with the value in a node table. Assumes nothing.
-use Rattle.std.specs.Prelude.{ℕ, ◌+◌, ◌*◌, ◌≤◌, ◌<◌, ◌≡◌, List, length, take}
+use Rattle.std.specs.Prelude.{ℕ, ◌+◌, ◌*◌, ◌≤◌, ◌<◌, ◌≡◌, List, length, take, Result, Ok, Err}
 use Rattle.definitions.specs.declared.Limits.{Limits}
 use Rattle.definitions.specs.Bytes.{Bytes}
-use Rattle.definitions.specs.Outcome.{ok, refused}
+use Rattle.definitions.specs.Outcome.{ok}
 use Rattle.definitions.specs.Value.{Value, size}
 use Rattle.definitions.specs.Json.{read_json}
 use Rattle.nodes.specs.Nodes.{Rows}
-use Rattle.json_reader.specs.declared.DocumentRead.{DocumentRead}
-use Rattle.json_reader.specs.declared.DocumentRead.TheVariants.{Read, Refused}
+use Rattle.reading.specs.declared.Extent.{Extent}
+use Rattle.reading.specs.declared.Refusal.{Refusal}
+use Rattle.reading.specs.Refusals.{refused_as}
 
 -- the tables have room for a document of so many values, and their words for what is said of it; of the pool, what is behind
 -- its first `top` words
@@ -34,12 +35,12 @@ pub record DocumentHeld (l : Limits) (doc : Bytes) (pool nodes' pool' : List ℕ
   pub grows : top ≤ top'
   pub front : take top pool' ≡ take top pool
 
-abbrev pub DocumentAnswer : Limits → Bytes → (pool nodes' pool' : List ℕ) (top : ℕ) → DocumentRead → Type 0
-DocumentAnswer l doc pool nodes' pool' top (Read words top') = DocumentHeld l doc pool nodes' pool' top words top'
-DocumentAnswer l doc pool nodes' pool' top (Refused number place) = read_json l doc ≡ refused number place
+abbrev pub DocumentAnswer : Limits → Bytes → (pool nodes' pool' : List ℕ) (top : ℕ) → Result Extent Refusal → Type 0
+DocumentAnswer l doc pool nodes' pool' top (Ok e) = DocumentHeld l doc pool nodes' pool' top e.words e.top
+DocumentAnswer l doc pool nodes' pool' top (Err r) = read_json l doc ≡ refused_as r
 
 -- the answer r, and the tables that were nodes and pool
-pub record ReadsDocument (l : Limits) (doc : Bytes) (nodes pool nodes' pool' : List ℕ) (top : ℕ) (r : DocumentRead) : Type 0 where
+pub record ReadsDocument (l : Limits) (doc : Bytes) (nodes pool nodes' pool' : List ℕ) (top : ℕ) (r : Result Extent Refusal) : Type 0 where
   pub answer : DocumentAnswer l doc pool nodes' pool' top r
   pub nodes_kept : length nodes' ≡ length nodes
   pub pool_kept : length pool' ≡ length pool

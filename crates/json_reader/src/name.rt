@@ -1,26 +1,21 @@
 // Names of members.
 ghost use Rattle.std.specs.Prelude.{◌≡◌, ◌+◌, ◌*◌, ◌≤◌, ◌<◌, length};
+ghost use Rattle.reading.specs.declared.Cause.TheVariants.{JsonSyntax};
 ghost use Rattle.definitions.specs.Value.{Members, has_name};
 ghost use Rattle.pool.specs.Pool.{text_in};
 ghost use Rattle.json_reader.specs.JsonParts.{NamedRows, Walkable, Covers, name_place, NameReady, ReadsName, ColonAnswer};
 
-use crate::reading::Cursor;
 use crate::space::{peek, skip_white};
-use text::TextRead;
+use reading::{Cause, Cursor, Refusal};
 
+// A name that was read: where reading stands behind its colon, the word that refers to the name, how long it is in plain JSON, and the
+// bits of the names seen.
 #[derive(Clone, Copy)]
-pub enum NameRead {
-    // behind the colon, where the name stands, how long it is in plain JSON, and the bits of the names seen
-    Done {
-        to: Cursor,
-        word: u64,
-        written: usize,
-        seen: u64,
-    },
-    Refused {
-        number: u64,
-        place: usize,
-    },
+pub struct Name {
+    pub to: Cursor,
+    pub word: u64,
+    pub written: usize,
+    pub seen: u64,
 }
 
 // Whether one of the members whose rows stand from one word up to another has the name of n bytes at word w, which the pool has whole.
@@ -30,6 +25,7 @@ fn has_name(nodes: &[u64], pool: &[u64], from: usize, to: usize, w: usize, n: us
         → result ≡ has_name (text_in pool.now w n) ms }
 {
     let mut row = from;
+    // by hand: each row tells where the next one begins
     while row < to {
         let name = nodes[row + 2];
         if pool::same_held(pool, w, n, nodes::text_word(name), nodes::text_bytes(name)) {
@@ -73,27 +69,30 @@ fn is_taken(
     has_name(nodes, pool, 3 * first, 3 * c.begun, c.top, n)
 }
 
-#[derive(Clone, Copy)]
-enum Colon {
-    // right before a place
-    At { next: usize },
-    Missing { place: usize },
+// The refusal of a document that goes wrong here.
+fn broken(place: usize) -> Refusal
+    ensures { result ≡ record { cause = JsonSyntax; place = place } }
+{
+    Refusal {
+        cause: Cause::JsonSyntax,
+        place,
+    }
 }
 
-// Reads the colon behind a name.
-fn read_colon(doc: &[u8], at: usize) -> Colon
+// The place behind the colon that follows a name.
+fn read_colon(doc: &[u8], at: usize) -> Result<usize, Refusal>
     requires { at ≤ length doc.now }
     ensures read { ColonAnswer doc.now at result }
 {
     // nearly always right there
     if peek(doc, at) == 0x3A {
-        return Colon::At { next: at + 1 };
+        return Ok(at + 1);
     }
     let i = skip_white(doc, at);
     if peek(doc, i) == 0x3A {
-        Colon::At { next: i + 1 }
+        Ok(i + 1)
     } else {
-        Colon::Missing { place: i }
+        Err(broken(i))
     }
 }
 
@@ -102,47 +101,34 @@ pub fn read_name(
     doc: &[u8],
     nodes: &[u64],
     pool: &mut [u64],
-    values: usize,
     first: usize,
     c: Cursor,
     seen: u64,
-) -> NameRead
-    requires { NameReady doc.now nodes.now pool.old values first c }
+) -> Result<Name, Refusal>
+    requires { NameReady doc.now nodes.now pool.old first c }
     ensures read { ReadsName doc.now nodes.now pool.old pool.new first seen c result }
 {
     let place = skip_white(doc, c.at);
     if peek(doc, place) != 0x22 {
-        return NameRead::Refused { number: 3, place };
+        return Err(broken(place));
     }
-    match text::read_text(doc, place + 1, pool, c.top) {
-        TextRead::Closed {
-            end,
-            length,
-            written,
-        } => {
-            let bit = name_place(pool, c.top, length);
-            if is_taken(nodes, pool, first, c, length, seen, bit) {
-                return NameRead::Refused { number: 5, place };
-            }
-            match read_colon(doc, end) {
-                Colon::At { next } => {
-                    let to = Cursor {
-                        at: next,
-                        begun: c.begun,
-                        top: c.top + (length + 7) / 8,
-                    };
-                    let word = nodes::text_reference(c.top, length);
-                    let seen = seen | (1 << bit);
-                    NameRead::Done {
-                        to,
-                        word,
-                        written,
-                        seen,
-                    }
-                }
-                Colon::Missing { place } => NameRead::Refused { number: 3, place },
-            }
-        }
-        TextRead::Broken { place } => NameRead::Refused { number: 3, place },
+    let read = text::read_text(doc, place + 1, pool, c.top).map_err(broken)?;
+    let bit = name_place(pool, c.top, read.length);
+    if is_taken(nodes, pool, first, c, read.length, seen, bit) {
+        return Err(Refusal {
+            cause: Cause::DuplicateName,
+            place,
+        });
     }
+    let next = read_colon(doc, read.end)?;
+    Ok(Name {
+        to: Cursor {
+            at: next,
+            top: c.top + (read.length + 7) / 8,
+            ..c
+        },
+        word: nodes::text_reference(c.top, read.length),
+        written: read.written,
+        seen: seen | (1 << bit),
+    })
 }

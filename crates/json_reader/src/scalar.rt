@@ -6,17 +6,26 @@ ghost use Rattle.json_reader.specs.JsonParts.{JudgesFull, Matches, Literal, Tabl
 ghost use Rattle.number.specs.NumberRead.{number_in};
 ghost use Rattle.number.specs.NumberWrite.{Bounded};
 
-use crate::reading::{Cursor, done, refused};
+use crate::packed::{done, refused};
 use crate::space::peek;
 use nodes::{FALSE_NAME, NULL_NAME, TRUE_NAME};
 use number::NumberRead;
-use text::TextRead;
+use reading::{Cause, Cursor};
 
-// Whether a value that begins here is one too many or too deep: refusal 6.
-pub fn is_full(values: usize, left: usize, begun: usize) -> bool
-    ensures judged { JudgesFull values left begun result }
-{
-    if begun < values { left == 0 } else { true }
+// What the limits leave: how many values may begin, and how deep the next ones may nest.
+#[derive(Clone, Copy)]
+pub struct Room {
+    pub values: usize,
+    pub left: usize,
+}
+
+impl Room {
+    // Whether a value that begins here is one too many or too deep: refusal 6.
+    pub fn is_full(self, begun: usize) -> bool
+        ensures judged { JudgesFull self.values self.left begun result }
+    {
+        begun >= self.values || self.left == 0
+    }
 }
 
 // How many bytes of a literal name stand at a place.
@@ -24,45 +33,41 @@ fn matching(doc: &[u8], at: usize, name: &[u8]) -> usize
     requires { at ≤ length doc.now }
     ensures matched { Matches doc.now at name.now result }
 {
-    let mut i: usize = 0;
-    while i < name.len() {
-        if peek(doc, at + i) != peek(name, i) {
+    for (i, b) in name.iter().enumerate() {
+        if peek(doc, at + i) != *b as usize {
             return i;
         }
-        i += 1;
     }
-    i
+    name.len()
 }
 
 // Reads a value of this kind by its literal name, whose first byte stands here.
 fn read_literal(
     doc: &[u8],
     nodes: &mut [u64],
-    values: usize,
-    left: usize,
+    room: Room,
     c: Cursor,
     name: u64,
     literal: &[u8],
     kind: u64,
 ) -> u64
-    requires { TablePlaced doc.now nodes.old values c × Literal literal.now kind × (get_or doc.now c.at 256 ≡ get_or literal.now 0 256) }
+    requires { TablePlaced doc.now nodes.old room.values c × Literal literal.now kind × (get_or doc.now c.at 256 ≡ get_or literal.now 0 256) }
     ensures read { (pool : List ℕ)
-        → Reads Gap.value c.begun left values doc.now nodes.old pool nodes.new pool name c (answer_of result) }
+        → Reads Gap.value c.begun room.left room.values doc.now nodes.old pool nodes.new pool name c (answer_of result) }
 {
-    if is_full(values, left, c.begun) {
-        return refused(6, c.at);
+    if room.is_full(c.begun) {
+        return refused(Cause::ValueLimit, c.at);
     }
     let k = matching(doc, c.at, literal);
     if k < literal.len() {
-        return refused(3, c.at + k);
+        return refused(Cause::JsonSyntax, c.at + k);
     }
     nodes::put_row(nodes, 3 * c.begun, nodes::head_word(kind, 0, k), 0, name);
-    let to = Cursor {
+    done(Cursor {
         at: c.at + k,
         begun: c.begun + 1,
-        top: c.top,
-    };
-    done(to)
+        ..c
+    })
 }
 
 // Reads a text, whose opening quote stands here.
@@ -70,35 +75,29 @@ fn read_text_value(
     doc: &[u8],
     nodes: &mut [u64],
     pool: &mut [u64],
-    values: usize,
-    left: usize,
+    room: Room,
     c: Cursor,
     name: u64,
 ) -> u64
-    requires { Ready doc.now nodes.old pool.old values c × (get_or doc.now c.at 256 ≡ 0x22) }
-    ensures read { Reads Gap.value c.begun left values doc.now nodes.old pool.old nodes.new
+    requires { Ready doc.now nodes.old pool.old room.values c × (get_or doc.now c.at 256 ≡ 0x22) }
+    ensures read { Reads Gap.value c.begun room.left room.values doc.now nodes.old pool.old nodes.new
         pool.new name c (answer_of result) }
 {
-    if is_full(values, left, c.begun) {
-        return refused(6, c.at);
+    if room.is_full(c.begun) {
+        return refused(Cause::ValueLimit, c.at);
     }
     match text::read_text(doc, c.at + 1, pool, c.top) {
-        TextRead::Closed {
-            end,
-            length,
-            written,
-        } => {
-            let reference = nodes::text_reference(c.top, length);
-            let head = nodes::head_word(nodes::TEXT, 0, written);
+        Ok(read) => {
+            let reference = nodes::text_reference(c.top, read.length);
+            let head = nodes::head_word(nodes::TEXT, 0, read.written);
             nodes::put_row(nodes, 3 * c.begun, head, reference, name);
-            let to = Cursor {
-                at: end,
+            done(Cursor {
+                at: read.end,
                 begun: c.begun + 1,
-                top: c.top + (length + 7) / 8,
-            };
-            done(to)
+                top: c.top + (read.length + 7) / 8,
+            })
         }
-        TextRead::Broken { place } => refused(3, place),
+        Err(place) => refused(Cause::JsonSyntax, place),
     }
 }
 
@@ -123,45 +122,37 @@ fn put_number(nodes: &mut [u64], c: Cursor, name: u64, x: NumberRead) -> u64
     let written = written_length(c.at, x);
     let head = nodes::head_word(nodes::NUMBER, bits, written);
     nodes::put_row(nodes, 3 * c.begun, head, x.coefficient, name);
-    let to = Cursor {
+    done(Cursor {
         at: x.end,
         begun: c.begun + 1,
-        top: c.top,
-    };
-    done(to)
+        ..c
+    })
 }
 
 // Reads a number, or refuses where no value begins.
-fn read_number_value(
-    doc: &[u8],
-    nodes: &mut [u64],
-    values: usize,
-    left: usize,
-    c: Cursor,
-    name: u64,
-) -> u64
-    requires { TablePlaced doc.now nodes.old values c × NoRow (get_or doc.now c.at 256) }
+fn read_number_value(doc: &[u8], nodes: &mut [u64], room: Room, c: Cursor, name: u64) -> u64
+    requires { TablePlaced doc.now nodes.old room.values c × NoRow (get_or doc.now c.at 256) }
     ensures read { (pool : List ℕ)
-        → Reads Gap.value c.begun left values doc.now nodes.old pool nodes.new pool name c (answer_of result) }
+        → Reads Gap.value c.begun room.left room.values doc.now nodes.old pool nodes.new pool name c (answer_of result) }
 {
     let x = number::read_number(doc, c.at);
     if x.end == c.at {
-        return refused(3, c.at);
+        return refused(Cause::JsonSyntax, c.at);
     }
-    let full = is_full(values, left, c.begun);
+    let full = room.is_full(c.begun);
     if x.complete {
         if x.beyond {
-            return refused(4, c.at);
+            return refused(Cause::NumberLimit, c.at);
         }
         if full {
-            return refused(6, c.at);
+            return refused(Cause::ValueLimit, c.at);
         }
         return put_number(nodes, c, name, x);
     }
     if full {
-        return refused(6, c.at);
+        return refused(Cause::ValueLimit, c.at);
     }
-    refused(3, x.end)
+    refused(Cause::JsonSyntax, x.end)
 }
 
 // Reads a value that is no list and no record, from its first byte on.
@@ -169,27 +160,26 @@ pub fn read_scalar(
     doc: &[u8],
     nodes: &mut [u64],
     pool: &mut [u64],
-    values: usize,
-    left: usize,
+    room: Room,
     c: Cursor,
     name: u64,
 ) -> u64
-    requires { Ready doc.now nodes.old pool.old values c × ScalarByte (get_or doc.now c.at 256) }
-    ensures read { Reads Gap.value c.begun left values doc.now nodes.old pool.old nodes.new
+    requires { Ready doc.now nodes.old pool.old room.values c × ScalarByte (get_or doc.now c.at 256) }
+    ensures read { Reads Gap.value c.begun room.left room.values doc.now nodes.old pool.old nodes.new
         pool.new name c (answer_of result) }
 {
     let b = peek(doc, c.at);
     if b == 0x22 {
-        return read_text_value(doc, nodes, pool, values, left, c, name);
+        return read_text_value(doc, nodes, pool, room, c, name);
     }
     if b == 0x74 {
-        return read_literal(doc, nodes, values, left, c, name, &TRUE_NAME, nodes::TRUE);
+        return read_literal(doc, nodes, room, c, name, &TRUE_NAME, nodes::TRUE);
     }
     if b == 0x66 {
-        return read_literal(doc, nodes, values, left, c, name, &FALSE_NAME, nodes::FALSE);
+        return read_literal(doc, nodes, room, c, name, &FALSE_NAME, nodes::FALSE);
     }
     if b == 0x6E {
-        return read_literal(doc, nodes, values, left, c, name, &NULL_NAME, nodes::NULL);
+        return read_literal(doc, nodes, room, c, name, &NULL_NAME, nodes::NULL);
     }
-    read_number_value(doc, nodes, values, left, c, name)
+    read_number_value(doc, nodes, room, c, name)
 }

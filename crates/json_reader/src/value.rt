@@ -3,141 +3,113 @@ ghost use Rattle.std.specs.Prelude.{suc, ◌<◌};
 ghost use Rattle.definitions.specs.Json.{Gap};
 ghost use Rattle.json_reader.specs.JsonParts.{Ready, Reads, answer_of};
 
-use crate::name::{NameRead, read_name};
-use crate::parts::{Turn, first_part, next_part};
-use crate::reading::{Cursor, ValueRead, opened, refused};
-use crate::scalar::{is_full, read_scalar};
+use crate::name::read_name;
+use crate::packed::{opened, refused};
+use crate::parts::{Bracket, first_part, next_part};
+use crate::scalar::{Room, read_scalar};
 use crate::space::{peek, skip_white};
+use reading::{Cause, Cursor};
+use std::ops::ControlFlow;
 
-// Reads the rest of a list from behind its bracket, with so much nesting left inside; its row is the next one.
+// Reads the rest of a list from behind its bracket, with this room inside; its row is the next one.
 #[cycle(read_list_read_record_read_value)]
 fn read_list(
     doc: &[u8],
     nodes: &mut [u64],
     pool: &mut [u64],
-    values: usize,
-    left: usize,
+    room: Room,
     c: Cursor,
     name: u64,
 ) -> u64
-    requires { Ready doc.now nodes.old pool.old values c × (c.begun < values) }
-    ensures read { Reads Gap.first_item (suc c.begun) (suc left) values doc.now nodes.old pool.old
+    requires { Ready doc.now nodes.old pool.old room.values c × (c.begun < room.values) }
+    ensures read { Reads Gap.first_item (suc c.begun) (suc room.left) room.values doc.now nodes.old pool.old
         nodes.new pool.new name c (answer_of result) }
 {
-    let mut turn = first_part(doc, nodes, values, c, nodes::LIST, 0x5D, name);
+    let mut turn = first_part(doc, nodes, c, Bracket::Square, name);
     loop {
         match turn {
-            Turn::More { from, written } => {
-                let r = read_value(doc, nodes, pool, values, left, from, 0);
-                let ValueRead::Done { to } = opened(r) else {
+            ControlFlow::Continue(part) => {
+                let r = read_value(doc, nodes, pool, room, part.from, 0);
+                let Ok(to) = opened(r) else {
                     return r;
                 };
-                let length = nodes::row_written(nodes, 3 * from.begun);
-                let total = written + length + 1;
-                turn = next_part(doc, nodes, c, nodes::LIST, 0x5D, name, to, total);
+                let length = nodes::row_written(nodes, 3 * part.from.begun);
+                let total = part.written + length + 1;
+                turn = next_part(doc, nodes, c, Bracket::Square, name, to, total);
             }
-            Turn::Stop { answer } => {
-                return answer;
-            }
+            ControlFlow::Break(answer) => return answer,
         }
     }
 }
 
-// Reads the rest of a record from behind its brace, with so much nesting left inside; its row is the next one.
+// Reads the rest of a record from behind its brace, with this room inside; its row is the next one.
 #[cycle(read_list_read_record_read_value)]
 fn read_record(
     doc: &[u8],
     nodes: &mut [u64],
     pool: &mut [u64],
-    values: usize,
-    left: usize,
+    room: Room,
     c: Cursor,
     name: u64,
 ) -> u64
-    requires { Ready doc.now nodes.old pool.old values c × (c.begun < values) }
-    ensures read { Reads Gap.first_name (suc c.begun) (suc left) values doc.now nodes.old pool.old
+    requires { Ready doc.now nodes.old pool.old room.values c × (c.begun < room.values) }
+    ensures read { Reads Gap.first_name (suc c.begun) (suc room.left) room.values doc.now nodes.old pool.old
         nodes.new pool.new name c (answer_of result) }
 {
-    let mut turn = first_part(doc, nodes, values, c, nodes::RECORD, 0x7D, name);
+    let mut turn = first_part(doc, nodes, c, Bracket::Curly, name);
     let mut seen: u64 = 0;
     loop {
         match turn {
-            Turn::More { from, written } => match read_name(
-                doc,
-                nodes,
-                pool,
-                values,
-                c.begun + 1,
-                from,
-                seen,
-            ) {
-                NameRead::Done {
-                    to: at,
-                    word,
-                    written: named,
-                    seen: more,
-                } => {
-                    seen = more;
-                    let r = read_value(doc, nodes, pool, values, left, at, word);
-                    let ValueRead::Done { to } = opened(r) else {
-                        return r;
-                    };
-                    let length = nodes::row_written(nodes, 3 * at.begun);
-                    let total = written + named + length + 2;
-                    turn = next_part(doc, nodes, c, nodes::RECORD, 0x7D, name, to, total);
+            ControlFlow::Continue(part) => {
+                let first = c.begun + 1;
+                match read_name(doc, nodes, pool, first, part.from, seen) {
+                    Ok(named) => {
+                        seen = named.seen;
+                        let r = read_value(doc, nodes, pool, room, named.to, named.word);
+                        let Ok(to) = opened(r) else {
+                            return r;
+                        };
+                        let length = nodes::row_written(nodes, 3 * named.to.begun);
+                        let total = part.written + named.written + length + 2;
+                        turn = next_part(doc, nodes, c, Bracket::Curly, name, to, total);
+                    }
+                    Err(r) => return refused(r.cause, r.place),
                 }
-                NameRead::Refused { number, place } => {
-                    return refused(number, place);
-                }
-            },
-            Turn::Stop { answer } => return answer,
+            }
+            ControlFlow::Break(answer) => return answer,
         }
     }
 }
 
-// Reads a value that may begin at c, with so much nesting left, and puts its row under this name.
+// Reads a value that may begin at c, with this room, and puts its row under this name.
 #[cycle(read_list_read_record_read_value)]
 pub fn read_value(
     doc: &[u8],
     nodes: &mut [u64],
     pool: &mut [u64],
-    values: usize,
-    left: usize,
+    room: Room,
     c: Cursor,
     name: u64,
 ) -> u64
-    requires { Ready doc.now nodes.old pool.old values c }
-    ensures read { Reads Gap.value c.begun left values doc.now nodes.old pool.old nodes.new
+    requires { Ready doc.now nodes.old pool.old room.values c }
+    ensures read { Reads Gap.value c.begun room.left room.values doc.now nodes.old pool.old nodes.new
         pool.new name c (answer_of result) }
 {
     let at = skip_white(doc, c.at);
-    let b = peek(doc, at);
-    if b == 0x5B {
-        if is_full(values, left, c.begun) {
-            return refused(6, at);
-        }
-        let inner = Cursor {
-            at: at + 1,
-            begun: c.begun,
-            top: c.top,
-        };
-        return read_list(doc, nodes, pool, values, left - 1, inner, name);
-    }
-    if b == 0x7B {
-        if is_full(values, left, c.begun) {
-            return refused(6, at);
-        }
-        let inner = Cursor {
-            at: at + 1,
-            begun: c.begun,
-            top: c.top,
-        };
-        return read_record(doc, nodes, pool, values, left - 1, inner, name);
-    }
-    let from = Cursor {
-        at,
-        begun: c.begun,
-        top: c.top,
+    let Some(bracket) = Bracket::opened_by(peek(doc, at)) else {
+        let from = Cursor { at, ..c };
+        return read_scalar(doc, nodes, pool, room, from, name);
     };
-    read_scalar(doc, nodes, pool, values, left, from, name)
+    if room.is_full(c.begun) {
+        return refused(Cause::ValueLimit, at);
+    }
+    let inside = Room {
+        left: room.left - 1,
+        ..room
+    };
+    let inner = Cursor { at: at + 1, ..c };
+    match bracket {
+        Bracket::Square => read_list(doc, nodes, pool, inside, inner, name),
+        Bracket::Curly => read_record(doc, nodes, pool, inside, inner, name),
+    }
 }

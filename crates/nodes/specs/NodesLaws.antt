@@ -8,8 +8,8 @@ use Rattle.definitions.specs.Value.{Value, Items, no_items, item, items_onto, Me
 use Rattle.definitions.specs.Value.{member, members_onto, has_name, size, size_items, size_members}
 use Rattle.definitions.specs.Plain.{plain}
 use Rattle.pool.specs.PoolLaws.{text_in_front}
-use Rattle.nodes.specs.Nodes.{kind_code, number_bits, head_word, head_of, row_size, reference, Refers, refers, Rows, null_row, bool_row}
-use Rattle.nodes.specs.Nodes.{number_row, text_row, list_rows, rec_rows, ItemRows, no_item_rows, item_rows, MemberRows, no_member_rows}
+use Rattle.nodes.specs.Nodes.{sign_bit, kind_code, number_bits, head_word, head_of, row_size, reference, Refers, refers, Rows, null_row}
+use Rattle.nodes.specs.Nodes.{bool_row, number_row, text_row, list_rows, rec_rows, ItemRows, no_item_rows, item_rows, MemberRows, no_member_rows}
 use Rattle.nodes.specs.Nodes.{member_rows, ItemsBefore, no_items_before, item_before, MembersBefore, no_members_before, member_before}
 
 -- ---- words of a row
@@ -19,6 +19,11 @@ pub head_word_is
     → head_of kind bits written ≡ head_word v
 unfolding head_word
 head_word_is v e f g = omega (arith, e, f, g)
+
+pub sign_small : (b : Bool) → sign_bit b ≤ 1
+unfolding sign_bit
+sign_small true = omega arith
+sign_small false = omega arith
 
 pub reference_word : (w n : ℕ) → w < 65536 → reference w n % 65536 ≡ w
 unfolding reference

@@ -9,7 +9,7 @@ ghost use Rattle.pool.specs.Pool.{text_in};
 ghost use Rattle.nodes.specs.Nodes.{head_of, number_bits, reference, row_size, sign_bit};
 ghost use Rattle.nodes.specs.Standing.{NumberStands, MembersStand, MembersHeld, SomeMembers, member_count};
 
-// The codes of the kinds.
+// The codes of the kinds, numbers as a row's first word holds them: an enum would be made of that word at every read.
 pub const NULL: u64 = 0;
 
 pub const FALSE: u64 = 1;
@@ -37,7 +37,7 @@ pub const TRUE_NAME: [u8; 4] = *b"true";
 fn word(nodes: &[u64], i: usize) -> u64
     ensures read { result ≡ get_or nodes.now i 0 }
 {
-    if i < nodes.len() { nodes[i] } else { 0 }
+    nodes.get(i).copied().unwrap_or(0)
 }
 
 // The code of the kind of the value at a row.
@@ -66,14 +66,12 @@ pub fn row_scale(nodes: &[u64], row: usize) -> u64
 pub fn is_int(bits: u64, coefficient: u64) -> bool
     ensures told { (x : Number) → bits ≡ number_bits (Value.number x) → coefficient ≡ x.coefficient → result ≡ is_int x }
 {
-    let mut left = bits / 2;
     let mut digits = coefficient;
-    while 0 < left {
+    for _ in 0..bits / 2 {
         if digits % 10 != 0 {
             return false;
         }
         digits /= 10;
-        left -= 1;
     }
     true
 }
@@ -188,6 +186,7 @@ pub fn has_member(nodes: &[u64], at: usize, end: usize, pool: &[u64], name: u64)
     let w = text_word(name);
     let n = pool::held(pool, w, text_bytes(name));
     let mut i = at;
+    // a row says how many words it takes, and no iterator of std steps so
     while i < end {
         let k = nodes[i + 2];
         if pool::same_held(pool, w, n, text_word(k), text_bytes(k)) {

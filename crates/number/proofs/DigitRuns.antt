@@ -17,15 +17,14 @@ use Rattle.number.specs.NumberRun.{longest}
 use Rattle.number.specs.NumberRead.{ReadsNumber, ReadsOn, numeral}
 use Rattle.number.specs.NumberCode.{Digit, AllDigits, onto, StandsAt, Opening, opening_of, behind_minus, Pointed, Settled, Quiet}
 use Rattle.number.specs.NumberLaws.{longest_on}
-use Rattle.number.proofs.Rows.{looked, nowhere, in_row, past_row, in_one, past_one, row_bounds, from_row, below_row}
+use Rattle.number.proofs.Rows.{looked, nowhere, in_row, past_row, in_one, past_one, row_bounds, in_bounds, below_row}
 use Rattle.number.specs.declared.NumberRead.{NumberRead}
-use borrow.Author.Tests.{le-leb}
 
 pub digit_of : (b : ℕ) → between 48 57 b ≡ true → Digit b
 digit_of b e = let m = row_bounds 48 57 b e in record { least = m.0; most = m.1 }
 
 between_of : (lo hi b : ℕ) → lo ≤ b → b ≤ hi → between lo hi b ≡ true
-between_of lo hi b l m = sym (from_row lo hi b l) ∙ le-leb b hi m
+between_of lo hi b l m = sym (in_bounds lo hi b l m)
 
 lt_of_ne : {a b : ℕ} → a ≤ b → (b ≡ a → ⊥) → a < b
 lt_of_ne h n = ⊎_elim (λ p. absurd (n (sym p))) (λ p. p) (eq-or-lt_of_le h)

@@ -5,7 +5,10 @@ use native.Mathlib.Decide.{dec_lt}
 use native.Mathlib.Omega.{arith}
 use mathlib.Core.Path.{◌≡◌, refl, sym, ap, ap₂, ◌∙◌, subst}
 use lib.Arith.{digits_lt}
-use lib.ListN.{length, get_or}
+use lib.ListN.{length, get_or, take, drop, length-drop}
+use lib.Seq.{length-take-le}
+use native.Mathlib.Numerals.{add-one}
+use Rattle.std.proofs.lemmas.List.{get_or-drop, get_or-take}
 use lib.Pow.{pow-add}
 use Rattle.definitions.specs.Bytes.{Bytes}
 use Rattle.pool.specs.Lanes.{lane}
@@ -17,28 +20,23 @@ use Rattle.number.proofs.DigitRuns.{digits_front, digits_back}
 
 -- ---- one by one
 
-pub taken_none : {doc : Bytes} {at c : ℕ} → Taken doc at (at - at) c c
+pub taken_none : {doc : Bytes} {at c : ℕ} → Taken doc at 0 c c
 unfolding onto
-taken_none {doc} {at} = record { capped = λ k e. let z : at - at ≡ 0 = omega arith in rw z e }
-
-pub taken_up_to : {doc : Bytes} {at i end c c₁ : ℕ} → i ≤ end → end ≤ i → Taken doc at (i - at) c c₁ → Taken doc at (end - at) c c₁
-taken_up_to {i = i} {end = end} h l t = let e : end ≡ i = omega arith in rw e t
-
-onto_next : (doc : Bytes) (at i k : ℕ) → at ≤ i → onto doc at (i + 1 - at) k ≡ onto doc at (i - at) k * 10 + (get_or doc i 0 - 48)
-unfolding onto
-onto_next doc at i k h =
-    ap (λ (n : ℕ). onto doc at n k) (let e : i + 1 - at ≡ suc (i - at) = omega arith in e)
-    ∙ ap (λ (j : ℕ). onto doc at (i - at) k * 10 + (get_or doc j 0 - 48)) (let e : at + (i - at) ≡ i = omega arith in e)
+taken_none = record { capped = λ k e. e }
 
 pub taken_next
-    : {doc : Bytes} {at i c c₁ c₂ : ℕ} → at ≤ i → Taken doc at (i - at) c c₁
-    → c₂ ≡ min (c₁ * 10 + (get_or doc i 0 - 48)) past_coefficient → Taken doc at (i + 1 - at) c c₂
-taken_next {doc} {at} {i} {c₁ = c₁} {c₂ = c₂} h t f =
-    record {
-      capped = λ k e.
-          shifted_cap c₁ (onto doc at (i - at) k) c₂ (get_or doc i 0 - 48) (t.capped k e) f
-          ∙ ap (λ (n : ℕ). min n past_coefficient) (sym (onto_next doc at i k h));
-    }
+    : {doc : Bytes} {at n c c₁ c₂ : ℕ} → Taken doc at n c c₁
+    → c₂ ≡ min (c₁ * 10 + (get_or doc (at + n) 0 - 48)) past_coefficient → Taken doc at (n + 1) c c₂
+unfolding onto
+taken_next {doc} {at} {n} {c₁ = c₁} {c₂ = c₂} t f =
+    record { capped = λ k e. rw add-one (shifted_cap c₁ (onto doc at n k) c₂ (get_or doc (at + n) 0 - 48) (t.capped k e) f) }
+
+-- a byte of the part
+pub part_byte : (doc : Bytes) (at n i : ℕ) → i < n → get_or (take n (drop at doc)) i 0 ≡ get_or doc (at + i) 0
+part_byte doc at n i h = get_or-take n (drop at doc) i 0 h ∙ get_or-drop at doc i 0
+
+pub part_length : {doc : Bytes} {at end : ℕ} → AllDigits doc at end → length (take (end - at) (drop at doc)) ≡ end - at
+part_length {doc} {at} {end} h = length-take-le (end - at) (drop at doc) (omega (arith, length-drop at doc, h.behind, h.within))
 
 -- ---- many at once
 

@@ -3,7 +3,7 @@ use Prim.Native.Nat.{ℕ, suc, ◌+◌, ◌≤◌, ◌<◌}
 use native.Mathlib.Nat.{le_refl}
 use native.Mathlib.Numerals.{add-one}
 use native.Mathlib.Omega.{arith}
-use mathlib.Core.Path.{◌≡◌, refl, sym, ap, ◌∙◌}
+use mathlib.Core.Path.{◌≡◌, refl, sym, ap, ◌∙◌, subst}
 use mathlib.Core.Bool.{Bool, true, false}
 use mathlib.Core.List.{List, [], ◌∷◌}
 use mathlib.Core.Option.{none, some}
@@ -20,8 +20,8 @@ use Rattle.number.proofs.Rows.{row_bounds}
 use Rattle.number.specs.declared.NumberRead.{NumberRead}
 use Rattle.number.specs.declared.numeral.CappedNumeral.{CappedNumeral}
 use Rattle.number.specs.declared.phase.NumberPhase.{NumberPhase}
-use Rattle.number.specs.declared.phase.NumberStep.{NumberStep}
-use Rattle.number.specs.declared.phase.NumberStep.TheVariants.{Stop, To}
+use Rattle.std.specs.Prelude.{Some, None}
+use Rattle.std.specs.Prelude as std
 
 -- ---- what is taken into the coefficient is a digit
 
@@ -63,7 +63,7 @@ fit_next after_sign = (λ b l m. tt, tt)
 fit_next in_exp = (λ b l m. tt, tt)
 
 pub takes
-    : (p : Phase) (b : ℕ) {t : NumberStep} {q : NumberPhase} → t ≡ To q → step_of t ≡ look (next p) b → Takes (phase_of q) b
+    : (p : Phase) (b : ℕ) {t : std.Option NumberPhase} {q : NumberPhase} → t ≡ Some q → step_of t ≡ look (next p) b → Takes (phase_of q) b
 takes p b {q = q} led e = fit_look (next p) (phase_of q) b (fit_next p) (sym (ap step_of led) ∙ e)
 
 -- ---- the loop
@@ -83,7 +83,7 @@ begins {at} {n = n} h s = record { digits = n; behind = le_refl at; within = h; 
 
 module _ {doc : Bytes} {p₀ : Phase} {n₀ : Numeral} {at : ℕ} {p : NumberPhase} {d : CappedNumeral} {i : ℕ} (s : Reading doc p₀ n₀ at p d i) where
   pub goes_on
-      : {t : NumberStep} {q : NumberPhase} {d' : CappedNumeral} → i < length doc → t ≡ To q
+      : {t : std.Option NumberPhase} {q : NumberPhase} {d' : CappedNumeral} → i < length doc → t ≡ Some q
       → step_of t ≡ look (next (phase_of p)) (get_or doc i 0)
       → ((n : Numeral) → StandsFor d n → StandsFor d' (extend (phase_of q) n (get_or doc i 0)))
       → Reading doc p₀ n₀ at q d' (i + 1)
@@ -123,10 +123,13 @@ module _ {doc : Bytes} {p₀ : Phase} {n₀ : Numeral} {at : ℕ} {p : NumberPha
       ended (rw (drop-cons doc i 0 h) (longest_off (phase_of p) s.digits (get_or doc i 0) (drop (suc i) doc) e)) a
 
   pub stops
-      : {t : NumberStep} {r : NumberRead} → i < length doc → t ≡ Stop
+      : {t : std.Option NumberPhase} {r : NumberRead} → i < length doc → t ≡ None
       → step_of t ≡ look (next (phase_of p)) (get_or doc i 0) → Answers (phase_of p) d i r → ReadsOn doc p₀ n₀ at r
   stops h led e a = stops_at h (sym e ∙ ap step_of led) a
 
-  pub ends : {r : NumberRead} → length doc ≤ i → Answers (phase_of p) d i r → ReadsOn doc p₀ n₀ at r
+  -- where the document ends
+  pub ends : {r : NumberRead} → length doc ≤ i → Answers (phase_of p) d (length doc) r → ReadsOn doc p₀ n₀ at r
   unfolding longest
-  ends h a = ended (rw (drop_of_length-le doc h)) a
+  ends {r} h a =
+      ended (rw (drop_of_length-le doc h))
+      (subst (λ (k : ℕ). Answers (phase_of p) d k r) (let e : length doc ≡ i = omega (arith, s.within) in e) a)

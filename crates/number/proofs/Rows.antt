@@ -13,14 +13,21 @@ use Rattle.definitions.specs.Bytes.{Row, row, between, look}
 
 -- ---- the test of a row
 
+pub in_bounds : (lo hi b : ℕ) → lo ≤ b → b ≤ hi → true ≡ between lo hi b
+unfolding between
+in_bounds lo hi b l m = rw (le-leb lo b l, le-leb b hi m)
+
 pub below_row : (lo hi b : ℕ) → b < lo → false ≡ between lo hi b
 unfolding between
 below_row lo hi b l = rw (lt-leb lo b l)
 
--- from its least byte on, a row is a bound
-pub from_row : (lo hi b : ℕ) → lo ≤ b → leb b hi ≡ between lo hi b
+pub above_row : (lo hi b : ℕ) → hi < b → false ≡ between lo hi b
 unfolding between
-from_row lo hi b l = rw (le-leb lo b l)
+above_row lo hi b l = go (leb lo b)
+  where
+    go : (x : Bool) → false ≡ x && leb b hi
+    go true = rw (lt-leb b hi l)
+    go false = refl
 
 pub row_bounds : (lo hi b : ℕ) → between lo hi b ≡ true → (lo ≤ b) × (b ≤ hi)
 unfolding between

@@ -1,5 +1,6 @@
 -- How the code's phases and numerals stand for those of the definitions. Assumes nothing.
-use Rattle.std.specs.Prelude.{ℕ, zero, suc, ◌+◌, ◌-◌, ◌*◌, ◌^◌, ◌≤◌, ◌<◌, min, ◌≡◌, Bool, true, false, length, get_or}
+use Rattle.std.specs.Prelude.{ℕ, zero, suc, ◌+◌, ◌-◌, ◌*◌, ◌^◌, ◌≤◌, ◌<◌, min, ◌≡◌, Bool, true, false, length, get_or, Some, None}
+use Rattle.std.specs.Prelude as std
 use Rattle.std.proofs.Math.Option.{Option, none, some}
 use Rattle.definitions.specs.Bytes.{Bytes, between}
 use Rattle.definitions.specs.Number.{Numeral, beyond, number_of, Phase, begin, after_minus, after_zero}
@@ -9,8 +10,6 @@ use Rattle.number.specs.NumberRead.{number_in}
 use Rattle.number.specs.declared.NumberRead.{NumberRead}
 use Rattle.number.specs.declared.phase.NumberPhase.{NumberPhase}
 use Rattle.number.specs.declared.phase.NumberPhase.TheVariants.{Begin, AfterMinus, AfterZero, InInt, AfterPoint, InFrac, AfterE, AfterSign, InExp}
-use Rattle.number.specs.declared.phase.NumberStep.{NumberStep}
-use Rattle.number.specs.declared.phase.NumberStep.TheVariants.{Stop, To}
 use Rattle.number.specs.declared.numeral.CappedNumeral.{CappedNumeral}
 
 -- ---- phases
@@ -27,9 +26,9 @@ phase_of AfterSign = after_sign
 phase_of InExp = in_exp
 
 -- where a byte leads
-abbrev pub step_of : NumberStep → Option Phase
-step_of Stop = none
-step_of (To q) = some (phase_of q)
+abbrev pub step_of : std.Option NumberPhase → Option Phase
+step_of (Some q) = some (phase_of q)
+step_of None = none
 
 -- phases where the integer part begins
 abbrev pub Opening : Phase → Type 0

@@ -18,7 +18,7 @@ pub mod word; // numbers that are whole words
 mod write;
 
 use numeral::CappedNumeral;
-use phase::{NumberPhase, NumberStep};
+use phase::NumberPhase;
 pub use write::{number_length, write_number};
 
 // What reading a number comes to.
@@ -57,40 +57,28 @@ fn read_on(doc: &[u8], at: usize, first: NumberPhase, digits: CappedNumeral) -> 
 {
     let mut phase = first;
     let mut d = digits;
-    let mut i = at;
-    while i < doc.len() {
-        let b = doc[i];
-        let next = phase::step(phase, b);
-        match next {
-            NumberStep::Stop => return answer(phase, d, i),
-            NumberStep::To(q) => {
-                d = numeral::extended(q, d, b);
-                phase = q;
-                i += 1;
-            }
-        }
+    for i in at..doc.len() {
+        let Some(next) = phase::step(phase, doc[i]) else {
+            return answer(phase, d, i);
+        };
+        d = numeral::extended(next, d, doc[i]);
+        phase = next;
     }
-    answer(phase, d, i)
+    answer(phase, d, doc.len())
 }
 
 // Whether a byte may go on here with a number that may end here.
 fn may_go_on(doc: &[u8], at: usize) -> bool
     ensures { result ≡ false → at < length doc.now → Quiet (get_or doc.now at 0) }
 {
-    if at < doc.len() {
-        return phase::may_follow(doc[at]);
-    }
-    false
+    at < doc.len() && phase::may_follow(doc[at])
 }
 
 // Whether byte b stands at place i.
 fn stands_at(doc: &[u8], i: usize, b: u8) -> bool
     ensures { StandsAt doc.now i b result }
 {
-    if i < doc.len() {
-        return doc[i] == b;
-    }
-    false
+    i < doc.len() && doc[i] == b
 }
 
 // The place behind a minus, if there is one.

@@ -45,11 +45,7 @@ pub fn shifted_on(coefficient: u64, b: u8) -> u64
 fn scaled_on(scale: u64) -> u64
     ensures { result ≡ min (suc scale) past_scale }
 {
-    if scale < PAST_SCALE {
-        scale + 1
-    } else {
-        PAST_SCALE
-    }
+    scale.min(PAST_SCALE - 1) + 1
 }
 
 // The numeral with a byte that led to this phase.
@@ -58,35 +54,28 @@ pub fn extended(phase: NumberPhase, d: CappedNumeral, b: u8) -> CappedNumeral
     ensures { (n : Numeral) → StandsFor d n → StandsFor result (extend (phase_of phase) n b) }
 {
     match phase {
-        NumberPhase::Begin => d,
         NumberPhase::AfterMinus => CappedNumeral {
             negative: true,
-            coefficient: d.coefficient,
-            scale: d.scale,
-            exponent: d.exponent,
+            ..d
         },
-        NumberPhase::AfterZero => d,
         NumberPhase::InInt => CappedNumeral {
-            negative: d.negative,
             coefficient: shifted_on(d.coefficient, b),
-            scale: d.scale,
-            exponent: d.exponent,
+            ..d
         },
-        NumberPhase::AfterPoint => d,
         NumberPhase::InFrac => CappedNumeral {
-            negative: d.negative,
             coefficient: shifted_on(d.coefficient, b),
             scale: scaled_on(d.scale),
-            exponent: d.exponent,
+            ..d
         },
         NumberPhase::AfterE => CappedNumeral {
-            negative: d.negative,
-            coefficient: d.coefficient,
-            scale: d.scale,
             exponent: true,
+            ..d
         },
-        NumberPhase::AfterSign => d,
-        NumberPhase::InExp => d,
+        NumberPhase::Begin
+        | NumberPhase::AfterZero
+        | NumberPhase::AfterPoint
+        | NumberPhase::AfterSign
+        | NumberPhase::InExp => d,
     }
 }
 
@@ -94,21 +83,12 @@ pub fn extended(phase: NumberPhase, d: CappedNumeral, b: u8) -> CappedNumeral
 pub fn is_beyond(d: CappedNumeral) -> bool
     ensures { (n : Numeral) → StandsFor d n → result ≡ beyond n }
 {
-    if d.coefficient == PAST_COEFFICIENT {
-        return true;
-    }
-    if d.scale == PAST_SCALE {
-        return true;
-    }
-    d.exponent
+    d.coefficient == PAST_COEFFICIENT || d.scale == PAST_SCALE || d.exponent
 }
 
 // Zero has no minus.
 pub fn has_minus(d: CappedNumeral) -> bool
     ensures { result ≡ d.negative && not (eqb d.coefficient 0) }
 {
-    if d.coefficient == 0 {
-        return false;
-    }
-    d.negative
+    d.negative && d.coefficient != 0
 }

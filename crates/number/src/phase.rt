@@ -18,127 +18,98 @@ pub enum NumberPhase {
     InExp,
 }
 
-// Where a byte leads.
-#[derive(Clone, Copy)]
-pub enum NumberStep {
-    Stop,
-    To(NumberPhase),
-}
-
 pub fn is_digit(b: u8) -> bool
     ensures { result ≡ between 48 57 b }
 {
-    if b < b'0' {
-        return false;
-    }
-    b <= b'9'
+    matches!(b, b'0'..=b'9')
 }
 
 // Whether a byte may follow a number and belong to it.
 pub fn may_follow(b: u8) -> bool
     ensures { result ≡ false → Quiet b }
 {
-    if b == b'.' {
-        return true;
-    }
-    if b == b'e' {
-        return true;
-    }
-    if b == b'E' {
-        return true;
-    }
-    is_digit(b)
+    matches!(b, b'.' | b'e' | b'E') || is_digit(b)
 }
 
 // A byte where only a digit may stand.
-fn digit_step(b: u8, phase: NumberPhase) -> NumberStep
+fn digit_step(b: u8, phase: NumberPhase) -> Option<NumberPhase>
     ensures { step_of result ≡ look (span "0" "9" (phase_of phase) ∷ []) b }
 {
-    if is_digit(b) {
-        NumberStep::To(phase)
-    } else {
-        NumberStep::Stop
-    }
+    is_digit(b).then_some(phase)
 }
 
 // A byte where the integer part begins.
-fn int_step(b: u8) -> NumberStep
+fn int_step(b: u8) -> Option<NumberPhase>
     ensures { step_of result ≡ look int_rows b }
 {
-    if b == b'0' {
-        return NumberStep::To(NumberPhase::AfterZero);
+    match b {
+        b'0' => Some(NumberPhase::AfterZero),
+        _ => digit_step(b, NumberPhase::InInt),
     }
-    digit_step(b, NumberPhase::InInt)
 }
 
 // A byte where only an exponent may begin.
-fn e_step(b: u8) -> NumberStep
+fn e_step(b: u8) -> Option<NumberPhase>
     ensures { step_of result ≡ look e_rows b }
 {
-    if b == b'e' {
-        return NumberStep::To(NumberPhase::AfterE);
+    match b {
+        b'e' | b'E' => Some(NumberPhase::AfterE),
+        _ => None,
     }
-    if b == b'E' {
-        return NumberStep::To(NumberPhase::AfterE);
-    }
-    NumberStep::Stop
 }
 
 // A byte where a fraction or an exponent may begin.
-fn point_step(b: u8) -> NumberStep
+fn point_step(b: u8) -> Option<NumberPhase>
     ensures { step_of result ≡ look (one "." after_point ∷ e_rows) b }
 {
-    if b == b'.' {
-        return NumberStep::To(NumberPhase::AfterPoint);
+    match b {
+        b'.' => Some(NumberPhase::AfterPoint),
+        _ => e_step(b),
     }
-    e_step(b)
 }
 
 // A byte at the start.
-fn begin_step(b: u8) -> NumberStep
+fn begin_step(b: u8) -> Option<NumberPhase>
     ensures { step_of result ≡ look (next begin) b }
 {
-    if b == b'-' {
-        return NumberStep::To(NumberPhase::AfterMinus);
+    match b {
+        b'-' => Some(NumberPhase::AfterMinus),
+        _ => int_step(b),
     }
-    int_step(b)
 }
 
 // A byte behind a digit of the integer part.
-fn in_int_step(b: u8) -> NumberStep
+fn in_int_step(b: u8) -> Option<NumberPhase>
     ensures { step_of result ≡ look (next in_int) b }
 {
-    if is_digit(b) {
-        return NumberStep::To(NumberPhase::InInt);
+    match b {
+        b'0'..=b'9' => Some(NumberPhase::InInt),
+        _ => point_step(b),
     }
-    point_step(b)
 }
 
 // A byte behind a digit of the fraction.
-fn in_frac_step(b: u8) -> NumberStep
+fn in_frac_step(b: u8) -> Option<NumberPhase>
     ensures { step_of result ≡ look (next in_frac) b }
 {
-    if is_digit(b) {
-        return NumberStep::To(NumberPhase::InFrac);
+    match b {
+        b'0'..=b'9' => Some(NumberPhase::InFrac),
+        _ => e_step(b),
     }
-    e_step(b)
 }
 
 // A byte behind an e.
-fn after_e_step(b: u8) -> NumberStep
+fn after_e_step(b: u8) -> Option<NumberPhase>
     ensures { step_of result ≡ look (next after_e) b }
 {
-    if b == b'-' {
-        return NumberStep::To(NumberPhase::AfterSign);
+    match b {
+        b'-' | b'+' => Some(NumberPhase::AfterSign),
+        _ => digit_step(b, NumberPhase::InExp),
     }
-    if b == b'+' {
-        return NumberStep::To(NumberPhase::AfterSign);
-    }
-    digit_step(b, NumberPhase::InExp)
 }
 
-// Where a byte leads from a phase.
-pub fn step(phase: NumberPhase, b: u8) -> NumberStep
+// Where a byte leads from a phase; nowhere, where it goes on with no number.
+pub fn step(phase: NumberPhase, b: u8) -> Option<NumberPhase>
     ensures { step_of result ≡ look (next (phase_of phase)) b }
 {
     match phase {
@@ -149,8 +120,7 @@ pub fn step(phase: NumberPhase, b: u8) -> NumberStep
         NumberPhase::AfterPoint => digit_step(b, NumberPhase::InFrac),
         NumberPhase::InFrac => in_frac_step(b),
         NumberPhase::AfterE => after_e_step(b),
-        NumberPhase::AfterSign => digit_step(b, NumberPhase::InExp),
-        NumberPhase::InExp => digit_step(b, NumberPhase::InExp),
+        NumberPhase::AfterSign | NumberPhase::InExp => digit_step(b, NumberPhase::InExp),
     }
 }
 
@@ -158,15 +128,8 @@ pub fn step(phase: NumberPhase, b: u8) -> NumberStep
 pub fn is_complete(phase: NumberPhase) -> bool
     ensures { result ≡ complete (phase_of phase) }
 {
-    match phase {
-        NumberPhase::Begin => false,
-        NumberPhase::AfterMinus => false,
-        NumberPhase::AfterZero => true,
-        NumberPhase::InInt => true,
-        NumberPhase::AfterPoint => false,
-        NumberPhase::InFrac => true,
-        NumberPhase::AfterE => false,
-        NumberPhase::AfterSign => false,
-        NumberPhase::InExp => true,
-    }
+    matches!(
+        phase,
+        NumberPhase::AfterZero | NumberPhase::InInt | NumberPhase::InFrac | NumberPhase::InExp
+    )
 }

@@ -3,36 +3,25 @@ ghost use Rattle.number.specs.NumberWord.{WordAnswer};
 
 use crate::slow_number;
 
-// What a word spells.
+// A number that a word spells.
 #[derive(Clone, Copy)]
-pub enum WordRead {
-    Number {
-        negative: bool,
-        coefficient: u64,
-        scale: u64,
-    },
-    // no number, or one that refusal 4 is for
-    Nothing,
+pub struct Decimal {
+    pub negative: bool,
+    pub coefficient: u64,
+    pub scale: u64,
 }
 
-// The number that a word spells to its end.
-pub fn read_word(word: &[u8]) -> WordRead
+// The number that a word spells to its end; none, where it spells no number, or one that refusal 4 is for.
+pub fn read_word(word: &[u8]) -> Option<Decimal>
     ensures read { WordAnswer word.now result }
 {
     let n = slow_number(word, 0);
-    if n.end != word.len() {
-        return WordRead::Nothing;
+    if n.end != word.len() || n.beyond || !n.complete {
+        return None;
     }
-    if n.beyond {
-        return WordRead::Nothing;
-    }
-    if n.complete {
-        WordRead::Number {
-            negative: n.negative,
-            coefficient: n.coefficient,
-            scale: n.scale,
-        }
-    } else {
-        WordRead::Nothing
-    }
+    Some(Decimal {
+        negative: n.negative,
+        coefficient: n.coefficient,
+        scale: n.scale,
+    })
 }

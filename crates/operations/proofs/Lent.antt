@@ -1,5 +1,7 @@
 -- Behind the prelude the limits are in range, and lent work slices long enough for every text; of a longer table only as much is
 -- handed on as may be taken. Assumes nothing.
+use Rattle.std.specs.Prelude.{Result, Ok}
+use Rattle.reading.specs.declared.Cause.{Cause}
 use Prim.Native.Nat.{ℕ, ◌+◌, ◌*◌, ◌≤◌}
 use native.Mathlib.Omega.{arith}
 use mathlib.Core.Path.{◌≡◌}
@@ -22,7 +24,7 @@ use Rattle.inputs.specs.Inputs.{ShapeDocumentSlices, TwoShapesSlices}
 use Rattle.perform.specs.Perform.{DocumentSlices, GrownDocumentSlices, GrownShapesSlices, CheckSlices, RunSlices}
 
 -- n is the number of what goes before the texts
-module _ {l : Limits} {n : ℕ} (z : n ≡ 0) where
+module _ {l : Limits} {n : Result (Unit {0}) Cause} (z : n ≡ Ok tt) where
   pub small_at : {published lent : List ℕ} → Before l published lent n → Small l
   small_at b = range_small (none_before b z).0
 

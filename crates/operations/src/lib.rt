@@ -26,9 +26,8 @@ pub fn plain(
         (plain_operation read_json (plain_slices limits) (length nodes.old ∷ length pool.old ∷ []) limits
         document.now output.old).output }
 {
-    let stop = slices::judge_document(limits, nodes.len(), pool.len());
-    if stop != 0 {
-        return answers::refusal(stop, 0, 0);
+    if let Err(cause) = slices::judge_document(limits, nodes.len(), pool.len()) {
+        return answers::refusal(cause.number(), 0, 0);
     }
     perform::plain(Format::Json, document, output, nodes, pool, limits)
 }
@@ -52,9 +51,9 @@ pub fn infer(
         (length shapes.old ∷ length nodes.old ∷ length pool.old ∷ []) limits
         shape.now document.now output.old).output }
 {
-    let stop = slices::judge_shape_document(limits, shapes.len(), nodes.len(), pool.len()); // a shape and a document
-    if stop != 0 { // no sample is looked at
-        return answers::refusal(stop, 0, 0);
+    let judged = slices::judge_shape_document(limits, shapes.len(), nodes.len(), pool.len()); // a shape and a document
+    if let Err(cause) = judged { // no sample is looked at
+        return answers::refusal(cause.number(), 0, 0);
     }
     let rows = 2 * limits.values; // the table grows to the result, and not past 11
     perform::infer(
@@ -88,9 +87,8 @@ pub fn join(
         (length shapes.old ∷ length others.old ∷ length pool.old ∷ []) limits
         first.now second.now output.old).output }
 {
-    let stop = slices::judge_two_shapes(limits, shapes.len(), others.len(), pool.len()); // two shapes
-    if stop != 0 {
-        return answers::refusal(stop, 0, 0);
+    if let Err(cause) = slices::judge_two_shapes(limits, shapes.len(), others.len(), pool.len()) { // two shapes
+        return answers::refusal(cause.number(), 0, 0);
     }
     let rows = 2 * limits.values; // as for infer
     perform::join(
@@ -118,9 +116,8 @@ pub fn below(
         (length shapes.old ∷ length others.old ∷ length pool.old ∷ []) limits
         first.now second.now }
 {
-    let stop = slices::judge_two_shapes(limits, shapes.len(), others.len(), pool.len()); // as for join
-    if stop != 0 {
-        return answers::refusal(stop, 0, 0);
+    if let Err(cause) = slices::judge_two_shapes(limits, shapes.len(), others.len(), pool.len()) { // as for join
+        return answers::refusal(cause.number(), 0, 0);
     }
     perform::below(first, second, shapes, others, pool, limits)
 }
@@ -139,9 +136,9 @@ pub fn admits(
         (length shapes.old ∷ length nodes.old ∷ length pool.old ∷ []) limits
         shape.now document.now }
 {
-    let stop = slices::judge_shape_document(limits, shapes.len(), nodes.len(), pool.len()); // as for infer
-    if stop != 0 {
-        return answers::refusal(stop, 0, 0);
+    let judged = slices::judge_shape_document(limits, shapes.len(), nodes.len(), pool.len()); // as for infer
+    if let Err(cause) = judged {
+        return answers::refusal(cause.number(), 0, 0);
     }
     perform::admits(Format::Json, shape, document, shapes, nodes, pool, limits)
 }
@@ -169,7 +166,7 @@ pub fn check(
         ∷ length bindings.old ∷ length pool.old ∷ []) limits
         reader.now shape.now output.old).output }
 {
-    let stop = slices::judge_reader_shape( // a reader and a shape
+    let judged = slices::judge_reader_shape(
         limits,
         forms.len(),
         shapes.len(),
@@ -177,8 +174,8 @@ pub fn check(
         bindings.len(), // one for each level of the reader
         pool.len(),
     );
-    if stop != 0 {
-        return answers::refusal(stop, 0, 0);
+    if let Err(cause) = judged {
+        return answers::refusal(cause.number(), 0, 0);
     }
     let read = slices::shape_words(limits, limits.bytes); // no shape that is read has more
     let rows = 2 * limits.values; // as for infer
@@ -218,7 +215,7 @@ pub fn run(
         ∷ length bindings.old ∷ length pool.old ∷ []) limits
         reader.now document.now output.old).output }
 {
-    let stop = slices::judge_reader_document( // a reader and a document
+    let judged = slices::judge_reader_document(
         limits,
         forms.len(),
         nodes.len(),
@@ -226,8 +223,8 @@ pub fn run(
         bindings.len(), // as for check
         pool.len(),
     );
-    if stop != 0 {
-        return answers::refusal(stop, 0, 0);
+    if let Err(cause) = judged {
+        return answers::refusal(cause.number(), 0, 0);
     }
     let read = slices::value_words(limits, limits.bytes); // no document has more
     let rows = 3 * limits.values; // and no result

@@ -1,19 +1,19 @@
 -- Members of the second shape that the first lacks: the walk over them. Assumes nothing.
 use Prim.Native.Nat.{ℕ, ◌+◌, ◌/◌, ◌%◌, ◌≤◌, ◌<◌}
 use mathlib.Core.Path.{◌≡◌, refl, sym, ap, ap₂, ◌∙◌, subst}
-use mathlib.Core.Bool.{Bool, true, false, not, ◌&&◌, ◌||◌}
+use mathlib.Core.Bool.{Bool, true, false, ◌&&◌, ◌||◌}
 use mathlib.Core.List.{List}
 use mathlib.Core.Option.{Option, none}
 use lib.ListN.{get_or}
 use Rattle.definitions.specs.Bytes.{Bytes, found}
 use Rattle.definitions.specs.Shape.{Kind, Shape, Fields, find}
 use Rattle.definitions.specs.Order.{lacked_have_null}
-use Rattle.laws.specs.Bools.{or_right, not_true, not_fails}
+use Rattle.laws.specs.Bools.{or_right}
 use Rattle.pool.specs.Pool.{text_in}
 use Rattle.shapes.specs.Shapes.{kind_bit, has_bit, size_at}
-use Rattle.shapes.specs.declared.Member.{Member}
-use Rattle.shapes.specs.declared.Member.TheVariants.{Found, Missing}
-use Rattle.shapes.specs.Members.{Tells, Found_at, Names}
+use Rattle.std.specs.Prelude as std
+use Rattle.std.specs.Prelude.{Some, None}
+use Rattle.shapes.specs.Members.{Found_at, Names}
 use Rattle.shapes.specs.Held.{HoldsFields}
 use Rattle.shapes.specs.HeldLaws.{names_of, held_has, held_within, first_field, no_field_left}
 use Rattle.order.specs.Comparing.{ListedAsked, Lacks, NullsTold}
@@ -30,24 +30,20 @@ module _ (first : List ℕ) (from to : ℕ) (second : List ℕ) (row : ℕ) (poo
     null_told g fs h =
         sym (or_right (found (find name_there fs)) (ap (λ (x : ℕ). has_bit x 1) (sym e) ∙ sym f ∙ g))
 
-    module _ (g : b ≡ false) (m : Member) {i : ℕ} (at_row : i ≡ get_or second (row + 1) 0) (names : Names first from to pool i m) where
-      pub listed_told : {n : ℕ} → m ≡ Found n → Lacks first from to second row pool true
-      unfolding found
-      listed_told x fs h =
-          let t : Found_at first h.used to name_there fs _ =
-          subst (λ (y : Member). Tells first h.used to name_there fs y) x (names_of m at_row names h.used fs h.listed) in
-          sym (ap (λ (o : Option Shape). found o || has_bit (get_or second row 0 % 128) 1) t.found)
-
-      pub unlisted_told : m ≡ Missing → Lacks first from to second row pool false
-      unfolding found
-      unlisted_told x fs h =
-          let t : find name_there fs ≡ none =
-          subst (λ (y : Member). Tells first h.used to name_there fs y) x (names_of m at_row names h.used fs h.listed) in
-          sym
-          (ap (λ (o : Option Shape). found o || has_bit (get_or second row 0 % 128) 1) t
-          ∙ ap (λ (y : ℕ). has_bit y 1) (sym e)
-          ∙ sym f
-          ∙ g)
+    pub named_told
+        : b ≡ false → (m : std.Option ℕ) {i : ℕ} → i ≡ get_or second (row + 1) 0 → Names first from to pool i m
+        → Lacks first from to second row pool (std.is_some m)
+    unfolding found
+    named_told g (Some n) at_row names fs h =
+        let t : Found_at first h.used to name_there fs _ = names_of (Some n) at_row names h.used fs h.listed in
+        sym (ap (λ (o : Option Shape). found o || has_bit (get_or second row 0 % 128) 1) t.found)
+    named_told g None at_row names fs h =
+        let t : find name_there fs ≡ none = names_of None at_row names h.used fs h.listed in
+        sym
+        (ap (λ (o : Option Shape). found o || has_bit (get_or second row 0 % 128) 1) t
+        ∙ ap (λ (y : ℕ). has_bit y 1) (sym e)
+        ∙ sym f
+        ∙ g)
 
 -- ---- the walk
 
@@ -84,12 +80,12 @@ module _ (first : List ℕ) (from to : ℕ) (second : List ℕ) (at end : ℕ) (
           ∙ ap (λ (b : Bool). b && lacked_have_null fs f.others)
           (sym (l fs h ∙ ap₂ (λ (n : Bytes) (b : Bool). found (find n fs) || b) f.text (held_has Kind.null f.held)))
 
-      pub walk_fails : not r ≡ true → NullsTold first from to second at end pool false
+      pub walk_fails : r ≡ false → NullsTold first from to second at end pool false
       walk_fails e fs h gs k =
           let m = w.left fs h gs k in
-          sym (step_told fs h m ∙ ap (λ (b : Bool). b && lacked_have_null fs (first_field m.holds more).others) (not_true r e))
+          sym (step_told fs h m ∙ ap (λ (b : Bool). b && lacked_have_null fs (first_field m.holds more).others) e)
 
-      pub walk_on : {n : ℕ} → not r ≡ false → n ≡ size_at second i → Walking (i + n)
+      pub walk_on : {n : ℕ} → r ≡ true → n ≡ size_at second i → Walking (i + n)
       walk_on e s =
           subst (λ (n : ℕ). Walking (i + n)) (sym s)
           (record {
@@ -100,7 +96,7 @@ module _ (first : List ℕ) (from to : ℕ) (second : List ℕ) (at end : ℕ) (
                   holds = (first_field m.holds more).more;
                   alike =
                       step_told fs h m
-                      ∙ ap (λ (b : Bool). b && lacked_have_null fs (first_field m.holds more).others) (not_fails r e);
+                      ∙ ap (λ (b : Bool). b && lacked_have_null fs (first_field m.holds more).others) e;
                 };
           })
 

@@ -1,7 +1,7 @@
 -- The walk over the members of the first shape. Assumes nothing.
 use Prim.Native.Nat.{ℕ, ◌+◌, ◌≤◌, ◌<◌}
 use mathlib.Core.Path.{◌≡◌, refl, sym, ap, ◌∙◌, subst}
-use mathlib.Core.Bool.{Bool, true, false, not, ◌&&◌}
+use mathlib.Core.Bool.{Bool, true, false, ◌&&◌}
 use mathlib.Core.List.{List}
 use mathlib.Core.Option.{Option, none, some}
 use native.Mathlib.Omega.{arith}
@@ -9,10 +9,9 @@ use lib.ListN.{get_or}
 use Rattle.definitions.specs.Bytes.{Bytes}
 use Rattle.definitions.specs.Shape.{Shape, Fields, field, find, levels, levels_fields}
 use Rattle.definitions.specs.Order.{below, below_fields}
-use Rattle.laws.specs.Bools.{not_true, not_fails}
 use Rattle.shapes.specs.Shapes.{size_at}
-use Rattle.shapes.specs.declared.Member.{Member}
-use Rattle.shapes.specs.declared.Member.TheVariants.{Found, Missing}
+use Rattle.std.specs.Prelude as std
+use Rattle.std.specs.Prelude.{Some, None}
 use Rattle.shapes.specs.Members.{Tells, Found_at, Names}
 use Rattle.shapes.specs.Held.{HoldsFields}
 use Rattle.shapes.specs.HeldLaws.{names_of, held_within, found_held, FirstField, first_field, no_field_left}
@@ -69,7 +68,7 @@ module _ (first : List ℕ) (from to : ℕ) (second : List ℕ) (at end : ℕ) (
         : {nesting : ℕ} → FieldsAsked first from to second at end pool nesting → (2 ≤ size_at first i) × (i + size_at first i ≤ to)
     walk_step a = ((held_within (next a).held).0, (next a).inside)
 
-    module _ (m : Member) {k : ℕ} (at_row : k ≡ get_or first (i + 1) 0) (names : Names second at end pool k m) where
+    module _ (m : std.Option ℕ) {k : ℕ} (at_row : k ≡ get_or first (i + 1) 0) (names : Names second at end pool k m) where
       -- what the search tells of the first member
       tells
           : {gs : Fields} (k : HoldsFields second pool at end gs) {os : Fields} (h : HoldsFields first pool i to os)
@@ -88,20 +87,20 @@ module _ (first : List ℕ) (from to : ℕ) (second : List ℕ) (at end : ℕ) (
           ∙ ap (λ (os : Fields). below_fields os gs) f.same
           ∙ below_field f.name f.shape f.others gs
 
-      pub walk_misses : m ≡ Missing → FieldsTold first from to second at end pool false
+      pub walk_misses : m ≡ None → FieldsTold first from to second at end pool false
       walk_misses e fs h gs k =
           let l = w.left fs h gs k in
           let f = first_field l.holds more in
           let t : find f.name gs ≡ none =
-          subst (λ (x : Member). Tells second k.used end f.name gs x) e (tells k l.holds) in
+          subst (λ (x : std.Option ℕ). Tells second k.used end f.name gs x) e (tells k l.holds) in
           sym (step l ∙ ap (λ (o : Option Shape). below_listed f.shape o && below_fields f.others gs) t)
 
-      module _ {row : ℕ} (e : m ≡ Found row) where
+      module _ {row : ℕ} (e : m ≡ Some row) where
         found_at
             : {gs : Fields} (k : HoldsFields second pool at end gs) {os : Fields} (h : HoldsFields first pool i to os)
             → Found_at second k.used end (first_field h more).name gs row
         found_at {gs} k h =
-            subst (λ (x : Member). Tells second k.used end (first_field h more).name gs x) e (tells k h)
+            subst (λ (x : std.Option ℕ). Tells second k.used end (first_field h more).name gs x) e (tells k h)
 
         pub walk_asks : {nesting : ℕ} → FieldsAsked first from to second at end pool nesting → ShapesAsked first i second row pool nesting
         walk_asks {nesting} a =
@@ -128,12 +127,12 @@ module _ (first : List ℕ) (from to : ℕ) (second : List ℕ) (at end : ℕ) (
               ∙ ap (λ (o : Option Shape). below_listed f.shape o && below_fields f.others gs) g.found
               ∙ ap (λ (b : Bool). b && below_fields f.others gs) (sym (told f.shape f.held g.shape (found_held k g)))
 
-          pub walk_fails : not r ≡ true → FieldsTold first from to second at end pool false
+          pub walk_fails : r ≡ false → FieldsTold first from to second at end pool false
           walk_fails x fs h gs k =
               let l = w.left fs h gs k in
-              sym (step_told k l ∙ ap (λ (b : Bool). b && below_fields (first_field l.holds more).others gs) (not_true r x))
+              sym (step_told k l ∙ ap (λ (b : Bool). b && below_fields (first_field l.holds more).others gs) x)
 
-          pub walk_on : {n : ℕ} → not r ≡ false → n ≡ size_at first i → Walking (i + n)
+          pub walk_on : {n : ℕ} → r ≡ true → n ≡ size_at first i → Walking (i + n)
           walk_on x s =
               subst (λ (n : ℕ). Walking (i + n)) (sym s)
               (record {
@@ -143,7 +142,7 @@ module _ (first : List ℕ) (from to : ℕ) (second : List ℕ) (at end : ℕ) (
                     record {
                       others = f.others;
                       holds = f.more;
-                      alike = step_told k l ∙ ap (λ (b : Bool). b && below_fields f.others gs) (not_fails r x);
+                      alike = step_told k l ∙ ap (λ (b : Bool). b && below_fields f.others gs) x;
                       deep = λ {left = nesting} d.
                           other_levels f.name f.shape f.others
                           (subst (λ (os : Fields). levels_fields os ≤ nesting) f.same (l.deep d));

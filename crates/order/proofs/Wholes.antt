@@ -1,7 +1,7 @@
 -- Two shapes: where their parts stand, and how the order is put together from the parts. Assumes nothing.
 use Prim.Native.Nat.{ℕ, ◌+◌, ◌-◌, ◌%◌, ◌≤◌, ◌<◌}
 use mathlib.Core.Path.{◌≡◌, refl, sym, ap, ap₂, ◌∙◌, subst}
-use mathlib.Core.Bool.{Bool, true, false, not, ◌&&◌}
+use mathlib.Core.Bool.{Bool, true, false, ◌&&◌}
 use mathlib.Core.List.{List}
 use native.Mathlib.Omega.{arith}
 use borrow.Author.Tests.{eqb-true, eqb-false}
@@ -11,7 +11,7 @@ use lib.ListN.{get_or}
 use Rattle.definitions.specs.Shape.{Kind, Shape, shape, no_list, list_of, no_rec, rec_of, Fields, has}
 use Rattle.definitions.specs.Shape.{has_list, has_rec, element_of, record_of, levels, levels_fields}
 use Rattle.definitions.specs.Order.{kinds_in, lacked_have_null, below, below_element, below_record, below_fields}
-use Rattle.laws.specs.Bools.{not_true, clash, not_fails}
+use Rattle.laws.specs.Bools.{clash}
 use Rattle.shapes.specs.Shapes.{kind_bit, has_bit, size_at, members_at}
 use Rattle.shapes.specs.Held.{HoldsShape, HoldsFields}
 use Rattle.shapes.specs.HeldLaws.{held_kinds, held_has, held_element, held_members}
@@ -36,17 +36,17 @@ module _ (first : List ℕ) (a : ℕ) (second : List ℕ) (b : ℕ) (pool : List
     pub kinds : (s : Shape) → HoldsShape first pool a s → (t : Shape) → HoldsShape second pool b t → kinds_in s t ≡ true
 
   module _ {x y : ℕ} {w : Bool} (e : x ≡ get_or first a 0 % 128) (f : y ≡ get_or second b 0 % 128) (within : w ≡ eqb (bit_or x y) y) where
-    pub kinds_fail : not w ≡ true → ShapesTold first a second b pool false
+    pub kinds_fail : w ≡ false → ShapesTold first a second b pool false
     kinds_fail v s g t k =
-        let h : bit_or x y ≡ y → ⊥ = eqb-false (bit_or x y) y (sym within ∙ not_true w v) in
+        let h : bit_or x y ≡ y → ⊥ = eqb-false (bit_or x y) y (sym within ∙ v) in
         sym
         (below_parts s t
         ∙ ap (λ (p : Bool). p && below_element (element_of s) (element_of t) && below_record (record_of s) (record_of t))
         (kinds_beyond s t (λ q. h (ap₂ (λ (i j : ℕ). bit_or i j) (e ∙ held_kinds g) (f ∙ held_kinds k) ∙ q ∙ sym (f ∙ held_kinds k)))))
 
-    pub kinds_pass : not w ≡ false → Passed
+    pub kinds_pass : w ≡ true → Passed
     kinds_pass v =
-        let h : bit_or x y ≡ y = eqb-true (bit_or x y) y (sym within ∙ not_fails w v) in
+        let h : bit_or x y ≡ y = eqb-true (bit_or x y) y (sym within ∙ v) in
         record {
           kinds = λ s g t k.
               kinds_all s t
@@ -65,14 +65,14 @@ module _ (first : List ℕ) (a : ℕ) (second : List ℕ) (b : ℕ) (pool : List
         ∙ ap (λ (q : Bool). q && below_element (element_of s) (element_of t) && below_record (record_of s) (record_of t)) (p.kinds s g t k)
         ∙ ap (λ (q : Bool). q && below_record (record_of s) (record_of t)) (sym (told s g t k (p.kinds s g t k)))
 
-    pub element_fails : not r ≡ true → ShapesTold first a second b pool false
+    pub element_fails : r ≡ false → ShapesTold first a second b pool false
     element_fails e s g t k =
-        sym (element_told s g t k ∙ ap (λ (q : Bool). q && below_record (record_of s) (record_of t)) (not_true r e))
+        sym (element_told s g t k ∙ ap (λ (q : Bool). q && below_record (record_of s) (record_of t)) e)
 
-    pub record_tells : {q : Bool} → not r ≡ false → RecordTold first a second b pool q → ShapesTold first a second b pool q
+    pub record_tells : {q : Bool} → r ≡ true → RecordTold first a second b pool q → ShapesTold first a second b pool q
     record_tells e u s g t k =
         u s g t k (p.kinds s g t k)
-        ∙ sym (element_told s g t k ∙ ap (λ (q : Bool). q && below_record (record_of s) (record_of t)) (not_fails r e))
+        ∙ sym (element_told s g t k ∙ ap (λ (q : Bool). q && below_record (record_of s) (record_of t)) e)
 
   -- ---- elements
 
@@ -204,15 +204,15 @@ module _ (first : List ℕ) (a : ℕ) (second : List ℕ) (b : ℕ) (pool : List
                 ∙ ap (λ (o : Bool). o && lacked_have_null l.fields l.others)
                 (sym (told l.fields (placed_first l) l.others (placed_second l)))
 
-            pub fields_fail : not q ≡ true → RecordTold first a second b pool false
+            pub fields_fail : q ≡ false → RecordTold first a second b pool false
             fields_fail n s g t k w =
                 let l = both_records s g t k w in
-                sym (fields_told s g t k w l ∙ ap (λ (o : Bool). o && lacked_have_null l.fields l.others) (not_true q n))
+                sym (fields_told s g t k w l ∙ ap (λ (o : Bool). o && lacked_have_null l.fields l.others) n)
 
             pub nulls_told
-                : {o : Bool} → not q ≡ false → NullsTold first from (a + size) second at (b + wide) pool o
+                : {o : Bool} → q ≡ true → NullsTold first from (a + size) second at (b + wide) pool o
                 → RecordTold first a second b pool o
             nulls_told n z s g t k w =
                 let l = both_records s g t k w in
                 z l.fields (placed_first l) l.others (placed_second l)
-                ∙ sym (fields_told s g t k w l ∙ ap (λ (y : Bool). y && lacked_have_null l.fields l.others) (not_fails q n))
+                ∙ sym (fields_told s g t k w l ∙ ap (λ (y : Bool). y && lacked_have_null l.fields l.others) n)

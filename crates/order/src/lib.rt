@@ -5,7 +5,7 @@ ghost use Rattle.shapes.specs.Members.{SomeListed};
 ghost use Rattle.order.specs.Comparing.{ShapesAsked, ShapesTold, PartsAsked, ElementTold, RecordTold};
 ghost use Rattle.order.specs.Comparing.{FieldsAsked, FieldsTold, NullsTold, ListedAsked, Lacks};
 
-use shapes::{Member, Shape};
+use shapes::Shape;
 
 // ---- members that the first shape lacks
 
@@ -14,13 +14,8 @@ fn may_lack(first: &[u64], from: usize, to: usize, second: &[u64], row: usize, p
     requires { SomeListed first.now pool.now from to }
     ensures told { Lacks first.now from to second.now row pool.now result }
 {
-    if shapes::has(shapes::kinds(second, row), Shape::NULL) {
-        return true;
-    }
-    match shapes::find_named(first, from, to, pool, shapes::name(second, row)) {
-        Member::Found { row: _ } => true,
-        Member::Missing => false,
-    }
+    shapes::kinds(second, row).has(Shape::NULL)
+        || shapes::find_named(first, from, to, pool, shapes::name(second, row)).is_some()
 }
 
 // Whether each member of the second shape that the first lacks has null.
@@ -61,10 +56,7 @@ fn below_element(
     requires { PartsAsked first.now a second.now b pool.now left }
     ensures told { ElementTold first.now a second.now b pool.now result }
 {
-    if shapes::has(shapes::kinds(first, a), Shape::LIST) {
-        return below(first, second, pool, a + 2, b + 2, left - 1);
-    }
-    true
+    !shapes::kinds(first, a).has(Shape::LIST) || below(first, second, pool, a + 2, b + 2, left - 1)
 }
 
 // Whether each member of the first shape is one of the second's and lies below it.
@@ -85,7 +77,7 @@ fn below_fields(
     let mut i = from;
     while i < to {
         let named = shapes::find_named(second, at, end, pool, shapes::name(first, i));
-        let Member::Found { row } = named else {
+        let Some(row) = named else {
             return false; // not listed
         };
         if !below(first, second, pool, i, row, left) {
@@ -109,17 +101,15 @@ fn below_record(
     requires { PartsAsked first.now a second.now b pool.now left }
     ensures told { RecordTold first.now a second.now b pool.now result }
 {
-    if shapes::has(shapes::kinds(first, a), Shape::REC) {
-        let from = shapes::members(first, a);
-        let to = a + shapes::size(first, a);
-        let at = shapes::members(second, b);
-        let end = b + shapes::size(second, b);
-        if !below_fields(first, from, to, second, at, end, pool, left - 1) {
-            return false;
-        }
-        return lacked_have_null(first, from, to, second, at, end, pool);
+    if !shapes::kinds(first, a).has(Shape::REC) {
+        return true;
     }
-    true
+    let from = shapes::members(first, a);
+    let to = a + shapes::size(first, a);
+    let at = shapes::members(second, b);
+    let end = b + shapes::size(second, b);
+    below_fields(first, from, to, second, at, end, pool, left - 1)
+        && lacked_have_null(first, from, to, second, at, end, pool)
 }
 
 // Whether the shape at row a of the first table lies below the one at row b of the second, with so much nesting left.
@@ -128,13 +118,8 @@ pub fn below(first: &[u64], second: &[u64], pool: &[u64], a: usize, b: usize, le
     requires { ShapesAsked first.now a second.now b pool.now left }
     ensures told { ShapesTold first.now a second.now b pool.now result }
 {
-    let kinds = shapes::kinds(first, a);
-    let others = shapes::kinds(second, b);
-    if !shapes::is_within(kinds, others) {
+    if !shapes::kinds(first, a).is_within(shapes::kinds(second, b)) {
         return false;
     }
-    if !below_element(first, second, pool, a, b, left) {
-        return false;
-    }
-    below_record(first, second, pool, a, b, left)
+    below_element(first, second, pool, a, b, left) && below_record(first, second, pool, a, b, left)
 }

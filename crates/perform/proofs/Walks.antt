@@ -28,8 +28,11 @@ use Rattle.shapes.specs.Shapes.{ShapeRows, Stands}
 use Rattle.shapes.specs.ShapesLaws.{length_shape_rows}
 use Rattle.shapes.specs.Held.{HoldsShape}
 use Rattle.shapes.specs.HeldLaws.{held_front}
-use Rattle.join.specs.declared.Joined.{Joined}
-use Rattle.join.specs.declared.Joined.TheVariants.{Grown, Full}
+use Rattle.std.specs.Prelude as std
+use Rattle.std.specs.Prelude.{Ok, Err, Some, None}
+use Rattle.reading.specs.declared.Refusal.{Refusal}
+use Rattle.reading.specs.Refusals.{number_of}
+use Rattle.shapes.specs.declared.Shape as bits
 use Rattle.join.specs.Replacing.{Becomes}
 use Rattle.join.specs.Joining.{Joins, Joinable, JoinsTo}
 use Rattle.infer.specs.Inferring.{Meets, Inferable, Joins as InferJoins}
@@ -37,11 +40,9 @@ use Rattle.order.specs.Comparing.{ShapesAsked}
 use Rattle.admits.specs.Admission.{ValueAsked}
 use Rattle.documents.specs.Documents.{ValueTable}
 use Rattle.slices.specs.Long.{long_three, long_five, read_in_grown_document, read_in_grown_shapes}
-use Rattle.checking.specs.declared.Checked.{Checked}
-use Rattle.checking.specs.declared.Checked.TheVariants.{Kinds, Refused}
-use Rattle.checking.specs.CheckContracts.{Checks, MeetsReader, ReaderAsked, ChecksReader}
+use Rattle.checking.specs.CheckContracts.{Checked, Checks, MeetsReader, ReaderAsked, ChecksReader}
 use Rattle.result_shape.specs.Giving.{MeetsReader as MeetsGiven, ReaderAsked as GivenAsked, HoldsGiven, GivesReader}
-use Rattle.running.specs.declared.Came.{Came}
+use Rattle.running.specs.declared.Halt.{Halt}
 use Rattle.running.specs.Run.{ReadsBoth, Runnable, ComesTo, RunsReader}
 use Rattle.inputs.specs.Inputs.{ShapeDocumentSlices, TwoShapesSlices, ReaderDocumentSlices, ReaderDocumentHeld}
 use Rattle.inputs.specs.Inputs.{ShapeTable, ShapeDocumentHeld, TwoShapesHeld, ReaderShapeSlices, ReaderShapeHeld}
@@ -77,11 +78,11 @@ module _ {one two : Bytes} {shapes others pool : List ℕ} {l : Limits} (s : Gro
 
 -- ---- a table that grew, or was full
 
-module _ (u : Shape) (grown : Joined) (shapes pool : List ℕ) (l : Limits) (g : GrowsTo u grown shapes pool l) where
-  pub grown_holds : {words : ℕ} → grown ≡ Grown words → HoldsShape shapes pool 0 u
+module _ (u : Shape) (grown : std.Option ℕ) (shapes pool : List ℕ) (l : Limits) (g : GrowsTo u grown shapes pool l) where
+  pub grown_holds : {words : ℕ} → grown ≡ Some words → HoldsShape shapes pool 0 u
   grown_holds e = subst (λ j. GrowsTo u j shapes pool l) e g
 
-  pub full_keeps : {r : Answer} (out : Bytes) → grown ≡ Full → r ≡ refusal 11 0 0 → Comes (finish out (shape_out l u)) r out
+  pub full_keeps : {r : Answer} (out : Bytes) → grown ≡ None → r ≡ refusal 11 0 0 → Comes (finish out (shape_out l u)) r out
   full_keeps out e f =
       let h : l.values < forms u = subst (λ j. GrowsTo u j shapes pool l) e g in
       stopped_keeps out f (shape_out_over l u (rw (lt-ltb l.values (forms u) h) refl))
@@ -120,14 +121,14 @@ module _ {l : Limits} {shapes pool : List ℕ} {used top : ℕ} {s : Shape} (t :
 
   -- it became another
   grows
-      : (shapes' : List ℕ) (u : Shape) (r : Joined) → 2 * l.values ≤ length shapes
+      : (shapes' : List ℕ) (u : Shape) (r : std.Option ℕ) → 2 * l.values ≤ length shapes
       → Becomes shapes shapes' (take top pool) used 0 0 s u r → GrowsTo u r shapes' pool l
-  grows shapes' u (Grown words) h b =
+  grows shapes' u (Some words) h b =
       held_front shapes' pool (used + words) top (subst (ShapeRows (take top pool) 0 u) whole b.encoded) t.within t.small
     where
       whole : b.rows ≡ take (used + words) shapes'
       whole = sym (b.replaced.held ∙ ap (λ (q : List ℕ). b.rows ++ q) behind ∙ append-nil b.rows)
-  grows shapes' u Full h b = omega (arith, b.over, t.counted)
+  grows shapes' u None h b = omega (arith, b.over, t.counted)
 
 -- ---- a value into a shape
 
@@ -159,7 +160,7 @@ module _ {l : Limits} {shapes nodes pool : List ℕ} {used words top : ℕ} {s :
   admission = record { shape = s; held = shape_held h.shape; value = v; holds = value_held h.value; once = h.value.names_once }
 
   pub inferred
-      : (shapes' : List ℕ) (r : Joined) → 2 * l.values ≤ length shapes → InferJoins shapes nodes pool shapes' used 0 0 r
+      : (shapes' : List ℕ) (r : std.Option ℕ) → 2 * l.values ≤ length shapes → InferJoins shapes nodes pool shapes' used 0 0 r
       → GrowsTo (join s (shape_of v)) r shapes' pool l
   inferred shapes' r k i =
       grows h.shape shapes' (join s (shape_of v)) r k (i (take top pool) 0 s 0 v meets h.shape.ascends h.value.names_once)
@@ -191,7 +192,7 @@ module _ {l : Limits} {shapes others pool : List ℕ} {used words top : ℕ} {s 
   comparison = record { shape = s; held = shape_held h.one; other = t; holds = shape_held h.other; deep = h.one.nests }
 
   pub joined
-      : (shapes' : List ℕ) (r : Joined) → 2 * l.values ≤ length shapes → JoinsTo join shapes shapes' others pool used 0 0 l.nesting r
+      : (shapes' : List ℕ) (r : std.Option ℕ) → 2 * l.values ≤ length shapes → JoinsTo join shapes shapes' others pool used 0 0 l.nesting r
       → GrowsTo (join s t) r shapes' pool l
   joined shapes' r k i = grows h.one shapes' (join s t) r k (i (take top pool) 0 0 s t joins)
 
@@ -254,10 +255,10 @@ module _ {l : Limits} {forms shapes pool : List ℕ} {words used top : ℕ} {r :
     told : {y : Checked} → x ≡ y → Checks (check_reader r s) y
     told e = subst (Checks (check_reader r s)) e (c (take top pool) 0 l.nesting r s checks)
 
-    pub reader_checks : {kinds : ℕ} → x ≡ Kinds kinds → (t : Shape) × (check_reader r s ≡ ok t)
+    pub reader_checks : {kinds : bits.Shape} → x ≡ Ok kinds → (t : Shape) × (check_reader r s ≡ ok t)
     reader_checks e = let (t, f, g) = told e in (t, f)
 
-    pub reader_fails : {n q : ℕ} → x ≡ Refused n q → in_text 1 (check_reader r s) ≡ stopped (refusal n 1 q)
+    pub reader_fails : {why : Refusal} → x ≡ Err why → in_text 1 (check_reader r s) ≡ stopped (refusal (number_of why.cause) 1 why.place)
     reader_fails e = walk_stops 1 (told e)
 
   -- what it gives
@@ -279,13 +280,13 @@ module _ {l : Limits} {forms shapes pool : List ℕ} {words used top : ℕ} {r :
     giving = record { p = take top pool; m = 0; name = 0; reader = r; shape = s; given = t; meets = gives }
 
     pub given
-        : (results' : List ℕ) (long : ℕ) (o : Joined) → form_words l ≤ long
+        : (results' : List ℕ) (long : ℕ) (o : std.Option ℕ) → form_words l ≤ long
         → GivesReader forms shapes pool bindings results' l.nesting long o → GrowsTo t o results' pool l
     given results' long o j g = go o (g (take top pool) 0 0 r s t gives)
       where
-        go : (o : Joined) → HoldsGiven results' pool long t o → GrowsTo t o results' pool l
-        go (Grown w) x = x
-        go Full x = omega (arith, x, j)
+        go : (o : std.Option ℕ) → HoldsGiven results' pool long t o → GrowsTo t o results' pool l
+        go (Some w) x = x
+        go None x = omega (arith, x, j)
 
 -- ---- a reader on a document
 
@@ -353,5 +354,5 @@ module _ {l : Limits} {forms nodes pool : List ℕ} {words many top : ℕ} {r : 
         few_steps = s;
       }
 
-  pub came : {results' : List ℕ} {x y : Came} → RunsReader forms nodes pool results' l x → x ≡ y → ComesTo (run_reader r l v) l results' pool y
+  pub came : {results' : List ℕ} {x y : std.Result ℕ Halt} → RunsReader forms nodes pool results' l x → x ≡ y → ComesTo (run_reader r l v) l results' pool y
   came {results'} c e = subst (ComesTo (run_reader r l v) l results' pool) e (c.told (take top pool) r v reads)

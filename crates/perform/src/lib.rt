@@ -11,12 +11,9 @@ ghost use Rattle.inputs.specs.Inputs.{ShapeDocumentSlices, TwoShapesSlices};
 ghost use Rattle.perform.specs.Perform.{DocumentSlices, GrownDocumentSlices, GrownShapesSlices, CheckSlices, RunSlices};
 ghost use Rattle.perform.specs.Perform.{GrowsTo, SomeGrown};
 
-use checking::Checked;
 use definitions::{Answer, Format, Limits};
-use inputs::Texts;
-use join::Joined;
-use json_reader::DocumentRead;
-use running::Came;
+use reading::Cause;
+use running::Halt;
 
 // Writes a document as plain JSON.
 pub fn plain(
@@ -33,14 +30,14 @@ pub fn plain(
         (finish output.old (plain_judged (source format) limits document.now)).output }
 {
     match documents::read(format, document, nodes, pool, 0, limits) {
-        DocumentRead::Read { words: _, top: _ } => plain::deliver(output, nodes, pool, 0),
-        DocumentRead::Refused { number, place } => answers::refusal(number, 1, place),
+        Ok(_) => plain::deliver(output, nodes, pool, 0),
+        Err(why) => answers::refused(1, why),
     }
 }
 
 // Writes the shape that a table grew to, or refuses it where the table was too short.
 fn deliver_grown(
-    grown: Joined,
+    grown: Option<usize>,
     output: &mut [u8],
     shapes: &[u64],
     pool: &[u64],
@@ -52,10 +49,10 @@ fn deliver_grown(
     ensures written { (u : Shape) → GrowsTo u grown shapes.now pool.now limits → output.new ≡
         (finish output.old (shape_out limits u)).output }
 {
-    let Joined::Grown { words: _ } = grown else {
-        return answers::refusal(11, 0, 0); // more forms than the table has room for
-    };
-    shape_writer::deliver(output, shapes, pool, limits)
+    match grown {
+        Some(_) => shape_writer::deliver(output, shapes, pool, limits),
+        None => answers::refusal(Cause::ShapeLimit.number(), 0, 0), // more forms than the table has room for
+    }
 }
 
 // Joins the shape of a document into a shape, and writes it.
@@ -77,19 +74,11 @@ pub fn infer(
         (finish output.old (infer_judged (source format) limits shape.now document.now)).output }
 {
     match inputs::shape_document(format, shape, document, shapes, nodes, pool, limits) {
-        Texts::Read {
-            first,
-            second: _,
-            top: _,
-        } => {
-            let grown = infer::infer_at(shapes, first, 0, nodes, 0, pool);
+        Ok(texts) => {
+            let grown = infer::infer_at(shapes, texts.first, 0, nodes, 0, pool);
             deliver_grown(grown, output, shapes, pool, limits)
         }
-        Texts::Refused {
-            number,
-            text,
-            place,
-        } => answers::refusal(number, text, place),
+        Err(why) => answers::refused(why.text, why.refusal),
     }
 }
 
@@ -110,19 +99,11 @@ pub fn join(
         (finish output.old (join_judged limits first.now second.now)).output }
 {
     match inputs::two_shapes(first, second, shapes, others, pool, limits) {
-        Texts::Read {
-            first: used,
-            second: _,
-            top: _,
-        } => {
-            let grown = join::join_at(shapes, used, 0, others, 0, pool, limits.nesting);
+        Ok(texts) => {
+            let grown = join::join_at(shapes, texts.first, 0, others, 0, pool, limits.nesting);
             deliver_grown(grown, output, shapes, pool, limits)
         }
-        Texts::Refused {
-            number,
-            text,
-            place,
-        } => answers::refusal(number, text, place),
+        Err(why) => answers::refused(why.text, why.refusal),
     }
 }
 
@@ -139,16 +120,8 @@ pub fn below(
     ensures answered { result ≡ say (below_judged limits first.now second.now) }
 {
     match inputs::two_shapes(first, second, shapes, others, pool, limits) {
-        Texts::Read {
-            first: _,
-            second: _,
-            top: _,
-        } => { answers::said(order::below(shapes, others, pool, 0, 0, limits.nesting)) }
-        Texts::Refused {
-            number,
-            text,
-            place,
-        } => answers::refusal(number, text, place),
+        Ok(_) => answers::said(order::below(shapes, others, pool, 0, 0, limits.nesting)),
+        Err(why) => answers::refused(why.text, why.refusal),
     }
 }
 
@@ -166,16 +139,8 @@ pub fn admits(
     ensures answered { result ≡ say (admits_judged (source format) limits shape.now document.now) }
 {
     match inputs::shape_document(format, shape, document, shapes, nodes, pool, limits) {
-        Texts::Read {
-            first: _,
-            second: _,
-            top: _,
-        } => { answers::said(admits::admits(shapes, 0, nodes, 0, pool)) }
-        Texts::Refused {
-            number,
-            text,
-            place,
-        } => answers::refusal(number, text, place),
+        Ok(_) => answers::said(admits::admits(shapes, 0, nodes, 0, pool)),
+        Err(why) => answers::refused(why.text, why.refusal),
     }
 }
 
@@ -199,12 +164,8 @@ pub fn check(
         (finish output.old (check_judged limits reader.now shape.now)).output }
 {
     match inputs::reader_shape(reader, shape, forms, shapes, pool, limits) {
-        Texts::Read {
-            first: _,
-            second: _,
-            top: _,
-        } => match checking::check(forms, shapes, pool, bindings) {
-            Checked::Kinds { kinds: _ } => {
+        Ok(_) => match checking::check(forms, shapes, pool, bindings) {
+            Ok(_) => {
                 let grown = result_shape::result(
                     forms,
                     shapes,
@@ -215,13 +176,9 @@ pub fn check(
                 );
                 deliver_grown(grown, output, results, pool, limits)
             }
-            Checked::Refused { number, place } => answers::refusal(number, 1, place),
+            Err(why) => answers::refused(1, why),
         },
-        Texts::Refused {
-            number,
-            text,
-            place,
-        } => answers::refusal(number, text, place),
+        Err(why) => answers::refused(why.text, why.refusal),
     }
 }
 
@@ -247,19 +204,11 @@ pub fn run(
         (finish output.old (run_judged (source format) limits reader.now document.now)).output }
 {
     match inputs::reader_document(format, reader, document, forms, nodes, pool, limits) {
-        Texts::Read {
-            first: _,
-            second: _,
-            top: _,
-        } => match running::run(forms, nodes, pool, bindings, results, limits) {
-            Came::Ran { steps } => plain::deliver(output, results, pool, steps),
-            Came::Over => answers::refusal(14, 0, 0),
-            Came::Refused { number, place } => answers::refusal(number, 1, place),
+        Ok(_) => match running::run(forms, nodes, pool, bindings, results, limits) {
+            Ok(steps) => plain::deliver(output, results, pool, steps),
+            Err(Halt::Over) => answers::refusal(Cause::ResultLimit.number(), 0, 0),
+            Err(Halt::Refused(why)) => answers::refused(1, why),
         },
-        Texts::Refused {
-            number,
-            text,
-            place,
-        } => answers::refusal(number, text, place),
+        Err(why) => answers::refused(why.text, why.refusal),
     }
 }

@@ -20,16 +20,16 @@ text v steps = to_write (plain v) steps
 module _ (out : Bytes) (v : Value) (steps : ℕ) {n : ℕ} where
   pub delivered_short
       : n ≡ length (plain v) → length out < n
-      → deliver out (text v steps) ≡ record { answer = record { number = 15; text = 0; place = 0; length = n; steps = 0; yes = false }; output = out }
-  unfolding deliver output_short
+      → deliver out (text v steps) ≡ record { answer = output_short n; output = out }
+  unfolding deliver
   delivered_short e h =
       rw (lt-ltb (length out) (length (plain v)) (omega (arith, e)), deliver)
       (ap (λ (k : ℕ). record { answer = output_short k; output = out }) (sym e))
 
   pub delivered
       : {out' : Bytes} → length (plain v) ≤ length out → Front out out' (plain v) n
-      → deliver out (text v steps) ≡ record { answer = record { number = 0; text = 0; place = 0; length = n; steps = steps; yes = false }; output = out' }
-  unfolding deliver written
+      → deliver out (text v steps) ≡ record { answer = written n steps false; output = out' }
+  unfolding deliver
   delivered {out'} h f =
       rw (le-ltb (length out) (length (plain v)) h, deliver)
       (ap (λ (k : ℕ). record { answer = written k steps false; output = plain v ++ drop k out }) (sym f.size)
@@ -43,11 +43,11 @@ Measured nodes n = (p : List ℕ) (v : Value) → SomeValueStands nodes p 0 v �
 
 module _ {nodes pool : List ℕ} (out : Bytes) (steps : ℕ) {n : ℕ} (m : Measured nodes n) where
   module _ (h : length out < n) (v : Value) (s : Holds nodes pool 0 v) where
-    short : deliver out (text v steps) ≡ record { answer = record { number = 15; text = 0; place = 0; length = n; steps = 0; yes = false }; output = out }
+    short : deliver out (text v steps) ≡ record { answer = output_short n; output = out }
     short = delivered_short out v steps (m s.used v s.stands s.bounded) h
 
     pub short_answered
-        : record { number = 15; text = 0; place = 0; length = n; steps = 0; yes = false } ≡ (deliver out (text v steps)).answer
+        : output_short n ≡ (deliver out (text v steps)).answer
     short_answered = sym (ap (λ (d : Done). d.answer) short)
 
     pub short_kept : out ≡ (deliver out (text v steps)).output
@@ -58,11 +58,11 @@ module _ {nodes pool : List ℕ} (out : Bytes) (steps : ℕ) {n : ℕ} (m : Meas
       writable_front out s.holds (omega (arith, m s.holds.used s.value s.holds.stands s.holds.bounded))
 
   module _ {out' : Bytes} {r : ℕ} (h : n ≤ length out) (w : WritesFront nodes pool out out' r) (v : Value) (s : Holds nodes pool 0 v) where
-    room : deliver out (text v steps) ≡ record { answer = record { number = 0; text = 0; place = 0; length = r; steps = steps; yes = false }; output = out' }
+    room : deliver out (text v steps) ≡ record { answer = written r steps false; output = out' }
     room = delivered out v steps (omega (arith, m s.used v s.stands s.bounded)) (w v s)
 
     pub room_answered
-        : record { number = 0; text = 0; place = 0; length = r; steps = steps; yes = false } ≡ (deliver out (text v steps)).answer
+        : written r steps false ≡ (deliver out (text v steps)).answer
     room_answered = sym (ap (λ (d : Done). d.answer) room)
 
     pub room_written : out' ≡ (deliver out (text v steps)).output

@@ -1,10 +1,11 @@
 -- Laws of a row's first word: kind, sign and scale, and length are read back from it. Assumes nothing.
-use Rattle.std.specs.Prelude.{◌/◌, ◌%◌, ◌≤◌, ◌<◌, ◌≡◌, Bool, true, false, length}
+use Rattle.std.specs.Prelude.{◌/◌, ◌%◌, ◌<◌, ◌≡◌, true, false, length}
 use Rattle.std.proofs.Common.{arith}
 use Rattle.definitions.specs.Number.{most_scale}
 use Rattle.definitions.specs.Value.{Value}
 use Rattle.definitions.specs.Plain.{plain}
-use Rattle.nodes.specs.Nodes.{kind_code, sign_bit, number_bits, head_word}
+use Rattle.nodes.specs.Nodes.{kind_code, number_bits, head_word}
+pub use Rattle.nodes.specs.NodesLaws.{sign_small}
 use Rattle.plain.specs.Table.{BoundedNumbers}
 
 -- ---- kind-code
@@ -20,11 +21,6 @@ kind_small (Value.list vs) = omega arith
 kind_small (Value.rec ms) = omega arith
 
 -- ---- number-bits
-
-pub sign_small : (b : Bool) → sign_bit b ≤ 1
-unfolding sign_bit
-sign_small true = omega arith
-sign_small false = omega arith
 
 pub bits_small : (v : Value) → BoundedNumbers v → number_bits v < 32
 unfolding number_bits BoundedNumbers most_scale

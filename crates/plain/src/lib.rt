@@ -23,14 +23,9 @@ pub fn write_bytes(out: &mut [u8], at: usize, name: &[u8]) -> usize
     requires { at + length name.now ≤ length out.old }
     ensures written { Writes out.old out.new at name.now result }
 {
-    let mut i: usize = 0;
-    let mut j = at;
-    while i < name.len() {
-        out[j] = name[i];
-        j += 1;
-        i += 1;
-    }
-    j
+    let end = at + name.len();
+    out[at..end].copy_from_slice(name);
+    end
 }
 
 // Writes the text of the pool at a reference.
@@ -81,22 +76,17 @@ fn write_single(out: &mut [u8], at: usize, nodes: &[u64], row: usize, pool: &[u6
     requires single { get_or nodes.now row 0 % 8 < 5 }
     ensures written { WritesValue nodes.now pool.now row out.old out.new at result }
 {
-    let kind = nodes::row_kind(nodes, row);
-    if kind == nodes::NULL {
-        return write_bytes(out, at, &nodes::NULL_NAME);
+    match nodes::row_kind(nodes, row) {
+        nodes::NULL => write_bytes(out, at, &nodes::NULL_NAME),
+        nodes::FALSE => write_bytes(out, at, &nodes::FALSE_NAME),
+        nodes::TRUE => write_bytes(out, at, &nodes::TRUE_NAME),
+        nodes::NUMBER => {
+            let negative = nodes::row_negative(nodes, row);
+            let coefficient = nodes::row_payload(nodes, row);
+            number::write_number(out, at, negative, coefficient, nodes::row_scale(nodes, row))
+        }
+        _ => write_reference(out, at, pool, nodes::row_payload(nodes, row)),
     }
-    if kind == nodes::FALSE {
-        return write_bytes(out, at, &nodes::FALSE_NAME);
-    }
-    if kind == nodes::TRUE {
-        return write_bytes(out, at, &nodes::TRUE_NAME);
-    }
-    let payload = nodes::row_payload(nodes, row);
-    if kind == nodes::NUMBER {
-        let negative = nodes::row_negative(nodes, row);
-        return number::write_number(out, at, negative, payload, nodes::row_scale(nodes, row));
-    }
-    write_reference(out, at, pool, payload)
 }
 
 // Writes the elements or members whose rows stand from a row up to an end, with commas between them.
@@ -164,22 +154,8 @@ pub fn deliver(output: &mut [u8], nodes: &[u64], pool: &[u64], steps: usize) -> 
 {
     let needed = written_length(nodes, 0);
     if output.len() < needed {
-        return Answer {
-            number: 15,
-            text: 0,
-            place: 0,
-            length: needed,
-            steps: 0,
-            yes: false,
-        };
+        return answers::output_short(needed);
     }
     let length = write_value(output, nodes, pool);
-    Answer {
-        number: 0,
-        text: 0,
-        place: 0,
-        length,
-        steps,
-        yes: false,
-    }
+    answers::written(length, steps)
 }

@@ -30,6 +30,7 @@ fn spell(bytes: &[u8], out: &mut [u8]) -> usize
     2 * bytes.len()
 }
 
+// Crate text has such a digit inside, for its escapes, and would be called for this line alone.
 #[tactic(auto, unfolding(definitions::specs::Plain::hex_digit))]
 fn digit(d: u8) -> u8
     requires { d < 16 }

@@ -2,7 +2,7 @@
 // of a refusal; or, of an accepted file, the length and the bytes written, in hexadecimal.
 #![tactic(auto)]
 
-ghost use Rattle.std.specs.Prelude.{◌≡◌, ◌≤◌, OnOk, IfErr, IfSome, min, length};
+ghost use Rattle.std.specs.Prelude.{◌≡◌, ◌≤◌, OnOk, IfErr, IfSome, length};
 ghost use Rattle.std.specs.Io.KnownBytes.{Appends};
 ghost use Rattle.streams.specs.Faults.{OnInput};
 ghost use Rattle.plain_files.specs.Lines.{figure_of, line_of, shown_of, judged};
@@ -62,19 +62,15 @@ fn judge_name<W: Write>(files: &impl Files, to: &mut W, errors: &impl Print, nam
         streams::fail(errors, name, error);
         return;
     };
-    let mut file = match fs::open(files, path) {
-        Ok(file) => file,
-        Err(error) => {
-            streams::fail(errors, name, error);
-            return;
-        }
-    };
-    match judge_file(&mut file, to, path) {
-        Ok(()) => {}
-        Err(Fault::Input(error)) => streams::fail(errors, name, error),
-        // what standard output does not take is lost, and the next file is judged
-        Err(Fault::Output(_)) => {}
+    // what standard output does not take is lost, and the next file is judged
+    if let Err(Fault::Input(error)) = judge_path(files, to, path) {
+        streams::fail(errors, name, error);
     }
+}
+
+fn judge_path<W: Write>(files: &impl Files, to: &mut W, path: &str) -> Result<(), Fault> {
+    let mut file = fs::open(files, path).map_err(Fault::Input)?;
+    judge_file(&mut file, to, path)
 }
 
 // Reads a file and prints its line.
@@ -84,14 +80,8 @@ fn judge_file<R: Read, W: Write>(file: &mut R, to: &mut W, name: &str) -> Result
     ensures unread { IfErr result (λ fault. OnInput fault (to.new ≡ to.old)) }
 {
     let mut document = [0u8; DOCUMENT];
-    let n = match streams::fill(file, &mut document) {
-        Ok(n) => n,
-        Err(error) => return Err(Fault::Input(error)),
-    };
-    match judge(to, name, &document[..n]) {
-        Ok(()) => Ok(()),
-        Err(error) => Err(Fault::Output(error)),
-    }
+    let n = streams::fill(file, &mut document).map_err(Fault::Input)?;
+    judge(to, name, &document[..n]).map_err(Fault::Output)
 }
 
 // Prints the line of a file that was read.
@@ -125,7 +115,8 @@ fn print_written<W: Write>(to: &mut W, answer: Answer, output: &[u8]) -> io::Res
     if answer.number != 0 {
         return Ok(());
     }
-    let n = written(answer, output);
+    // no more than there are
+    let n = answer.length.min(output.len());
     to.write_all(b" ")?;
     hex::print(to, &output[..n])
 }
@@ -138,18 +129,5 @@ fn figure(answer: Answer) -> usize
         answer.length
     } else {
         answer.place
-    }
-}
-
-// How many bytes of the output plain JSON takes, and no more than there are.
-fn written(answer: Answer, output: &[u8]) -> usize
-    ensures within { result ≤ length output.now }
-    ensures value { result ≡ min answer.length (length output.now) }
-{
-    let length = answer.length;
-    if length < output.len() {
-        length
-    } else {
-        output.len()
     }
 }

@@ -10,7 +10,12 @@ use lib.ListN.{length, get_or, drop, drop_of_length-le}
 use lib.Seq.{drop-cons}
 use lib.Dec.{compare_is_eq, eqb}
 use borrow.Author.Tests.{eqb-true, eqb-false}
+use Rattle.std.specs.declared.cmp.Ordering as cmp
+use Rattle.std.specs.declared.cmp.Ordering.TheVariants.{Less, Equal, Greater}
+use Rattle.std.specs.Ordering.{nat_cmp, MatchOrdering}
+use Rattle.std.specs.Cmp.{ranked}
 use Rattle.definitions.specs.Bytes.{Bytes, order, same}
+use Rattle.pool.specs.Pool.{ordering_of}
 
 -- ---- two numbers
 
@@ -27,6 +32,18 @@ compare_gt (suc x) (suc y) h = compare.suc-suc x y ∙ compare_gt x y (le_of_suc
 compare_refl : (x : ℕ) → compare x x ≡ Ordering.eq
 compare_refl zero = compare.zero-zero
 compare_refl (suc x) = compare.suc-suc x x ∙ compare_refl x
+
+-- what `cmp` tells of two numbers, where an order goes by them
+pub told_by
+    : (x y : ℕ) (r : cmp.Ordering) {o : Ordering} → r ≡ nat_cmp x y → (x < y → o ≡ Ordering.lt) → (x ≡ y → o ≡ Ordering.eq) → (y < x → o ≡ Ordering.gt)
+    → ordering_of r ≡ o
+unfolding ordering_of
+told_by x y r {o} e less equal greater = go r (ranked x y r e)
+  where
+    go : (r : cmp.Ordering) → MatchOrdering r (x < y) (x ≡ y) (y < x) → ordering_of r ≡ o
+    go Less h = sym (less h)
+    go Equal h = sym (equal h)
+    go Greater h = sym (greater h)
 
 -- what two first bytes decide
 abbrev by_first : Ordering → Ordering → Ordering

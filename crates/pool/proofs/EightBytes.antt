@@ -1,10 +1,10 @@
 -- The word of eight bytes that stand in a row, and of its first bytes with zeros behind them. Assumes nothing.
-use Prim.Native.Nat.{ℕ, suc, ◌+◌, ◌-◌, ◌*◌, ◌/◌, ◌%◌, ◌^◌, ◌≤◌, ◌<◌}
+use Prim.Native.Nat.{ℕ, zero, suc, ◌+◌, ◌-◌, ◌*◌, ◌/◌, ◌%◌, ◌^◌, ◌≤◌, ◌<◌}
 use mathlib.Core.Path.{◌≡◌, refl, sym, ap, ap₂, ◌∙◌, subst}
-use mathlib.Core.List.{[], ◌∷◌, ◌++◌}
+use mathlib.Core.List.{List, [], ◌∷◌, ◌++◌}
 use native.Mathlib.Nat.{mod-eq_of_lt}
 use native.Mathlib.Omega.{arith}
-use lib.Bits.{bit_and, bit_or, and_high, or_shifted}
+use lib.Bits.{bit_and, and_high}
 use lib.ListN.{length, get_or, take, drop, replicate, length-replicate}
 use lib.Pow.{shl_exact, shr_lt}
 use lib.Seq.{drop_at}
@@ -19,7 +19,7 @@ part_on
 part_on doc i j k h =
     part doc (i + j) k h ∙ ap (λ (x : ℕ). get_or doc (i + j) 0 ∷ take k (drop x doc)) (let e : i + j + 1 ≡ i + (j + 1) = omega arith in e)
 
-pub eight_bytes
+eight_bytes
     : (doc : Bytes) (i : ℕ) → i + 8 ≤ length doc
     → take 8 (drop i doc)
     ≡ get_or doc i 0
@@ -59,53 +59,53 @@ unpacked_sum a b c d e f g h ha hb hc hd he hf hg hh =
     (ap₂ ◌∷◌ (omega arith)
     (ap₂ ◌∷◌ (omega arith) (ap₂ ◌∷◌ (omega arith) (ap₂ ◌∷◌ (omega arith) (ap₂ ◌∷◌ (omega arith) refl)))))))
 
--- behind what is a multiple of a power, what is below that power is added
-or_below : (hi k : ℕ) {x y s lo : ℕ} → x ≡ s → y ≡ lo → s ≡ hi * 2 ^ k → lo < 2 ^ k → bit_or x y ≡ s + lo
-or_below hi k {lo = lo} p q e h = ap₂ bit_or (p ∙ e) q ∙ or_shifted hi k lo h ∙ ap (λ (z : ℕ). z + lo) (sym e)
-
--- a byte is shifted whole
-byte_up : (a k : ℕ) → a < 256 → k ≤ 56 → a * 2 ^ k % 2 ^ 64 ≡ a * 2 ^ k
-byte_up a k h l = shl_exact 8 k 64 h (omega arith)
-
-pub unpacked_joined
-    : (a b c d e f g h : ℕ) → a < 256 → b < 256 → c < 256 → d < 256 → e < 256 → f < 256 → g < 256 → h < 256
-    → unpacked
-    (bit_or
-    (bit_or
-    (bit_or
-    (bit_or
-    (bit_or
-    (bit_or (bit_or (a * 2 ^ 56 % 2 ^ 64) (b * 2 ^ 48 % 2 ^ 64)) (c * 2 ^ 40 % 2 ^ 64))
-    (d * 2 ^ 32 % 2 ^ 64))
-    (e * 2 ^ 24 % 2 ^ 64))
-    (f * 2 ^ 16 % 2 ^ 64))
-    (g * 2 ^ 8 % 2 ^ 64))
-    h)
-    ≡ a ∷ b ∷ c ∷ d ∷ e ∷ f ∷ g ∷ h ∷ []
-unpacked_joined a b c d e f g h ha hb hc hd he hf hg hh =
-    let s1 = or_below a 56 (byte_up a 56 ha (omega arith)) (byte_up b 48 hb (omega arith)) refl (omega arith) in
-    let s2 = or_below (a * 2 ^ 8 + b) 48 s1 (byte_up c 40 hc (omega arith)) (omega arith) (omega arith) in
-    let s3 = or_below (a * 2 ^ 16 + b * 2 ^ 8 + c) 40 s2 (byte_up d 32 hd (omega arith)) (omega arith) (omega arith) in
-    let s4 = or_below (a * 2 ^ 24 + b * 2 ^ 16 + c * 2 ^ 8 + d) 32 s3 (byte_up e 24 he (omega arith)) (omega arith) (omega arith) in
-    let s5 = or_below (a * 2 ^ 32 + b * 2 ^ 24 + c * 2 ^ 16 + d * 2 ^ 8 + e) 24 s4 (byte_up f 16 hf (omega arith)) (omega arith) (omega arith) in
-    let s6 = or_below (a * 2 ^ 40 + b * 2 ^ 32 + c * 2 ^ 24 + d * 2 ^ 16 + e * 2 ^ 8 + f) 16 s5 (byte_up g 8 hg (omega arith)) (omega arith) (omega arith) in
-    let s7 = or_below (a * 2 ^ 48 + b * 2 ^ 40 + c * 2 ^ 32 + d * 2 ^ 24 + e * 2 ^ 16 + f * 2 ^ 8 + g) 8 {y = h} s6 refl (omega arith) (omega arith) in
-    ap unpacked s7 ∙ unpacked_sum a b c d e f g h ha hb hc hd he hf hg hh
+-- the word of which these eight bytes are the digits, the highest first
+pub unpacked_word
+    : (doc : Bytes) (i x : ℕ) → i + 8 ≤ length doc → ((k : ℕ) → get_or doc k 0 < 256)
+    → x
+    ≡ get_or doc i 0 * 2 ^ 56
+    + get_or doc (i + 1) 0 * 2 ^ 48
+    + get_or doc (i + 2) 0 * 2 ^ 40
+    + get_or doc (i + 3) 0 * 2 ^ 32
+    + get_or doc (i + 4) 0 * 2 ^ 24
+    + get_or doc (i + 5) 0 * 2 ^ 16
+    + get_or doc (i + 6) 0 * 2 ^ 8
+    + get_or doc (i + 7) 0
+    → unpacked x ≡ take 8 (drop i doc)
+unpacked_word doc i x h small e =
+    ap unpacked e
+    ∙ unpacked_sum (get_or doc i 0) (get_or doc (i + 1) 0) (get_or doc (i + 2) 0) (get_or doc (i + 3) 0) (get_or doc (i + 4) 0)
+    (get_or doc (i + 5) 0) (get_or doc (i + 6) 0) (get_or doc (i + 7) 0)
+    (small i) (small (i + 1)) (small (i + 2)) (small (i + 3)) (small (i + 4)) (small (i + 5)) (small (i + 6)) (small (i + 7))
+    ∙ sym (eight_bytes doc i h)
 
 -- ---- its first bytes
 
--- a power in the table of masks
-pub mask_at : (m k v : ℕ) → m ≡ k → v ≡ 2 ^ 64 - 2 ^ (64 - 8 * k) → v ≡ 2 ^ 64 - 2 ^ (64 - 8 * m)
-mask_at m k v e h = h ∙ ap (λ (i : ℕ). 2 ^ 64 - 2 ^ (64 - 8 * i)) (sym e)
+-- the words whose first bytes are full and whose others are zero
+abbrev pub masks : List ℕ
+masks =
+    0
+    ∷ 0xFF00000000000000
+    ∷ 0xFFFF000000000000
+    ∷ 0xFFFFFF0000000000
+    ∷ 0xFFFFFFFF00000000
+    ∷ 0xFFFFFFFFFF000000
+    ∷ 0xFFFFFFFFFFFF0000
+    ∷ 0xFFFFFFFFFFFFFF00
+    ∷ 0xFFFFFFFFFFFFFFFF
+    ∷ []
 
--- none of four numbers: past them
-past : (a : ℕ) {m : ℕ} → a ≤ m → (m ≡ a → ⊥) → (m ≡ a + 1 → ⊥) → (m ≡ a + 2 → ⊥) → (m ≡ a + 3 → ⊥) → a + 4 ≤ m
-past a l f g h i = omega arith
-
-pub past_seven
-    : {m : ℕ} → (m ≡ 0 → ⊥) → (m ≡ 1 → ⊥) → (m ≡ 2 → ⊥) → (m ≡ 3 → ⊥) → (m ≡ 4 → ⊥) → (m ≡ 5 → ⊥) → (m ≡ 6 → ⊥) → (m ≡ 7 → ⊥)
-    → 8 ≤ m
-past_seven a b c d e f g h = past 4 (past 0 (omega arith) a b c d) e f g h
+pub masks_at : (m : ℕ) → m ≤ 8 → get_or masks m 0 ≡ 2 ^ 64 - 2 ^ (64 - 8 * m)
+masks_at zero h = refl
+masks_at (suc zero) h = refl
+masks_at (suc (suc zero)) h = refl
+masks_at (suc (suc (suc zero))) h = refl
+masks_at (suc (suc (suc (suc zero)))) h = refl
+masks_at (suc (suc (suc (suc (suc zero))))) h = refl
+masks_at (suc (suc (suc (suc (suc (suc zero)))))) h = refl
+masks_at (suc (suc (suc (suc (suc (suc (suc zero))))))) h = refl
+masks_at (suc (suc (suc (suc (suc (suc (suc (suc zero)))))))) h = refl
+masks_at (suc (suc (suc (suc (suc (suc (suc (suc (suc m))))))))) h = absurd (let z : ⊥ = omega arith in z)
 
 -- the mask clears what shifts down and up again would
 pub unpacked_front

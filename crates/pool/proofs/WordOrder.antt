@@ -76,7 +76,7 @@ module _ (p : List ℕ) where
         ∙ ap (λ (j : ℕ). order (drop j (text_in p w n)) (drop j (text_in p v m))) (let q : 8 * i + k + 1 ≡ 8 * i + suc k = omega arith in q)
 
     -- k bytes of their words i lie before place e, which is in neither's rest
-    module _ (e k : ℕ) (hk : k ≡ min 8 (e - 8 * i)) (hi : 8 * i < e) (hs : e ≤ length (text_in p w n)) (ht : e ≤ length (text_in p v m)) where
+    module _ (e k : ℕ) (hk : k ≡ min (e - 8 * i) 8) (hi : 8 * i < e) (hs : e ≤ length (text_in p w n)) (ht : e ≤ length (text_in p v m)) where
       -- how the rests from place 8 * i on stand
       abbrev from : Ordering → Type 0
       from o = order (drop (min (8 * i) e) (text_in p w n)) (drop (min (8 * i) e) (text_in p v m)) ≡ o
@@ -112,10 +112,6 @@ module _ (p : List ℕ) where
             ∙ order_greater (text_in p w n) (text_in p v m) (8 * i + f.0) (omega (arith, f.1)) (omega (arith, f.1)) (omega (arith, a, b, f.3)))
 
   -- ---- texts of n bytes
-
-  -- word i of a text that the pool has
-  pub word_inside : (u n i : ℕ) → length (text_in p u n) ≡ n → 8 * i < n → u + i < length p
-  word_inside u n i e h = omega (arith, length_text_in_min p u n)
 
   pub same_held
       : (w n v m k l : ℕ) {b : Bool} → k ≡ length (text_in p w n) → l ≡ length (text_in p v m)

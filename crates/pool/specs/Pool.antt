@@ -1,10 +1,10 @@
 -- Texts in a pool of 64-bit words: eight bytes to a word, the first in the highest place; each text begins at a word border and its last word
 -- is zero padded. A text is its first word and its length in bytes. Assumes nothing.
 use Prim.Native.Nat.{ℕ, ◌+◌, ◌-◌, ◌*◌, ◌/◌, ◌%◌, ◌^◌, Ordering}
+use Rattle.std.specs.declared.cmp.Ordering as cmp
+use Rattle.std.specs.declared.cmp.Ordering.TheVariants.{Less, Equal, Greater}
 use Rattle.std.specs.Prelude.{◌≡◌, List, [], ◌∷◌, ◌++◌, length, take, drop, replicate}
 use Rattle.definitions.specs.Bytes.{Bytes}
-use Rattle.pool.specs.declared.Comparison.{Comparison}
-use Rattle.pool.specs.declared.Comparison.TheVariants.{Less, Equal, Greater}
 
 -- ---- what the words hold
 
@@ -50,7 +50,7 @@ pub record Put (p p' : List ℕ) (k b : ℕ) : Type 0 where
 -- ---- comparing
 
 -- the order that a comparison tells
-unfoldable pub ordering_of : Comparison → Ordering
+unfoldable pub ordering_of : cmp.Ordering → Ordering
 ordering_of Less = Ordering.lt
 ordering_of Equal = Ordering.eq
 ordering_of Greater = Ordering.gt

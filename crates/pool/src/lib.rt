@@ -1,17 +1,11 @@
 // Texts in a lent slice of 64-bit words: eight bytes to a word, the first in the highest place, so that words compare as their bytes do.
 #![tactic(auto)]
 
-ghost use Rattle.std.specs.Prelude.{◌≡◌, [], ◌∷◌, ◌++◌, ◌+◌, ◌-◌, ◌*◌, ◌/◌, ◌%◌, ◌^◌, ◌≤◌, ◌<◌, min, length, take, drop, replicate};
+ghost use Rattle.std.specs.Prelude.{◌≡◌, ◌++◌, ◌+◌, ◌-◌, ◌*◌, ◌/◌, ◌%◌, ◌≤◌, ◌<◌, length, take, drop, replicate};
 ghost use Rattle.definitions.specs.Bytes.{order, same};
 ghost use Rattle.pool.specs.Pool.{Put, unpacked, text_in, ordering_of};
 
-// How two texts stand in byte order.
-#[derive(Clone, Copy)]
-pub enum Comparison {
-    Less,
-    Equal,
-    Greater,
-}
+use std::cmp::Ordering;
 
 // How far up in its word the byte at place k stands, in bits.
 fn shift(k: usize) -> usize
@@ -20,26 +14,12 @@ fn shift(k: usize) -> usize
     56 - 8 * (k % 8)
 }
 
-// Eight bytes as a word: joined by `|`, so that the compiler makes one load of eight bytes that stand in a row.
-fn packed(a: u8, b: u8, c: u8, d: u8, e: u8, f: u8, g: u8, h: u8) -> u64
-    ensures packed { unpacked result ≡ a ∷ b ∷ c ∷ d ∷ e ∷ f ∷ g ∷ h ∷ [] }
-{
-    ((a as u64) << 56)
-        | ((b as u64) << 48)
-        | ((c as u64) << 40)
-        | ((d as u64) << 32)
-        | ((e as u64) << 24)
-        | ((f as u64) << 16)
-        | ((g as u64) << 8)
-        | (h as u64)
-}
-
-// The eight bytes from place i on, as a word.
+// The eight bytes from place i on, as a word: the compiler makes one load of them.
 pub fn word_at(bytes: &[u8], i: usize) -> u64
     requires { i + 8 ≤ length bytes.now }
     ensures packed { unpacked result ≡ take 8 (drop i bytes.now) }
 {
-    packed(
+    u64::from_be_bytes([
         bytes[i],
         bytes[i + 1],
         bytes[i + 2],
@@ -48,33 +28,29 @@ pub fn word_at(bytes: &[u8], i: usize) -> u64
         bytes[i + 5],
         bytes[i + 6],
         bytes[i + 7],
-    )
+    ])
 }
 
-// A word with its first m bytes full and zeros behind them: a table, so that no shift hides from the compiler what a load can be made of.
-fn front_mask(m: usize) -> u64
-    requires { m ≤ 8 }
-    ensures masks { result ≡ 2 ^ 64 - 2 ^ (64 - 8 * m) }
-{
-    match m {
-        0 => 0,
-        1 => 0xFF00000000000000,
-        2 => 0xFFFF000000000000,
-        3 => 0xFFFFFF0000000000,
-        4 => 0xFFFFFFFF00000000,
-        5 => 0xFFFFFFFFFF000000,
-        6 => 0xFFFFFFFFFFFF0000,
-        7 => 0xFFFFFFFFFFFFFF00,
-        _ => 0xFFFFFFFFFFFFFFFF,
-    }
-}
+// The words with their first 0 to 8 bytes full and zeros behind them: a table, so that no shift hides from the compiler what a load
+// can be made of.
+static FRONT_MASKS: [u64; 9] = [
+    0,
+    0xFF00000000000000,
+    0xFFFF000000000000,
+    0xFFFFFF0000000000,
+    0xFFFFFFFF00000000,
+    0xFFFFFFFFFF000000,
+    0xFFFFFFFFFFFF0000,
+    0xFFFFFFFFFFFFFF00,
+    0xFFFFFFFFFFFFFFFF,
+];
 
 // The first m bytes of a word, with zeros behind them.
 pub fn front(x: u64, m: usize) -> u64
     requires { m ≤ 8 }
     ensures cut { unpacked result ≡ take m (unpacked x) ++ replicate (8 - m) 0 }
 {
-    x & front_mask(m)
+    x & FRONT_MASKS[m]
 }
 
 // Puts b at place k, and zeros behind it in its word: a text is put byte by byte and is padded at each.
@@ -88,19 +64,13 @@ pub fn put_byte(pool: &mut [u64], k: usize, b: u8)
     pool[i] = (above * 256 + (b as u64)) << s;
 }
 
-// The smaller of two numbers.
-fn least(a: usize, b: usize) -> usize
-    ensures chosen { result ≡ min a b }
-{
-    if a < b { a } else { b }
-}
-
 // How many of the n bytes from word w on the pool has.
+#[tactic(auto, using(crate::specs::PoolLaws::length_text_in_min))]
 pub fn held(pool: &[u64], w: usize, n: usize) -> usize
     ensures counted { result ≡ length (text_in pool.now w n) }
 {
     if w < pool.len() {
-        least(n, 8 * (pool.len() - w))
+        n.min(8 * (pool.len() - w))
     } else {
         0
     }
@@ -108,46 +78,35 @@ pub fn held(pool: &[u64], w: usize, n: usize) -> usize
 
 // Two texts in byte order, a word at a time; of the last word that both have bytes of, by the bytes that both have. Where a text
 // runs past the pool's end it is what the pool has of it.
-pub fn compare(pool: &[u64], w: usize, n: usize, v: usize, m: usize) -> Comparison
+#[tactic(auto, using(crate::specs::PoolLaws::length_text_in_min))]
+pub fn compare(pool: &[u64], w: usize, n: usize, v: usize, m: usize) -> Ordering
     ensures compared { ordering_of result ≡ order (text_in pool.now w n) (text_in pool.now v m) }
 {
     let s = held(pool, w, n);
     let t = held(pool, v, m);
-    let end = least(s, t);
-    let mut i: usize = 0;
-    while 8 * i < end {
-        let down = 64 - 8 * least(8, end - 8 * i);
+    let end = s.min(t);
+    for i in 0..end.div_ceil(8) {
+        let down = 64 - 8 * (end - 8 * i).min(8);
         let x = pool[w + i] >> down;
         let y = pool[v + i] >> down;
-        if x < y {
-            return Comparison::Less;
+        if x != y {
+            return x.cmp(&y);
         }
-        if y < x {
-            return Comparison::Greater;
-        }
-        i += 1;
     }
-    if s < t {
-        return Comparison::Less;
-    }
-    if t < s {
-        return Comparison::Greater;
-    }
-    Comparison::Equal
+    s.cmp(&t)
 }
 
 // Whether two texts of n bytes, which the pool has whole, are the same: their whole words, then the first bytes of the words behind.
+#[tactic(auto, using(crate::specs::PoolLaws::length_text_in_min))]
 fn same_whole(pool: &[u64], w: usize, v: usize, n: usize) -> bool
     requires { (length (text_in pool.now w n) ≡ n) × (length (text_in pool.now v n) ≡ n) }
     ensures compared { result ≡ same (text_in pool.now w n) (text_in pool.now v n) }
 {
     let whole = n / 8;
-    let mut i: usize = 0;
-    while i < whole {
+    for i in 0..whole {
         if pool[w + i] != pool[v + i] {
             return false;
         }
-        i += 1;
     }
     let rest = n % 8;
     if rest == 0 {

@@ -11,7 +11,7 @@ use Rattle.definitions.specs.Join.{join}
 use Rattle.definitions.specs.Reader.{Result}
 use Rattle.shapes.specs.Shapes.{kind_bits, head_of, size_at}
 use Rattle.shapes.specs.ShapesLaws.{union_bits, stands_row}
-use Rattle.join.specs.declared.Joined.TheVariants.{Grown}
+use Rattle.std.specs.Prelude.{Some}
 use Rattle.growing.specs.HeadLaws.{SameParts, raise_fits, kinds_put}
 use Rattle.forms.specs.Forms.{form_code, LiteralPayload, FormStands}
 use Rattle.forms.specs.FormsLaws.{stands_code, stands_operand}
@@ -69,5 +69,5 @@ module _
     pub bare_answer
         : {result' : List ℕ}
         → result' ≡ take dest result ++ head_of (bit_or (get_or result dest 0 % 128) kinds) (size_at result dest + 0) ∷ drop (dest + 1) result
-        → length result' ≡ length result → GivesResult table shapes pool bindings result result' row d used dest deep (Grown 0)
+        → length result' ≡ length result → GivesResult table shapes pool bindings result result' row d used dest deep (Some 0)
     bare_answer e l p m r env t name s j = kinds_put kinds j.stands j.within tables.enough (same j) (bits j) l e

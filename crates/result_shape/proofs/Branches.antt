@@ -13,7 +13,7 @@ use Rattle.plain.specs.Table.{Used}
 use Rattle.shapes.specs.Shapes.{kind_bits, ShapeRows, Stands}
 use Rattle.shapes.specs.ShapesLaws.{kind_bits_lt, stands_within}
 use Rattle.join.specs.Replacing.{Put, Over}
-use Rattle.join.specs.declared.Joined.TheVariants.{Grown}
+use Rattle.std.specs.Prelude.{Some}
 use Rattle.forms.specs.Forms.{FormStands, size_at}
 use Rattle.forms.specs.PartsLaws.{after}
 use Rattle.checking.specs.Bindings.{Bound, binding, Bindings, Kept, Binds}
@@ -111,7 +111,7 @@ module _
           → Put result₁ result₂ (used + words) more dest (2 * forms (join s t₁)) (ShapeRows p name (join (join s t₁) t₂))
           → Put result result₂ used (words + more) dest (2 * forms s) (ShapeRows p name (join s t))
       both_put {result₂} {more} v =
-          becomes_as result result₂ p used dest name s (Grown (words + more)) both_is (then_put stands within tables q v)
+          becomes_as result result₂ p used dest name s (Some (words + more)) both_is (then_put stands within tables q v)
 
 -- ---- where parts stand
 

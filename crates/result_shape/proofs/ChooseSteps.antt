@@ -10,8 +10,8 @@ use Rattle.definitions.specs.Join.{join}
 use Rattle.definitions.specs.Reader.{Result}
 use Rattle.shapes.specs.Shapes.{ShapeRows}
 use Rattle.join.specs.Replacing.{Put, Becomes}
-use Rattle.join.specs.declared.Joined.{Joined}
-use Rattle.join.specs.declared.Joined.TheVariants.{Grown, Full}
+use Rattle.std.specs.Prelude.{Option}
+use Rattle.std.specs.Prelude.{Some, None}
 use Rattle.forms.specs.FormsLaws.{stands_code, stands_size, stands_within, forms_some}
 use Rattle.forms.specs.PartsLaws.{after}
 use Rattle.checking.specs.Bindings.{Kept}
@@ -71,15 +71,15 @@ module _
           omega (arith, second_is, stands_within x.second.stands),
         )
 
-    module _ (bindings₁ result₁ : List ℕ) (o₁ : Joined) (q₁ : GivesResult table shapes pool bindings result result₁ first d used dest deep o₁)
+    module _ (bindings₁ result₁ : List ℕ) (o₁ : Option ℕ) (q₁ : GivesResult table shapes pool bindings result result₁ first d used dest deep o₁)
         (kept : Kept bindings bindings₁ d) where
-      pub choose_full_first : o₁ ≡ Full → GivesResult table shapes pool bindings result result₁ row d used dest deep Full
+      pub choose_full_first : o₁ ≡ None → GivesResult table shapes pool bindings result result₁ row d used dest deep None
       choose_full_first e p m r env t name s j =
           let x = parts j in
           both_full_first t x.one x.two j.stands j.within tables j.ascends (asc₁ j) (asc₂ j) x.same
           (was_full result result₁ p used dest name s (join s x.one) e (q₁ p 0 x.first.result env x.one name s (meets₁ j)))
 
-      module _ {words : ℕ} (e₁ : o₁ ≡ Grown words) where
+      module _ {words : ℕ} (e₁ : o₁ ≡ Some words) where
         module _
             {p : List ℕ} {m : ℕ} {r : Result} {env : List Shape} {t : Shape} {name : ℕ} {s : Shape}
             (j : MeetsResult table shapes pool bindings result p row d used dest m deep r env t name s)
@@ -122,7 +122,7 @@ module _
               meets = meets₂ w.meets;
             }
 
-        module _ (result₂ : List ℕ) (o₂ : Joined) (q₂ : GivesResult table shapes pool bindings₁ result₁ result₂ second d (used + words) dest deep o₂) where
+        module _ (result₂ : List ℕ) (o₂ : Option ℕ) (q₂ : GivesResult table shapes pool bindings₁ result₁ result₂ second d (used + words) dest deep o₂) where
           become₂
               : {p : List ℕ} {m : ℕ} {r : Result} {env : List Shape} {t : Shape} {name : ℕ} {s : Shape}
               (j : MeetsResult table shapes pool bindings result p row d used dest m deep r env t name s)
@@ -130,14 +130,14 @@ module _
           become₂ {p} {env = env} {name = name} {s} j =
               let x = parts j in q₂ p 0 x.second.result env x.two name (join s x.one) (meets₂ j)
 
-          pub choose_full_then : o₂ ≡ Full → GivesResult table shapes pool bindings result result₂ row d used dest deep Full
+          pub choose_full_then : o₂ ≡ None → GivesResult table shapes pool bindings result result₂ row d used dest deep None
           choose_full_then e p m r env t name s j =
               let x = parts j in
               both_full_then t x.one x.two j.stands j.within tables j.ascends (asc₁ j) (asc₂ j) x.same (put₁ j)
               (was_full result₁ result₂ p (used + words) dest name (join s x.one) (join (join s x.one) x.two) e (become₂ j))
 
-          module _ {more : ℕ} (e₂ : o₂ ≡ Grown more) where
-            pub choose_answer : GivesResult table shapes pool bindings result result₂ row d used dest deep (Grown (words + more))
+          module _ {more : ℕ} (e₂ : o₂ ≡ Some more) where
+            pub choose_answer : GivesResult table shapes pool bindings result result₂ row d used dest deep (Some (words + more))
             choose_answer p m r env t name s j =
                 let x = parts j in
                 both_put t x.one x.two j.stands j.within tables j.ascends (asc₁ j) (asc₂ j) x.same (put₁ j)

@@ -14,8 +14,8 @@ use Rattle.laws.specs.OrderInduction.{ascending_of_element}
 use Rattle.laws.specs.SoundShapes.{ascends_bind, element_ascending}
 use Rattle.shapes.specs.Shapes.{head_of, size_at, ShapeRows}
 use Rattle.join.specs.Replacing.{Put, Over, Becomes}
-use Rattle.join.specs.declared.Joined.{Joined}
-use Rattle.join.specs.declared.Joined.TheVariants.{Grown, Full}
+use Rattle.std.specs.Prelude.{Option}
+use Rattle.std.specs.Prelude.{Some, None}
 use Rattle.growing.specs.Growing.{element_start, with_element}
 use Rattle.growing.specs.GrowingLaws.{element_is, element_start_ascending}
 use Rattle.growing.specs.Rows.{Readies, ShapeHeld}
@@ -25,8 +25,9 @@ use Rattle.forms.specs.FormsLaws.{stands_code, stands_within}
 use Rattle.forms.specs.PartsLaws.{after}
 use Rattle.checking.specs.Bindings.{Bound, Bindings, Kept, SomeBound, BindsElement}
 use Rattle.checking.specs.CheckContracts.{PlaceAsked, GivesPlace}
-use Rattle.checking.specs.declared.places.Located.{Located}
-use Rattle.checking.specs.declared.places.Located.TheVariants as found
+use Rattle.std.specs.Prelude.{Ok, Err}
+use Rattle.reading.specs.declared.Refusal.{Refusal}
+use Rattle.checking.specs.CheckContracts.{Located}
 use Rattle.result_shape.specs.ResultsLaws.{bound_ascends, bindings_ascend, given_ascends, forms_joined}
 use Rattle.result_shape.specs.Giving.{Tables, MeetsResult, ResultAsked, GivesResult}
 use Rattle.result_shape.proofs.Parts.{EachParts, each_parts, branch_room}
@@ -76,11 +77,11 @@ module _
 
     module _ (o : Located) (q : GivesPlace table shapes pool bindings (row + 3) o) where
       pub each_never {ℓ}
-          : {X : Type ℓ} {p : List ℕ} {m : ℕ} {r : Result} {env : List Shape} {t : Shape} {name : ℕ} {s : Shape} {n at : ℕ}
-          → MeetsResult table shapes pool bindings result p row d used dest m deep r env t name s → o ≡ found.Refused n at → X
+          : {X : Type ℓ} {p : List ℕ} {m : ℕ} {r : Result} {env : List Shape} {t : Shape} {name : ℕ} {s : Shape} {why : Refusal}
+          → MeetsResult table shapes pool bindings result p row d used dest m deep r env t name s → o ≡ Err why → X
       each_never j e = never_refused (parts j).placed o q e
 
-      module _ {at kinds : ℕ} (e : o ≡ found.At at kinds) where
+      module _ {at kinds : ℕ} (e : o ≡ Ok (record { row = at; kinds = record { kinds = kinds } })) where
         module _
             {p : List ℕ} {m : ℕ} {r : Result} {env : List Shape} {t : Shape} {name : ℕ} {s : Shape}
             (j : MeetsResult table shapes pool bindings result p row d used dest m deep r env t name s)
@@ -110,8 +111,8 @@ module _
           pub each_kept_first : ResultAsked table shapes pool bindings result row d used dest deep → Kept bindings bindings₁ d
           each_kept_first w = kept₁ w.meets
 
-          module _ (result₁ : List ℕ) (o₁ : Joined) (q₁ : Readies result result₁ used dest o₁) where
-            pub each_full_first : o₁ ≡ Full → GivesResult table shapes pool bindings result result₁ row d used dest deep Full
+          module _ (result₁ : List ℕ) (o₁ : Option ℕ) (q₁ : Readies result result₁ used dest o₁) where
+            pub each_full_first : o₁ ≡ None → GivesResult table shapes pool bindings result result₁ row d used dest deep None
             each_full_first f p m r env t name s j =
                 subst
                 (λ (u : Shape). Over result result₁ used (2 * forms s) (2 * forms u))
@@ -119,7 +120,7 @@ module _
                 (list_unready j.stands j.within (tables_room tables) (reached j) (grows j)
                 (ready_full result result₁ p used dest s o₁ (q₁ p name s j.stands j.within) f))
 
-            module _ {opened : ℕ} (e₁ : o₁ ≡ Grown opened) where
+            module _ {opened : ℕ} (e₁ : o₁ ≡ Some opened) where
               module _
                   {p : List ℕ} {m : ℕ} {r : Result} {env : List Shape} {t : Shape} {name : ℕ} {s : Shape}
                   (j : MeetsResult table shapes pool bindings result p row d used dest m deep r env t name s)
@@ -167,7 +168,7 @@ module _
                   let x = list_room j.stands j.within (tables_room tables) (put₁ j) in
                   record { enough = x.enough; small = omega (arith, tables.small, (put₁ j).replaced.same); few = tables.few }
 
-              module _ (bindings₂ result₂ : List ℕ) (o₂ : Joined)
+              module _ (bindings₂ result₂ : List ℕ) (o₂ : Option ℕ)
                   (q₂ : GivesResult table shapes pool bindings₁ result₁ result₂ at_part more_bound (used + opened) (dest + 2) deep o₂)
                   (kept₂ : Kept bindings₁ bindings₂ more_bound)
                 where
@@ -181,7 +182,7 @@ module _
                   pub each_kept : ResultAsked table shapes pool bindings result row d used dest deep → Kept bindings bindings₂ d
                   each_kept w = kept_then bindings bindings₁ bindings₂ d more_bound (omega (arith, bound_is)) (kept₁ w.meets) kept₂
 
-                  pub each_full_then : o₂ ≡ Full → GivesResult table shapes pool bindings result result₂ row d used dest deep Full
+                  pub each_full_then : o₂ ≡ None → GivesResult table shapes pool bindings result result₂ row d used dest deep None
                   each_full_then f p m r env t name s j =
                       subst
                       (λ (u : Shape). Over result result₂ used (2 * forms s) (2 * forms u))
@@ -189,7 +190,7 @@ module _
                       (list_over j.stands j.within (tables_room tables) (put₁ j) (reached j)
                       (was_full result₁ result₂ p (used + opened) (dest + 2) 0 (start j) (reached j) f (become₂ j)))
 
-                  module _ {words : ℕ} (e₂ : o₂ ≡ Grown words) where
+                  module _ {words : ℕ} (e₂ : o₂ ≡ Some words) where
                     risen
                         : {p : List ℕ} {m : ℕ} {r : Result} {env : List Shape} {t : Shape} {name : ℕ} {s : Shape}
                         (j : MeetsResult table shapes pool bindings result p row d used dest m deep r env t name s)
@@ -212,7 +213,7 @@ module _
                         ≡ take dest result₂
                         ++ head_of (bit_or (get_or result₂ dest 0 % 128) 32) (size_at result₂ dest + (opened + words))
                         ∷ drop (dest + 1) result₂
-                        → length result₃ ≡ length result₂ → GivesResult table shapes pool bindings result result₃ row d used dest deep (Grown (opened + words))
+                        → length result₃ ≡ length result₂ → GivesResult table shapes pool bindings result result₃ row d used dest deep (Some (opened + words))
                     each_answer {result₃} f l p m r env t name s j =
-                        becomes_as result result₃ p used dest name s (Grown (opened + words)) (into_is j)
+                        becomes_as result result₃ p used dest name s (Some (opened + words)) (into_is j)
                         (risen_put 32 (risen j) (bits_with_element (reached j) s) f l)

@@ -16,8 +16,8 @@ use Rattle.shapes.specs.ShapesLaws.{has_kind, union_bits, stands_row}
 use Rattle.join.specs.Joining.{Joins, Joinable, JoinsTo, join_records, join_elements}
 use Rattle.join.specs.PartsLaws.{parts_joined, forms_parts, forms_records, records_ascend, kinds_twice}
 use Rattle.join.specs.Replacing.{Put, Over, Becomes}
-use Rattle.join.specs.declared.Joined.{Joined}
-use Rattle.join.specs.declared.Joined.TheVariants.{Grown, Full}
+use Rattle.std.specs.Prelude.{Option}
+use Rattle.std.specs.Prelude.{Some, None}
 use Rattle.growing.specs.HeadLaws.{kept_put, SameParts, raise_fits, kinds_put}
 use Rattle.checking.specs.Bindings.{Bound}
 use Rattle.checking.specs.WantsLaws.{rec_there, rec_lacks}
@@ -87,7 +87,7 @@ module _
         : {x : Bool} → x ≡ has_bit kinds 64 → not x ≡ true → Put result result used 0 dest (2 * forms s) (ShapeRows p name (join_records s t))
     unfolding kind_bit
     members_none {x} e d =
-        becomes_as result result p used dest name s (Grown 0)
+        becomes_as result result p used dest name s (Some 0)
         (sym (records_left s t (rec_lacks t (kind_left Kind.rec j.bound e (not_true x d)))))
         (kept_put j.stands j.within tables.enough)
 
@@ -95,12 +95,12 @@ module _
         : {x : Bool} → x ≡ has_bit kinds 32 → not x ≡ true → Put result result used 0 dest (2 * forms s) (ShapeRows p name (join_elements s t))
     unfolding kind_bit
     elements_none {x} e d =
-        becomes_as result result p used dest name s (Grown 0)
+        becomes_as result result p used dest name s (Some 0)
         (sym (elements_left s t (list_lacks t (kind_left Kind.list j.bound e (not_true x d)))))
         (kept_put j.stands j.within tables.enough)
 
     pub members_some
-        : {x : Bool} (result' : List ℕ) (o : Joined) → x ≡ has_bit kinds 64 → not x ≡ false
+        : {x : Bool} (result' : List ℕ) (o : Option ℕ) → x ≡ has_bit kinds 64 → not x ≡ false
         → JoinsTo join_records result result' shapes pool used dest at deep o
         → Becomes result result' p used dest name s (join_records s t) o
     unfolding kind_bit
@@ -111,7 +111,7 @@ module _
         (q p name j.bound.name s j.bound.base joins)
 
     pub elements_some
-        : {x : Bool} (result' : List ℕ) (o : Joined) → x ≡ has_bit kinds 32 → not x ≡ false
+        : {x : Bool} (result' : List ℕ) (o : Option ℕ) → x ≡ has_bit kinds 32 → not x ≡ false
         → JoinsTo join_elements result result' shapes pool used dest at deep o
         → Becomes result result' p used dest name s (join_elements s t) o
     unfolding kind_bit
@@ -201,13 +201,13 @@ joinable w tables =
 
 -- ---- the answers
 
-module _ {shapes pool result : List ℕ} {at kinds used dest deep : ℕ} (tables : Tables shapes result used) (result₁ : List ℕ) (o₁ : Joined)
+module _ {shapes pool result : List ℕ} {at kinds used dest deep : ℕ} (tables : Tables shapes result used) (result₁ : List ℕ) (o₁ : Option ℕ)
     (q₁ : GivesKept join_records shapes pool result result₁ at kinds used dest deep o₁) where
-  pub keep_full_first : o₁ ≡ Full → GivesKept join shapes pool result result₁ at kinds used dest deep Full
+  pub keep_full_first : o₁ ≡ None → GivesKept join shapes pool result result₁ at kinds used dest deep None
   keep_full_first e p t name s j =
       members_full j tables (was_full result result₁ p used dest name s (join_records s t) e (q₁ p t name s j))
 
-  module _ {words : ℕ} (e₁ : o₁ ≡ Grown words) where
+  module _ {words : ℕ} (e₁ : o₁ ≡ Some words) where
     put₁
         : {p : List ℕ} {t : Shape} {name : ℕ} {s : Shape} → MeetsKept shapes pool result p at kinds used dest deep t name s
         → Put result result₁ used words dest (2 * forms s) (ShapeRows p name (join_records s t))
@@ -226,14 +226,14 @@ module _ {shapes pool result : List ℕ} {at kinds used dest deep : ℕ} (tables
     pub keep_tables : KeptAsked shapes pool result at kinds used dest deep → Tables shapes result₁ (used + words)
     keep_tables w = put_tables w.meets.stands w.meets.within tables (put₁ w.meets)
 
-    module _ (result₂ : List ℕ) (o₂ : Joined) (q₂ : GivesKept join_elements shapes pool result₁ result₂ at kinds (used + words) dest deep o₂) where
-      pub keep_full_then : o₂ ≡ Full → GivesKept join shapes pool result result₂ at kinds used dest deep Full
+    module _ (result₂ : List ℕ) (o₂ : Option ℕ) (q₂ : GivesKept join_elements shapes pool result₁ result₂ at kinds (used + words) dest deep o₂) where
+      pub keep_full_then : o₂ ≡ None → GivesKept join shapes pool result result₂ at kinds used dest deep None
       keep_full_then e p t name s j =
           elements_full j tables (put₁ j)
           (was_full result₁ result₂ p (used + words) dest name (join_records s t) (parts_joined s t) e
           (q₂ p t name (join_records s t) (members_kept j tables (put₁ j))))
 
-      module _ {more : ℕ} (e₂ : o₂ ≡ Grown more) where
+      module _ {more : ℕ} (e₂ : o₂ ≡ Some more) where
         put₂
             : {p : List ℕ} {t : Shape} {name : ℕ} {s : Shape} → MeetsKept shapes pool result p at kinds used dest deep t name s
             → Put result₁ result₂ (used + words) more dest (2 * forms (join_records s t)) (ShapeRows p name (parts_joined s t))
@@ -252,5 +252,5 @@ module _ {shapes pool result : List ℕ} {at kinds used dest deep : ℕ} (tables
         pub keep_answer
             : {result₃ : List ℕ}
             → result₃ ≡ take dest result₂ ++ head_of (bit_or (get_or result₂ dest 0 % 128) kinds) (size_at result₂ dest + 0) ∷ drop (dest + 1) result₂
-            → length result₃ ≡ length result₂ → GivesKept join shapes pool result result₃ at kinds used dest deep (Grown (words + more))
+            → length result₃ ≡ length result₂ → GivesKept join shapes pool result result₃ at kinds used dest deep (Some (words + more))
         keep_answer e l p t name s j = keep_put j tables (put₁ j) (put₂ j) e l

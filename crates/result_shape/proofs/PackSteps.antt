@@ -13,8 +13,8 @@ use Rattle.definitions.specs.Reader.{Result}
 use Rattle.laws.specs.OrderInduction.{ascending_of_record}
 use Rattle.shapes.specs.Shapes.{has_bit, head_of, size_at, members_at, FieldRows}
 use Rattle.join.specs.Replacing.{Put, Over}
-use Rattle.join.specs.declared.Joined.{Joined}
-use Rattle.join.specs.declared.Joined.TheVariants.{Grown, Full}
+use Rattle.std.specs.Prelude.{Option}
+use Rattle.std.specs.Prelude.{Some, None}
 use Rattle.growing.specs.Growing.{fields_start, member_start, null_others, with_fields, named, join_in}
 use Rattle.growing.specs.GrowingForms.{forms_others}
 use Rattle.growing.specs.GrowingLaws.{fields_start_ascending, fields_are}
@@ -111,28 +111,28 @@ module _
           meets = meets_pack j;
         }
 
-    module _ (result₁ : List ℕ) (o₁ : Joined) (q₁ : GivesPack table shapes pool bindings result result₁ (row + 3) end d used first last deep had o₁) where
+    module _ (result₁ : List ℕ) (o₁ : Option ℕ) (q₁ : GivesPack table shapes pool bindings result result₁ (row + 3) end d used first last deep had o₁) where
       become₁
           : {p : List ℕ} {m : ℕ} {r : Result} {env : List Shape} {t : Shape} {name : ℕ} {s : Shape}
           (j : MeetsResult table shapes pool bindings result p row d used dest m deep r env t name s)
           → FieldsBecome result result₁ p used first (olds j) (joined j) o₁
       become₁ {p} {env = env} j = q₁ p (parts j).pairs env (shapes_given j) (olds j) (meets_pack j)
 
-      pub pack_full : o₁ ≡ Full → GivesResult table shapes pool bindings result result₁ row d used dest deep Full
+      pub pack_full : o₁ ≡ None → GivesResult table shapes pool bindings result result₁ row d used dest deep None
       pack_full e p m r env t name s j =
           subst
           (λ (u : Shape). Over result result₁ used (2 * forms s) (2 * forms u))
           (into_is j)
           (record_over j.form.pooled j.stands j.within (tables_room tables) (had_rec j) first_is last_is (joined j) (reached j)
           (forms_others had (there j) (joined j))
-          (subst (λ (x : Joined). FieldsBecome result result₁ p used first (olds j) (joined j) x) e (become₁ j)))
+          (subst (λ (x : Option ℕ). FieldsBecome result result₁ p used first (olds j) (joined j) x) e (become₁ j)))
 
-      module _ {words : ℕ} (e₁ : o₁ ≡ Grown words) where
+      module _ {words : ℕ} (e₁ : o₁ ≡ Some words) where
         put₁
             : {p : List ℕ} {m : ℕ} {r : Result} {env : List Shape} {t : Shape} {name : ℕ} {s : Shape}
             (j : MeetsResult table shapes pool bindings result p row d used dest m deep r env t name s)
             → Put result result₁ used words first (2 * forms_fields (olds j)) (FieldRows p (joined j))
-        put₁ {p} j = subst (λ (x : Joined). FieldsBecome result result₁ p used first (olds j) (joined j) x) e₁ (become₁ j)
+        put₁ {p} j = subst (λ (x : Option ℕ). FieldsBecome result result₁ p used first (olds j) (joined j) x) e₁ (become₁ j)
 
         pub pack_nulls
             : ResultAsked table shapes pool bindings result row d used dest deep
@@ -174,6 +174,6 @@ module _
               : {result₃ : List ℕ}
               → result₃
               ≡ take dest result₂ ++ head_of (bit_or (get_or result₂ dest 0 % 128) 64) (size_at result₂ dest + words) ∷ drop (dest + 1) result₂
-              → length result₃ ≡ length result₂ → GivesResult table shapes pool bindings result result₃ row d used dest deep (Grown words)
+              → length result₃ ≡ length result₂ → GivesResult table shapes pool bindings result result₃ row d used dest deep (Some words)
           pack_answer {result₃} e l p m r env t name s j =
-              becomes_as result result₃ p used dest name s (Grown words) (into_is j) (risen_put 64 (risen j) (bits_with_fields (reached j) s) e l)
+              becomes_as result result₃ p used dest name s (Some words) (into_is j) (risen_put 64 (risen j) (bits_with_fields (reached j) s) e l)

@@ -16,8 +16,8 @@ use Rattle.shapes.specs.Shapes.{FieldRows, FieldsStand}
 use Rattle.shapes.specs.ShapesLaws.{length_field_rows, fields_end}
 use Rattle.join.specs.Replacing.{Put, Over}
 use Rattle.join.specs.ReplacingLaws.{Split, split_fields, replaced_split}
-use Rattle.join.specs.declared.Joined.{Joined}
-use Rattle.join.specs.declared.Joined.TheVariants.{Grown, Full}
+use Rattle.std.specs.Prelude.{Option}
+use Rattle.std.specs.Prelude.{Some, None}
 use Rattle.growing.specs.Growing.{member_start, place, join_in}
 use Rattle.growing.specs.GrowingLaws.{place_ascending, member_start_ascending}
 use Rattle.growing.specs.Rows.{FieldsBecome}
@@ -257,7 +257,7 @@ module _
           meets = pair_meets h;
         }
 
-    module _ (bindings' result' : List ℕ) (o : Joined)
+    module _ (bindings' result' : List ℕ) (o : Option ℕ)
         (q : GivesPair table shapes pool bindings result result' i d (used + grown) first (last + grown) deep had o) (kept : Kept bindings bindings' d)
       where
         become
@@ -269,17 +269,17 @@ module _
         pub pairs_kept : Kept bindings₀ bindings' d
         pairs_kept = kept_then bindings₀ bindings bindings' d d (omega arith) l.kept kept
 
-        pub pairs_full : o ≡ Full → GivesPack table shapes pool bindings₀ result₀ result' row end d used first last deep had Full
+        pub pairs_full : o ≡ None → GivesPack table shapes pool bindings₀ result₀ result' row end d used first last deep had None
         pairs_full e p ps env gs fs h =
-            pairs_over h (subst (λ (x : Joined). FieldsBecome result result' p (used + grown) first (here h).reached (after h) x) e (become h))
+            pairs_over h (subst (λ (x : Option ℕ). FieldsBecome result result' p (used + grown) first (here h).reached (after h) x) e (become h))
 
-        module _ {words : ℕ} (e : o ≡ Grown words) where
+        module _ {words : ℕ} (e : o ≡ Some words) where
           put_now
               : {p : List ℕ} {ps : Pairs} {env : List Shape} {gs fs : Fields}
               (h : MeetsPack table shapes pool bindings₀ result₀ p row end d used first last deep ps env gs fs)
               → Put result result' (used + grown) words first (2 * forms_fields (here h).reached) (FieldRows p (after h))
           put_now {p} h =
-              subst (λ (x : Joined). FieldsBecome result result' p (used + grown) first (here h).reached (after h) x) e (become h)
+              subst (λ (x : Option ℕ). FieldsBecome result result' p (used + grown) first (here h).reached (after h) x) e (become h)
 
           pub pairs_loop_on
               : {n : ℕ} → n ≡ size_at table i → length result' ≡ length result
@@ -302,7 +302,7 @@ module _
 pub pairs_end
     : {table shapes pool bindings₀ result₀ : List ℕ} {row end d used first last deep : ℕ} {had : Bool} {bindings result : List ℕ} {i grown : ℕ}
     → PairsLoop table shapes pool bindings₀ result₀ row end d used first last deep had bindings result i grown → end ≤ i
-    → GivesPack table shapes pool bindings₀ result₀ result row end d used first last deep had (Grown grown)
+    → GivesPack table shapes pool bindings₀ result₀ result row end d used first last deep had (Some grown)
 pairs_end {had = had} l past p ps env gs fs h =
     let g = l.going p ps env gs fs h in
     let x : g.left ≡ _ = no_given (subst (λ (y : Pairs). Given env y g.left) (no_pair_left g.stand past) g.given) in

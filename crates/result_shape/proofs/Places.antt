@@ -8,12 +8,13 @@ use Rattle.definitions.specs.Shape.{Shape}
 use Rattle.definitions.specs.Join.{join}
 use Rattle.definitions.specs.Reader.{Result}
 use Rattle.definitions.specs.Checking.{check_place}
-use Rattle.join.specs.declared.Joined.{Joined}
+use Rattle.std.specs.Prelude.{Option}
 use Rattle.forms.specs.FormsLaws.{forms_some, stands_code, stands_within}
 use Rattle.checking.specs.Bindings.{Bound}
 use Rattle.checking.specs.CheckContracts.{Locates, GivesPlace, PlaceAsked}
-use Rattle.checking.specs.declared.places.Located.{Located}
-use Rattle.checking.specs.declared.places.Located.TheVariants as found
+use Rattle.std.specs.Prelude.{Ok, Err}
+use Rattle.reading.specs.declared.Refusal.{Refusal}
+use Rattle.checking.specs.CheckContracts.{Located}
 use Rattle.result_shape.specs.ResultsLaws.{ok_same, never_ok}
 use Rattle.result_shape.specs.Giving.{Tables, MeetsResult, ResultAsked, GivesResult, KeptAsked, GivesKept}
 use Rattle.result_shape.proofs.Parts.{Placed, keep_placed}
@@ -30,10 +31,10 @@ module _
       found_there : Locates shapes p deep (check_place w.place env) o
       found_there = q p d deep w.place env w.meets
 
-      pub never_refused {ℓ} : {X : Type ℓ} {n at : ℕ} → o ≡ found.Refused n at → X
+      pub never_refused {ℓ} : {X : Type ℓ} {why : Refusal} → o ≡ Err why → X
       never_refused e = never_ok w.gives (subst (Locates shapes p deep (check_place w.place env)) e found_there)
 
-      pub found_bound : {at kinds : ℕ} → o ≡ found.At at kinds → Bound shapes p deep at kinds s
+      pub found_bound : {at kinds : ℕ} → o ≡ Ok (record { row = at; kinds = record { kinds = kinds } }) → Bound shapes p deep at kinds s
       found_bound {at} {kinds} e =
           let l = subst (Locates shapes p deep (check_place w.place env)) e found_there in
           subst (Bound shapes p deep at kinds) (ok_same l.1 w.gives) l.2
@@ -53,11 +54,11 @@ module _ {table shapes pool bindings result : List ℕ} {row d used dest deep : 
 
   module _ (o : Located) (q : GivesPlace table shapes pool bindings (row + 3) o) where
     pub keep_never {ℓ}
-        : {X : Type ℓ} {p : List ℕ} {m : ℕ} {r : Result} {env : List Shape} {t : Shape} {name : ℕ} {s : Shape} {n at : ℕ}
-        → MeetsResult table shapes pool bindings result p row d used dest m deep r env t name s → o ≡ found.Refused n at → X
+        : {X : Type ℓ} {p : List ℕ} {m : ℕ} {r : Result} {env : List Shape} {t : Shape} {name : ℕ} {s : Shape} {why : Refusal}
+        → MeetsResult table shapes pool bindings result p row d used dest m deep r env t name s → o ≡ Err why → X
     keep_never j e = never_refused (placed j) o q e
 
-    module _ {at kinds : ℕ} (e : o ≡ found.At at kinds) where
+    module _ {at kinds : ℕ} (e : o ≡ Ok (record { row = at; kinds = record { kinds = kinds } })) where
       pub kept_asked : ResultAsked table shapes pool bindings result row d used dest deep → KeptAsked shapes pool result at kinds used dest deep
       kept_asked w =
           let j = w.meets in
@@ -77,7 +78,7 @@ module _ {table shapes pool bindings result : List ℕ} {row d used dest deep : 
           }
 
       pub kept_Gives
-          : (result' : List ℕ) (x : Joined) → GivesKept join shapes pool result result' at kinds used dest deep x
+          : (result' : List ℕ) (x : Option ℕ) → GivesKept join shapes pool result result' at kinds used dest deep x
           → GivesResult table shapes pool bindings result result' row d used dest deep x
       kept_Gives result' x h p m r env t name s j =
           h p t name s

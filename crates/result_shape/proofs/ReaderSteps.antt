@@ -10,8 +10,8 @@ use Rattle.definitions.specs.Checking.{check_reader}
 use Rattle.laws.specs.JoinLaws.{nothing_ascending, join_nothing_left}
 use Rattle.shapes.specs.Shapes.{bit, numeric_bits, kind_bits, head_of, head_word, ShapeRows, shape_rows, no_element_rows, no_record_rows, Stands}
 use Rattle.join.specs.Replacing.{Becomes}
-use Rattle.join.specs.declared.Joined.{Joined}
-use Rattle.join.specs.declared.Joined.TheVariants.{Grown, Full}
+use Rattle.std.specs.Prelude.{Option}
+use Rattle.std.specs.Prelude.{Some, None}
 use Rattle.growing.specs.GrowingForms.{forms_nothing, forms_some}
 use Rattle.forms.specs.FormsLaws.{levels_some}
 use Rattle.checking.specs.Bindings.{Bound, binding, Bindings}
@@ -23,7 +23,7 @@ use Rattle.result_shape.proofs.Steps.{becomes_as, put_stands}
 
 pub reader_short
     : (table shapes pool bindings result : List ℕ) (deep : ℕ) → length result < 2
-    → GivesReader table shapes pool bindings result deep (length result) Full
+    → GivesReader table shapes pool bindings result deep (length result) None
 reader_short table shapes pool bindings result deep h p m name r s t w = omega (arith, forms_some t)
 
 -- ---- the document bound
@@ -103,9 +103,9 @@ module _
         }
 
     holds
-        : {p : List ℕ} {m name : ℕ} {r : Result} {s t : Shape} (result₂ : List ℕ) (o : Joined) → MeetsReader table shapes pool bindings p deep m name r s t
+        : {p : List ℕ} {m name : ℕ} {r : Result} {s t : Shape} (result₂ : List ℕ) (o : Option ℕ) → MeetsReader table shapes pool bindings p deep m name r s t
         → Becomes result₁ result₂ p 2 0 0 nothing t o → HoldsGiven result₂ pool (length result) t o
-    holds {p} result₂ (Grown words) j q =
+    holds {p} result₂ (Some words) j q =
         record {
           used = p;
           name = 0;
@@ -113,10 +113,10 @@ module _
           front = j.pooled.front;
           small = j.pooled.small;
         }
-    holds result₂ Full j q = omega (arith, q.over, forms_nothing)
+    holds result₂ None j q = omega (arith, q.over, forms_nothing)
 
     pub reader_answer
-        : (result₂ : List ℕ) (o : Joined) → GivesResult table shapes pool bindings₁ result₁ result₂ 0 1 2 0 deep o
+        : (result₂ : List ℕ) (o : Option ℕ) → GivesResult table shapes pool bindings₁ result₁ result₂ 0 1 2 0 deep o
         → GivesReader table shapes pool bindings result₂ deep (length result) o
     reader_answer result₂ o q p m name r s t j =
         holds result₂ o j

@@ -9,23 +9,23 @@ use Rattle.shapes.specs.Shapes.{ShapeRows, Stands}
 use Rattle.shapes.specs.ShapesLaws.{length_shape_rows}
 use Rattle.join.specs.Replacing.{Put, Over, Becomes}
 use Rattle.join.specs.ReplacingLaws.{Split, stands_split, split_stands, replaced_split, replaced_then}
-use Rattle.join.specs.declared.Joined.{Joined}
-use Rattle.join.specs.declared.Joined.TheVariants.{Grown, Full}
+use Rattle.std.specs.Prelude.{Option}
+use Rattle.std.specs.Prelude.{Some, None}
 use Rattle.growing.specs.Rows.{Room}
 use Rattle.result_shape.specs.Giving.{Tables}
 
 -- ---- an answer that is known to be one of its cases
 
-module _ (result result' p : List ℕ) (used row m : ℕ) (s u : Shape) {o : Joined} where
-  pub became : {words : ℕ} → o ≡ Grown words → Becomes result result' p used row m s u o → Put result result' used words row (2 * forms s) (ShapeRows p m u)
-  became e h = subst (λ (x : Joined). Becomes result result' p used row m s u x) e h
+module _ (result result' p : List ℕ) (used row m : ℕ) (s u : Shape) {o : Option ℕ} where
+  pub became : {words : ℕ} → o ≡ Some words → Becomes result result' p used row m s u o → Put result result' used words row (2 * forms s) (ShapeRows p m u)
+  became e h = subst (λ (x : Option ℕ). Becomes result result' p used row m s u x) e h
 
-  pub was_full : o ≡ Full → Becomes result result' p used row m s u o → Over result result' used (2 * forms s) (2 * forms u)
-  was_full e h = subst (λ (x : Joined). Becomes result result' p used row m s u x) e h
+  pub was_full : o ≡ None → Becomes result result' p used row m s u o → Over result result' used (2 * forms s) (2 * forms u)
+  was_full e h = subst (λ (x : Option ℕ). Becomes result result' p used row m s u x) e h
 
 -- what it becomes, otherwise said
 pub becomes_as
-    : (result result' p : List ℕ) (used row m : ℕ) (s : Shape) {u v : Shape} (o : Joined) → u ≡ v → Becomes result result' p used row m s u o
+    : (result result' p : List ℕ) (used row m : ℕ) (s : Shape) {u v : Shape} (o : Option ℕ) → u ≡ v → Becomes result result' p used row m s u o
     → Becomes result result' p used row m s v o
 becomes_as result result' p used row m s o e h = subst (λ (x : Shape). Becomes result result' p used row m s x o) e h
 

@@ -13,16 +13,17 @@ use Rattle.laws.specs.SoundShapes.{ascends_bind}
 use Rattle.shapes.specs.Shapes.{kind_bits, ShapeRows}
 use Rattle.shapes.specs.ShapesLaws.{kind_bits_lt}
 use Rattle.join.specs.Replacing.{Put, Becomes}
-use Rattle.join.specs.declared.Joined.{Joined}
-use Rattle.join.specs.declared.Joined.TheVariants.{Grown, Full}
+use Rattle.std.specs.Prelude.{Option}
+use Rattle.std.specs.Prelude.{Some, None}
 use Rattle.forms.specs.FormsLaws.{stands_code, stands_size, stands_within, forms_some}
 use Rattle.forms.specs.PartsLaws.{after}
 use Rattle.checking.specs.Bindings.{Bound, binding, Bindings, Kept}
 use Rattle.checking.specs.BindingsLaws.{bindings_kept, bound_cut, bound_out, binds, bind_kept}
 use Rattle.checking.specs.KindSets.{TellsCut, TellsOut}
 use Rattle.checking.specs.CheckContracts.{PlaceAsked, GivesPlace}
-use Rattle.checking.specs.declared.places.Located.{Located}
-use Rattle.checking.specs.declared.places.Located.TheVariants as found
+use Rattle.std.specs.Prelude.{Ok, Err}
+use Rattle.reading.specs.declared.Refusal.{Refusal}
+use Rattle.checking.specs.CheckContracts.{Located}
 use Rattle.result_shape.specs.ResultsLaws.{bound_ascends, bindings_ascend, given_ascends}
 use Rattle.result_shape.specs.Giving.{Tables, MeetsResult, ResultAsked, GivesResult}
 use Rattle.result_shape.proofs.Parts.{WhenParts, when_parts, branch_room}
@@ -66,11 +67,11 @@ module _
 
     module _ (o : Located) (q : GivesPlace table shapes pool bindings (row + 3) o) where
       pub when_never {ℓ}
-          : {X : Type ℓ} {p : List ℕ} {m : ℕ} {r : Result} {env : List Shape} {t : Shape} {name : ℕ} {s : Shape} {n at : ℕ}
-          → MeetsResult table shapes pool bindings result p row d used dest m deep r env t name s → o ≡ found.Refused n at → X
+          : {X : Type ℓ} {p : List ℕ} {m : ℕ} {r : Result} {env : List Shape} {t : Shape} {name : ℕ} {s : Shape} {why : Refusal}
+          → MeetsResult table shapes pool bindings result p row d used dest m deep r env t name s → o ≡ Err why → X
       when_never j e = never_refused (parts j).placed o q e
 
-      module _ {at kinds test : ℕ} (e : o ≡ found.At at kinds) (test_is : test ≡ get_or table row 0 / 32 % 64) where
+      module _ {at kinds test : ℕ} (e : o ≡ Ok (record { row = at; kinds = record { kinds = kinds } })) (test_is : test ≡ get_or table row 0 / 32 % 64) where
         over_bound
             : {p : List ℕ} {m : ℕ} {r : Result} {env : List Shape} {t : Shape} {name : ℕ} {s : Shape}
             (j : MeetsResult table shapes pool bindings result p row d used dest m deep r env t name s)
@@ -155,7 +156,7 @@ module _
                   meets = meets₁ j;
                 }
 
-            module _ (bindings₂ result₁ : List ℕ) (o₁ : Joined)
+            module _ (bindings₂ result₁ : List ℕ) (o₁ : Option ℕ)
                 (q₁ : GivesResult table shapes pool bindings₁ result result₁ first more_bound used dest deep o₁) (kept : Kept bindings₁ bindings₂ more_bound)
               where
                 become₁
@@ -173,13 +174,13 @@ module _
                 pub when_kept_then : ResultAsked table shapes pool bindings result row d used dest deep → Kept bindings bindings₂ d
                 when_kept_then w = kept₂ w.meets
 
-                pub when_full_first : o₁ ≡ Full → GivesResult table shapes pool bindings result result₁ row d used dest deep Full
+                pub when_full_first : o₁ ≡ None → GivesResult table shapes pool bindings result result₁ row d used dest deep None
                 when_full_first f p m r env t name s j =
                     let x = parts j in
                     both_full_first t x.one x.two j.stands j.within tables j.ascends (asc₁ j) (asc₂ j) x.same
                     (was_full result result₁ p used dest name s (join s x.one) f (become₁ j))
 
-                module _ {words out : ℕ} (e₁ : o₁ ≡ Grown words) (tells_out : TellsOut kinds test out) where
+                module _ {words out : ℕ} (e₁ : o₁ ≡ Some words) (tells_out : TellsOut kinds test out) where
                   module _
                       {p : List ℕ} {m : ℕ} {r : Result} {env : List Shape} {t : Shape} {name : ℕ} {s : Shape}
                       (j : MeetsResult table shapes pool bindings result p row d used dest m deep r env t name s)
@@ -257,7 +258,7 @@ module _
                           meets = meets₂ j;
                         }
 
-                    module _ (bindings₄ result₂ : List ℕ) (o₂ : Joined)
+                    module _ (bindings₄ result₂ : List ℕ) (o₂ : Option ℕ)
                         (q₂ : GivesResult table shapes pool bindings₃ result₁ result₂ second more_bound (used + words) dest deep o₂)
                         (kept₄ : Kept bindings₃ bindings₄ more_bound)
                       where
@@ -274,14 +275,14 @@ module _
                             kept_then bindings bindings₃ bindings₄ d more_bound (omega (arith, bound_is))
                             (kept_then bindings bindings₂ bindings₃ d d (omega arith) (kept₂ w.meets) (kept₃ w.meets)) kept₄
 
-                        pub when_full_then : o₂ ≡ Full → GivesResult table shapes pool bindings result result₂ row d used dest deep Full
+                        pub when_full_then : o₂ ≡ None → GivesResult table shapes pool bindings result result₂ row d used dest deep None
                         when_full_then f p m r env t name s j =
                             let x = parts j in
                             both_full_then t x.one x.two j.stands j.within tables j.ascends (asc₁ j) (asc₂ j) x.same (put₁ j)
                             (was_full result₁ result₂ p (used + words) dest name (join s x.one) (join (join s x.one) x.two) f (become₂ j))
 
-                        module _ {more : ℕ} (e₂ : o₂ ≡ Grown more) where
-                          pub when_answer : GivesResult table shapes pool bindings result result₂ row d used dest deep (Grown (words + more))
+                        module _ {more : ℕ} (e₂ : o₂ ≡ Some more) where
+                          pub when_answer : GivesResult table shapes pool bindings result result₂ row d used dest deep (Some (words + more))
                           when_answer p m r env t name s j =
                               let x = parts j in
                               both_put t x.one x.two j.stands j.within tables j.ascends (asc₁ j) (asc₂ j) x.same (put₁ j)

@@ -15,8 +15,8 @@ use Rattle.plain.specs.Table.{Used}
 use Rattle.shapes.specs.Shapes.{kind_bits, Stands}
 use Rattle.shapes.specs.Held.{HoldsShape}
 use Rattle.join.specs.Replacing.{Becomes}
-use Rattle.join.specs.declared.Joined.{Joined}
-use Rattle.join.specs.declared.Joined.TheVariants.{Grown, Full}
+use Rattle.std.specs.Prelude.{Option}
+use Rattle.std.specs.Prelude.{Some, None}
 use Rattle.growing.specs.Growing.{member_start, place, join_in}
 use Rattle.growing.specs.Rows.{MeetsFields, FieldsBecome}
 use Rattle.forms.specs.Forms.{form_code, form_operand, LiteralPayload, FormStands, PairsStand}
@@ -57,7 +57,7 @@ pub record KeptAsked (shapes pool result : List ℕ) (at kinds used dest deep : 
 
 -- the shape becomes what `f` makes of it and of what is left of the other
 abbrev pub GivesKept
-    : (f : Shape → Shape → Shape) (shapes pool result result' : List ℕ) (at kinds used dest deep : ℕ) → Joined → Type 0
+    : (f : Shape → Shape → Shape) (shapes pool result result' : List ℕ) (at kinds used dest deep : ℕ) → Option ℕ → Type 0
 GivesKept f shapes pool result result' at kinds used dest deep o =
     (p : List ℕ) (t : Shape) (name : ℕ) (s : Shape) → MeetsKept shapes pool result p at kinds used dest deep t name s
     → Becomes result result' p used dest name s (f s t) o
@@ -85,7 +85,7 @@ pub record ResultAsked (table shapes pool bindings result : List ℕ) (row d use
   pub old : Shape
   pub meets : MeetsResult table shapes pool bindings result p row d used dest m deep form env given name old
 
-abbrev pub GivesResult : (table shapes pool bindings result result' : List ℕ) (row d used dest deep : ℕ) → Joined → Type 0
+abbrev pub GivesResult : (table shapes pool bindings result result' : List ℕ) (row d used dest deep : ℕ) → Option ℕ → Type 0
 GivesResult table shapes pool bindings result result' row d used dest deep o =
     (p : List ℕ) (m : ℕ) (r : Result) (env : List Shape) (t : Shape) (name : ℕ) (s : Shape)
     → MeetsResult table shapes pool bindings result p row d used dest m deep r env t name s
@@ -115,7 +115,7 @@ pub record PairAsked (table shapes pool bindings result : List ℕ) (row d used 
   pub meets : MeetsPair table shapes pool bindings result p row d used first last deep label word form env given olds
 
 abbrev pub GivesPair
-    : (table shapes pool bindings result result' : List ℕ) (row d used first last deep : ℕ) (had : Bool) → Joined → Type 0
+    : (table shapes pool bindings result result' : List ℕ) (row d used first last deep : ℕ) (had : Bool) → Option ℕ → Type 0
 GivesPair table shapes pool bindings result result' row d used first last deep had o =
     (p : List ℕ) (n : Bytes) (k : ℕ) (r : Result) (env : List Shape) (t : Shape) (fs : Fields)
     → MeetsPair table shapes pool bindings result p row d used first last deep n k r env t fs
@@ -147,7 +147,7 @@ pub record PackAsked (table shapes pool bindings result : List ℕ) (row end d u
   pub meets : MeetsPack table shapes pool bindings result p row end d used first last deep pairs env given olds
 
 abbrev pub GivesPack
-    : (table shapes pool bindings result result' : List ℕ) (row end d used first last deep : ℕ) (had : Bool) → Joined → Type 0
+    : (table shapes pool bindings result result' : List ℕ) (row end d used first last deep : ℕ) (had : Bool) → Option ℕ → Type 0
 GivesPack table shapes pool bindings result result' row end d used first last deep had o =
     (p : List ℕ) (ps : Pairs) (env : List Shape) (gs fs : Fields)
     → MeetsPack table shapes pool bindings result p row end d used first last deep ps env gs fs
@@ -183,11 +183,11 @@ pub record ReaderAsked (table shapes pool bindings : List ℕ) (deep : ℕ) : Ty
   pub meets : MeetsReader table shapes pool bindings p deep m name reader shape given
 
 -- a table holds the shape t; or one of so many words was too short for it
-abbrev pub HoldsGiven : (result' pool : List ℕ) (long : ℕ) (t : Shape) → Joined → Type 0
-HoldsGiven result' pool long t (Grown words) = HoldsShape result' pool 0 t
-HoldsGiven result' pool long t Full = long < 2 * forms t
+abbrev pub HoldsGiven : (result' pool : List ℕ) (long : ℕ) (t : Shape) → Option ℕ → Type 0
+HoldsGiven result' pool long t (Some words) = HoldsShape result' pool 0 t
+HoldsGiven result' pool long t None = long < 2 * forms t
 
-abbrev pub GivesReader : (table shapes pool bindings result' : List ℕ) (deep long : ℕ) → Joined → Type 0
+abbrev pub GivesReader : (table shapes pool bindings result' : List ℕ) (deep long : ℕ) → Option ℕ → Type 0
 GivesReader table shapes pool bindings result' deep long o =
     (p : List ℕ) (m name : ℕ) (r : Result) (s t : Shape) → MeetsReader table shapes pool bindings p deep m name r s t
     → HoldsGiven result' pool long t o

@@ -12,11 +12,7 @@ pub fn bare_kinds(code: u64, operand: u64, payload: u64) -> Shape
         return Shape::INT;
     }
     if code < forms::COUNT {
-        return Shape {
-            kinds: simple::conversion_kinds(code),
-        };
+        return simple::conversion_kinds(code);
     }
-    Shape {
-        kinds: simple::literal_kinds(code, operand, payload),
-    }
+    simple::literal_kinds(code, operand, payload)
 }

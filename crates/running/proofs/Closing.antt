@@ -1,7 +1,7 @@
 -- The rows of lists and records closed, and of values copied. Assumes nothing.
 use Prim.Native.Nat.{ℕ, suc, ◌+◌, ◌-◌, ◌*◌, ◌/◌, ◌%◌, ◌≤◌, ◌<◌, max}
 use native.Mathlib.Omega.{arith}
-use mathlib.Core.Path.{◌≡◌, refl, sym, ap, ◌∙◌, subst}
+use mathlib.Core.Path.{◌≡◌, refl, sym, ap, ap₂, ◌∙◌, subst}
 use mathlib.Core.Bool.{true, false}
 use mathlib.Core.List.{List, [], ◌∷◌, ◌++◌, append_assoc}
 use lib.ListN.{length, get_or, take, drop, set, length-append, length-set, length-drop}
@@ -46,20 +46,17 @@ module _ (results : List ℕ) (begun to : ℕ) where
   list_left name short = record { front = refl; closed = λ r. absurd (let z : ⊥ = omega (arith, r, short) in z) }
 
   pub list_closed
-      : (name : ℕ) {length' written head n : ℕ} {after : List ℕ} → begun < to → 3 * to ≤ length results
+      : (name : ℕ) {length' : ℕ} {after : List ℕ} → begun < to → 3 * to ≤ length results
       → ((p : List ℕ) (vs : Items) → ItemsAt results (3 * begun + 3) (3 * to) p vs → length' ≡ items_length vs)
-      → written ≡ 1 + max 1 length' → head ≡ head_of 5 0 written → n ≡ 3 * (to - begun)
-      → after ≡ take (3 * begun) results ++ head ∷ n ∷ name ∷ drop (3 * begun + 3) results → ClosesList results after begun to name
+      → after ≡ with_row results begun (head_of 5 0 (1 + max 1 length')) (3 * (to - begun)) name → ClosesList results after begun to name
   unfolding kind_code number_bits size
-  list_closed name {length'} {written} {head} {n} later room m w h k e =
+  list_closed name {length'} later room m e =
       record {
-        front = ap (λ (t : List ℕ). take (3 * begun) t) e ∙ with_row_front results begun head n name (omega arith);
+        front = ap (λ (t : List ℕ). take (3 * begun) t) e ∙ with_row_front results begun _ _ name (omega arith);
         closed = λ r p vs held.
-            let a : head ≡ head_word (Value.list vs) =
-            h ∙ head_word_is (Value.list vs) refl refl (w ∙ ap (λ (x : ℕ). 1 + max 1 x) (m p vs held) ∙ sym (length_list vs)) in
-            let b : n ≡ 3 * size (Value.list vs) =
-            omega (arith, k, held.stand.reaches, length_item_rows held.stand.encoded) in
-            e ∙ ap (λ (x : ℕ). with_row results begun x n name) a ∙ ap (λ (x : ℕ). with_row results begun (head_word (Value.list vs)) x name) b;
+            let a = head_word_is (Value.list vs) refl refl (ap (λ (x : ℕ). 1 + max 1 x) (m p vs held) ∙ sym (length_list vs)) in
+            let b : 3 * (to - begun) ≡ 3 * size (Value.list vs) = omega (arith, held.stand.reaches, length_item_rows held.stand.encoded) in
+            e ∙ ap₂ (λ (x y : ℕ). with_row results begun x y name) a b;
       }
 
 -- ---- records
@@ -84,20 +81,17 @@ module _ (results pool : List ℕ) (begun to : ℕ) where
   record_left name short = record { front = refl; closed = λ r. absurd (let z : ⊥ = omega (arith, r, short) in z) }
 
   pub record_closed
-      : (name : ℕ) {length' written head n : ℕ} {after : List ℕ} → begun < to → 3 * to ≤ length results
+      : (name : ℕ) {length' : ℕ} {after : List ℕ} → begun < to → 3 * to ≤ length results
       → ((p : List ℕ) (ms : Members) → MembersAt results pool (3 * begun + 3) (3 * to) p ms → length' ≡ members_length ms)
-      → written ≡ 1 + max 1 length' → head ≡ head_of 6 0 written → n ≡ 3 * (to - begun)
-      → after ≡ take (3 * begun) results ++ head ∷ n ∷ name ∷ drop (3 * begun + 3) results → ClosesRecord results after pool begun to name
+      → after ≡ with_row results begun (head_of 6 0 (1 + max 1 length')) (3 * (to - begun)) name → ClosesRecord results after pool begun to name
   unfolding kind_code number_bits size
-  record_closed name {length'} {written} {head} {n} later room m w h k e =
+  record_closed name {length'} later room m e =
       record {
-        front = ap (λ (t : List ℕ). take (3 * begun) t) e ∙ with_row_front results begun head n name (omega arith);
+        front = ap (λ (t : List ℕ). take (3 * begun) t) e ∙ with_row_front results begun _ _ name (omega arith);
         closed = λ r p ms held.
-            let a : head ≡ head_word (Value.rec ms) =
-            h ∙ head_word_is (Value.rec ms) refl refl (w ∙ ap (λ (x : ℕ). 1 + max 1 x) (m p ms held) ∙ sym (length_rec ms)) in
-            let b : n ≡ 3 * size (Value.rec ms) =
-            omega (arith, k, held.stand.reaches, length_member_rows held.stand.encoded) in
-            e ∙ ap (λ (x : ℕ). with_row results begun x n name) a ∙ ap (λ (x : ℕ). with_row results begun (head_word (Value.rec ms)) x name) b;
+            let a = head_word_is (Value.rec ms) refl refl (ap (λ (x : ℕ). 1 + max 1 x) (m p ms held) ∙ sym (length_rec ms)) in
+            let b : 3 * (to - begun) ≡ 3 * size (Value.rec ms) = omega (arith, held.stand.reaches, length_member_rows held.stand.encoded) in
+            e ∙ ap₂ (λ (x y : ℕ). with_row results begun x y name) a b;
       }
 
 -- ---- values copied
@@ -157,16 +151,11 @@ module _ (nodes : List ℕ) (at : ℕ) (before : List ℕ) (begun name : ℕ) {k
       : {after : List ℕ} {head r : ℕ} → kind ≡ 0 → head ≡ head_of 0 0 4 → PutRow before after begun head 0 name r → Keeps nodes at before after begun name r
   unfolding size
   null_kept {after} {head} {r} e h q =
-      record { front = q.front; puts = λ p v b. go p v (null_of_kind v (sym (kinded ∙ bound_kind b) ∙ e)) }
+      record { front = q.front; puts = λ p v b. go p (null_of_kind v (sym (kinded ∙ bound_kind b) ∙ e)) }
     where
-      go : (p : List ℕ) (v : Value) → IsNull v → Puts p before after name begun v r
-      go p Value.null is_null =
+      go : (p : List ℕ) {v : Value} → IsNull v → Puts p before after name begun v r
+      go p is_null =
           put_alone (subst (λ (x : ℕ). PutRow before after begun x 0 name r) (h ∙ null_head) q) refl null_row
-      go p (Rattle.definitions.specs.Value.bool _) x'' = elim x'' [ ]
-      go p (Rattle.definitions.specs.Value.number _) x3 = elim x3 [ ]
-      go p (Rattle.definitions.specs.Value.text _) x4 = elim x4 [ ]
-      go p (Rattle.definitions.specs.Value.list _) x5 = elim x5 [ ]
-      go p (Rattle.definitions.specs.Value.rec _) x6 = elim x6 [ ]
 
   module _ (some : kind ≡ 0 → ⊥) {n : ℕ} (sized : n ≡ row_size nodes at) where
     stands_at : {p : List ℕ} {v : Value} → Bound nodes p at v → (m : ℕ) × ValueStands nodes p at m v

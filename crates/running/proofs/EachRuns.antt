@@ -21,15 +21,15 @@ use Rattle.plain.specs.Table.{BoundedNumbers, BoundedItems}
 use Rattle.forms.specs.Forms.{FormStands}
 use Rattle.forms.specs.FormsLaws.{stands_code, stands_within, forms_some, levels_some}
 use Rattle.forms.specs.PartsLaws as parts
+use Rattle.std.specs.Prelude.{Ok, Err}
+use Rattle.reading.specs.declared.Refusal.{Refusal}
 use Rattle.running.specs.declared.going.Cursor.{Cursor}
-use Rattle.running.specs.declared.going.Part.{Part}
-use Rattle.running.specs.declared.going.Part.TheVariants as PartIs
 use Rattle.running.specs.Bindings.{Bound, standing}
 use Rattle.running.specs.BindingsLaws.{binds_kept, binds_more, bound_within}
 use Rattle.running.specs.Codes.{IsEach, is_each, each_of}
 use Rattle.running.specs.FormLaws as laws
 use Rattle.running.specs.Rows.{EndsItems, ItemsAt, ListClosable, ClosesList}
-use Rattle.running.specs.Walk.{follow, Meets, Paid, Ready, Following, Appended, Made, Comes, Runs, Follows}
+use Rattle.running.specs.Walk.{Part, follow, Meets, Paid, Ready, Following, Appended, Made, Comes, Runs, Follows}
 use Rattle.running.proofs.WhenRuns.{part_meets, kept_before}
 
 -- ---- rows of parts
@@ -105,24 +105,17 @@ module _ {forms nodes pool bindings₀ results₀ : List ℕ} {limit : ℕ} {c :
   -- where its rows stand
   pub each_within : (parts.after forms (c.row + 3) + 3 ≤ length forms) × (c.bound < length bindings₀) × (at ≤ 65536) × (c.begun + 1 ≤ 2 ^ 60)
   unfolding result_levels
-  each_within = go f.ready.form (is_it f.ready.form f.ready.meets) f.ready.meets
+  each_within = go (is_it f.ready.form f.ready.meets) f.ready.meets
     where
-      go : (form : Result) → IsEach form
+      go : {form : Result} → IsEach form
           → Meets forms nodes pool bindings₀ limit c.row c.bound f.ready.limits f.ready.used form f.ready.env
           → (parts.after forms (c.row + 3) + 3 ≤ length forms) × (c.bound < length bindings₀) × (at ≤ 65536) × (c.begun + 1 ≤ 2 ^ 60)
-      go (Result.each a q r) is_each m = (
+      go (is_each {r}) m = (
         omega (arith, stands_within (parts.each_result m.stands), forms_some r),
         omega (arith, m.room, levels_some r),
         omega (arith, bound_within f.bound, f.ready.small.rows),
         omega (arith, f.ready.paid, f.counted, f.left, f.ready.small.steps),
       )
-      go (Rattle.definitions.specs.Reader.convert _ _ _) x4 m = elim x4 [ ]
-      go (Rattle.definitions.specs.Reader.keep _ _) x4 m = elim x4 [ ]
-      go (Rattle.definitions.specs.Reader.count _ _) x5 m = elim x5 [ ]
-      go (Rattle.definitions.specs.Reader.when _ _ _ _ _) x9 m = elim x9 [ ]
-      go (Rattle.definitions.specs.Reader.choose _ _ _ _) x9 m = elim x9 [ ]
-      go (Rattle.definitions.specs.Reader.literal _ _) x8 m = elim x8 [ ]
-      go (Rattle.definitions.specs.Reader.pack _ _) x9 m = elim x9 [ ]
 
   pub each_begins
       : {end : ℕ} → ((p : List ℕ) (v : Value) → Bound nodes p at v → EndsItems nodes p at v end)
@@ -134,12 +127,12 @@ module _ {forms nodes pool bindings₀ results₀ : List ℕ} {limit : ℕ} {c :
         same_results = refl;
         bound_kept = refl;
         front = refl;
-        going = λ l p form env v m b. go l p form env v b (is_it form m) (ends p v b);
+        going = λ l p form env v m b. go (is_it form m) l p env v b (ends p v b);
       }
     where
-      go : (l : Limits) (p : List ℕ) (form : Result) (env : List Value) (v : Value) → Bound nodes p at v → IsEach form → EndsItems nodes p at v end
+      go : {form : Result} → IsEach form → (l : Limits) (p : List ℕ) (env : List Value) (v : Value) → Bound nodes p at v → EndsItems nodes p at v end
           → EachState forms nodes pool results₀ limit c behind end l p form env v results₀ (at + 3) (c.begun + 1) behind
-      go l p (Result.each a q r) env v b is_each e =
+      go (is_each {at = a} {q} {r}) l p env v b e =
           record {
             place = a;
             inner = q;
@@ -163,13 +156,6 @@ module _ {forms nodes pool bindings₀ results₀ : List ℕ} {limit : ℕ} {c :
               },
             );
           }
-      go l p (Rattle.definitions.specs.Reader.convert _ _ _) env v b x5 e = elim x5 [ ]
-      go l p (Rattle.definitions.specs.Reader.keep _ _) env v b x5 e = elim x5 [ ]
-      go l p (Rattle.definitions.specs.Reader.count _ _) env v b x6 e = elim x6 [ ]
-      go l p (Rattle.definitions.specs.Reader.when _ _ _ _ _) env v b x10 e = elim x10 [ ]
-      go l p (Rattle.definitions.specs.Reader.choose _ _ _ _) env v b x10 e = elim x10 [ ]
-      go l p (Rattle.definitions.specs.Reader.literal _ _) env v b x9 e = elim x9 [ ]
-      go l p (Rattle.definitions.specs.Reader.pack _ _) env v b x10 e = elim x10 [ ]
 
   module _ {end : ℕ} {bindings results : List ℕ} {i begun steps : ℕ}
       (w : EachLoop forms nodes pool bindings₀ results₀ limit c at behind end bindings results i begun steps) where
@@ -247,11 +233,10 @@ module _ {forms nodes pool bindings₀ results₀ : List ℕ} {limit : ℕ} {c :
             ∙ w.front
 
         pub part_refused
-            : {number place : ℕ} → r ≡ PartIs.Refused number place
-            → Follows forms nodes pool bindings₀ bindings' results₀ results' limit c at behind r
+            : {why : Refusal} → r ≡ Err why
+            → Follows forms nodes pool bindings₀ bindings' results₀ results' limit c at behind (Err why)
         part_refused e =
-            subst (Follows forms nodes pool bindings₀ bindings' results₀ results' limit c at behind) (sym e)
-            (record {
+            record {
               kept = record { bound_kept = bindings_kept; front = front_kept };
               told = λ l p form env v m b.
                   let s = w.going l p form env v m b in
@@ -261,10 +246,11 @@ module _ {forms nodes pool bindings₀ results₀ : List ℕ} {limit : ℕ} {c :
                   ∙ laws.each_refused (λ x n. run s.body l (x ∷ env) n) g.value g.others s.done steps
                   (subst (Comes (run s.body l (g.value ∷ env) steps) limit p results results' (part row)) e
                   (ran.told l p s.body (g.value ∷ env) (part_meets_at at_row m s)));
-            })
+            }
 
         pub part_done
-            : {kind to after n : ℕ} → r ≡ PartIs.Done kind to after → length bindings' ≡ length bindings → length results' ≡ length results
+            : {kind to after n : ℕ} → r ≡ Ok (record { kind = kind; begun = to; steps = after }) → length bindings' ≡ length bindings
+            → length results' ≡ length results
             → n ≡ row_size nodes i
             → EachLoop forms nodes pool bindings₀ results₀ limit c at behind end bindings' results' (i + n) to after
         unfolding size BoundedNumbers
@@ -350,7 +336,7 @@ module _ {forms nodes pool bindings₀ results₀ : List ℕ} {limit : ℕ} {c :
 
       pub each_ends
           : {results' : List ℕ} → ClosesList results results' c.begun begun c.name
-          → Follows forms nodes pool bindings₀ bindings results₀ results' limit c at behind (PartIs.Done 5 begun steps)
+          → Follows forms nodes pool bindings₀ bindings results₀ results' limit c at behind (Ok (record { kind = 5; begun = begun; steps = steps }))
       unfolding size kind_code BoundedNumbers
       each_ends {results'} k =
           record {

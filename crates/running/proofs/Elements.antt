@@ -62,20 +62,15 @@ pub ends_list
     : {nodes : List ℕ} {at kind n : ℕ} → kind ≡ get_or nodes at 0 % 8 → kind ≡ 5 → n ≡ row_size nodes at → (p : List ℕ) (v : Value)
     → Bound nodes p at v → EndsItems nodes p at v (at + n)
 unfolding items_of BoundedNumbers
-ends_list {nodes} {at} {kind} {n} k e r p v b = go v (list_of_kind v (sym (k ∙ bound_kind b) ∙ e)) b
+ends_list {nodes} {at} {kind} {n} k e r p v b = go (list_of_kind v (sym (k ∙ bound_kind b) ∙ e)) b
   where
-    go : (w : Value) → IsList w → Bound nodes p at w → EndsItems nodes p at w (at + n)
-    go (Value.list vs) is_list (standing s bd) =
+    go : {w : Value} → IsList w → Bound nodes p at w → EndsItems nodes p at w (at + n)
+    go (is_list {vs}) (standing s bd) =
         record {
           stand = subst (λ (m : ℕ). ItemsStand nodes p (at + 3) (at + m) vs) (sym r) (list_stands s);
           bounded = bd;
           near = omega (arith, r, value_size s, value_within s);
         }
-    go Rattle.definitions.specs.Value.null x'' _ = elim x'' [ ]
-    go (Rattle.definitions.specs.Value.bool _) x4 _ = elim x4 [ ]
-    go (Rattle.definitions.specs.Value.number _) x5 _ = elim x5 [ ]
-    go (Rattle.definitions.specs.Value.text _) x6 _ = elim x6 [ ]
-    go (Rattle.definitions.specs.Value.rec _) x7 _ = elim x7 [ ]
 
 pub list_within
     : {nodes : List ℕ} {at kind begun : ℕ} → SomeBound nodes at begun → kind ≡ get_or nodes at 0 % 8 → kind ≡ 5 → at + row_size nodes at ≤ 65539

@@ -17,18 +17,17 @@ use Rattle.plain.specs.Table.{BoundedNumbers}
 use Rattle.forms.specs.Forms.{conversion_code, form_code, form_operand}
 use Rattle.forms.specs.FormsLaws.{stands_code, stands_operand, stands_at, stands_within, forms_some, levels_some}
 use Rattle.forms.specs.PartsLaws.{after, literal_stands}
+use Rattle.std.specs.Prelude.{Ok, Err}
+use Rattle.reading.specs.declared.Refusal.{Refusal}
+use Rattle.reading.specs.declared.Cause.TheVariants as cause
 use Rattle.running.specs.declared.going.Cursor.{Cursor}
-use Rattle.running.specs.declared.going.Part.{Part}
-use Rattle.running.specs.declared.going.Part.TheVariants as PartIs
-use Rattle.running.specs.declared.going.Seen.{Seen}
-use Rattle.running.specs.declared.going.Seen.TheVariants as SeenIs
 use Rattle.running.specs.Bindings.{Bound}
 use Rattle.running.specs.Codes.{IsWhen, is_when, IsCount, is_count, IsSame, is_convert, is_keep, IsLiteral, is_literal}
 use Rattle.running.specs.Codes.{when_of, count_of, same_of, literal_of}
 use Rattle.running.specs.FormLaws as laws
 use Rattle.running.specs.Rows.{SomeBound}
 use Rattle.running.specs.Singles.{Giving, Gives, Handed, Counts, LiteralAt, SomeLiteral}
-use Rattle.running.specs.Walk.{operand, follow, Meets, OperandReady, Ready, Following, branch, SeenAt, Sees, SeesOperand}
+use Rattle.running.specs.Walk.{Part, Seen, operand, follow, Meets, OperandReady, Ready, Following, branch, SeenAt, Sees, SeesOperand}
 use Rattle.running.specs.Walk.{Comes, Kept, Runs, Follows}
 use Rattle.running.proofs.Operands.{has_place}
 use Rattle.running.proofs.WholeRows.{handed_on}
@@ -42,7 +41,7 @@ kept_same bindings results bound begun = record { bound_kept = refl; front = ref
 pub comes_on
     : {o o' : Outcome ℕ (Ran Value)} (limit : ℕ) (p before after : List ℕ) (c : Cursor) (row bound steps : ℕ) → o ≡ o' → c.steps ≤ steps → (r : Part)
     → Comes o' limit p before after (branch c row bound steps) r → Comes o limit p before after c r
-comes_on limit p before after c row bound steps e h (PartIs.Done kind begun behind) m =
+comes_on limit p before after c row bound steps e h (Ok done) m =
     record {
       value = m.value;
       ran = e ∙ m.ran;
@@ -53,7 +52,7 @@ comes_on limit p before after c row bound steps e h (PartIs.Done kind begun behi
       counted = omega (arith, m.counted);
       left = m.left;
     }
-comes_on limit p before after c row bound steps e h (PartIs.Refused number place) m = e ∙ m
+comes_on limit p before after c row bound steps e h (Err why) m = e ∙ m
 
 -- the same form
 pub comes_as
@@ -63,12 +62,12 @@ comes_as limit p before after c e r m = subst (λ o. Comes o limit p before afte
 
 module _ {forms nodes pool bindings : List ℕ} {limit row bound : ℕ} where
   literal_here
-      : {l : Limits} {p : List ℕ} {env : List Value} (form : Result) → IsLiteral form
+      : {l : Limits} {p : List ℕ} {env : List Value} {form : Result} → IsLiteral form
       → Meets forms nodes pool bindings limit row bound l p form env
       → (v : Value) × LiteralAt forms pool row p v
       × ((n : ℕ) → n < limit → run form l env n ≡ gives v (n + 1))
   unfolding form_code form_operand
-  literal_here {l} {p} {env} (Result.literal at v) is_literal m = (
+  literal_here {l} {p} {env} (is_literal {at} {v}) m = (
     v,
     record {
       coded = stands_code m.stands;
@@ -82,13 +81,6 @@ module _ {forms nodes pool bindings : List ℕ} {limit row bound : ℕ} where
     where
       good_of : GoodReader (Result.literal at v) → BoundedNumbers v
       good_of (good_literal g) = good_bounded g
-  literal_here {l = l} {p = p} {env = env} (Rattle.definitions.specs.Reader.convert at _ _) x4 m = elim x4 [ ]
-  literal_here {l = l} {p = p} {env = env} (Rattle.definitions.specs.Reader.keep at _) x4 m = elim x4 [ ]
-  literal_here {l = l} {p = p} {env = env} (Rattle.definitions.specs.Reader.count at _) x5 m = elim x5 [ ]
-  literal_here {l = l} {p = p} {env = env} (Rattle.definitions.specs.Reader.each at _ _) x7 m = elim x7 [ ]
-  literal_here {l = l} {p = p} {env = env} (Rattle.definitions.specs.Reader.when at _ _ _ _) x10 m = elim x10 [ ]
-  literal_here {l = l} {p = p} {env = env} (Rattle.definitions.specs.Reader.choose at _ _ _) x10 m = elim x10 [ ]
-  literal_here {l = l} {p = p} {env = env} (Rattle.definitions.specs.Reader.pack at _) x9 m = elim x9 [ ]
 
   is_one
       : {l : Limits} {p : List ℕ} {env : List Value} {form : Result} {code : ℕ} → code ≡ get_or forms row 0 % 32 → 11 < code → (code ≡ 17 → ⊥)
@@ -106,7 +98,7 @@ module _ {forms nodes pool bindings : List ℕ} {limit row bound : ℕ} where
       ∙ ap (λ (n : ℕ). operand form l env n >>= λ x. follow form l env x.result x.steps) (sym (add-one steps))
 
   seen_at
-      : {s : Seen} {steps at behind : ℕ} → SeesOperand forms nodes pool bindings limit row bound steps s → s ≡ SeenIs.At at behind
+      : {s : Seen} {steps at behind : ℕ} → SeesOperand forms nodes pool bindings limit row bound steps s → s ≡ Ok (record { row = at; steps = behind })
       → {l : Limits} {p : List ℕ} (form : Result) {env : List Value} → Meets forms nodes pool bindings limit row bound l p form env
       → SeenAt (operand form l env steps) nodes p limit steps at behind
   seen_at {steps = steps} seen e {l} {p} form {env} m =
@@ -131,7 +123,7 @@ module _ {forms nodes pool bindings results : List ℕ} {limit : ℕ} {c : Curso
 
   pub stopped
       : {place : ℕ} → limit ≤ c.steps → place ≡ get_or forms c.row 0 / 2048 % 65536
-      → Runs forms nodes pool bindings bindings results results limit c (PartIs.Refused 13 place)
+      → Runs forms nodes pool bindings bindings results results limit c (Err (record { cause = cause.StepLimit; place = place }))
   stopped h e =
       record {
         kept = kept_same bindings results c.bound c.begun;
@@ -144,7 +136,7 @@ module _ {forms nodes pool bindings results : List ℕ} {limit : ℕ} {c : Curso
   module _ {code : ℕ} (coded : code ≡ get_or forms c.row 0 % 32) (late : 11 < code) (other : code ≡ 17 → ⊥) where
     pub some_literal : Ready forms nodes pool bindings results limit c → SomeLiteral forms pool c.row
     some_literal r =
-        let x = literal_here r.form (is_one coded late other r.meets) r.meets in record { used = r.used; value = x.0; held = x.1 }
+        let x = literal_here (is_one coded late other r.meets) r.meets in record { used = r.used; value = x.0; held = x.1 }
 
     pub literal_ran
         : {results' : List ℕ} {r : Part} → c.steps < limit
@@ -154,7 +146,7 @@ module _ {forms nodes pool bindings results : List ℕ} {limit : ℕ} {c : Curso
         record {
           kept = record { bound_kept = refl; front = g.front };
           told = λ l p form env m.
-              let x = literal_here form (is_one coded late other m) m in comes_as limit p results results' c (x.2 c.steps h) r (g.told p x.0 x.1);
+              let x = literal_here (is_one coded late other m) m in comes_as limit p results results' c (x.2 c.steps h) r (g.told p x.0 x.1);
         }
 
   pub giving : {steps : ℕ} → Ready forms nodes pool bindings results limit c → c.steps < steps → steps ≤ limit → Giving limit c steps
@@ -178,8 +170,8 @@ module _ {forms nodes pool bindings results : List ℕ} {limit : ℕ} {c : Curso
 
     module _ {s : Seen} (seen : SeesOperand forms nodes pool bindings limit c.row c.bound (c.steps + 1) s) (h : c.steps < limit) where
       pub operand_refused
-          : {number place : ℕ} → s ≡ SeenIs.Refused number place
-          → Runs forms nodes pool bindings bindings results results limit c (PartIs.Refused number place)
+          : {why : Refusal} → s ≡ Err why
+          → Runs forms nodes pool bindings bindings results results limit c (Err why)
       operand_refused e =
           record {
             kept = kept_same bindings results c.bound c.begun;
@@ -189,7 +181,7 @@ module _ {forms nodes pool bindings results : List ℕ} {limit : ℕ} {c : Curso
                 (subst (Sees (operand form l env (c.steps + 1)) nodes p limit (c.steps + 1)) e (seen.told l p form env m));
           }
 
-      module _ {at behind : ℕ} (e : s ≡ SeenIs.At at behind) where
+      module _ {at behind : ℕ} (e : s ≡ Ok (record { row = at; steps = behind })) where
         pub following : Ready forms nodes pool bindings results limit c → Following forms nodes pool bindings results limit c at behind 0 10
         following r =
             let x = seen_at seen e r.form r.meets in
@@ -245,21 +237,14 @@ module _ {forms nodes pool bindings results : List ℕ} {limit : ℕ} {c : Curso
     count_followed {results'} {r} {code} e k g =
         record {
           kept = record { bound_kept = refl; front = g.front };
-          told = λ l p form env v m b. go l p form env v m b (count_of form (sym (e ∙ stands_code m.stands) ∙ k));
+          told = λ l p form env v m b. go (count_of form (sym (e ∙ stands_code m.stands) ∙ k)) m b;
         }
       where
-        go : (l : Limits) (p : List ℕ) (form : Result) (env : List Value) (v : Value)
-            → Meets forms nodes pool bindings limit c.row c.bound l p form env → Bound nodes p at v → IsCount form
+        go : {l : Limits} {p : List ℕ} {form : Result} {env : List Value} {v : Value} → IsCount form
+            → Meets forms nodes pool bindings limit c.row c.bound l p form env → Bound nodes p at v
             → Comes (follow form l env v steps) limit p results results' c r
-        go l p (Result.count a q) env v m b is_count =
+        go {p = p} {v = v} is_count m b =
             g.told p (int_value (count (items_of v))) (record { whole = v; bound = b; same = refl })
-        go l p (Rattle.definitions.specs.Reader.convert _ _ _) env v m b x5 = elim x5 [ ]
-        go l p (Rattle.definitions.specs.Reader.keep _ _) env v m b x5 = elim x5 [ ]
-        go l p (Rattle.definitions.specs.Reader.each _ _ _) env v m b x7 = elim x7 [ ]
-        go l p (Rattle.definitions.specs.Reader.when _ _ _ _ _) env v m b x10 = elim x10 [ ]
-        go l p (Rattle.definitions.specs.Reader.choose _ _ _ _) env v m b x10 = elim x10 [ ]
-        go l p (Rattle.definitions.specs.Reader.literal _ _) env v m b x9 = elim x9 [ ]
-        go l p (Rattle.definitions.specs.Reader.pack _ _) env v m b x10 = elim x10 [ ]
 
     pub value_followed
         : {results' : List ℕ} {r : Part} {code : ℕ} → Following forms nodes pool bindings results limit c at steps 0 10
@@ -270,25 +255,19 @@ module _ {forms nodes pool bindings results : List ℕ} {limit : ℕ} {c : Curso
         record {
           kept = record { bound_kept = refl; front = g.front };
           told = λ l p form env v m b.
-              go l p form env v m b (e ∙ stands_code m.stands)
-              (same_of form (omega (arith, placed_some (has_place form m f.early).placed)) (omega (arith, e, k, stands_code m.stands)));
+              go (same_of form (omega (arith, placed_some (has_place form m f.early).placed)) (omega (arith, e, k, stands_code m.stands))) m b
+              (e ∙ stands_code m.stands);
         }
       where
-        go : (l : Limits) (p : List ℕ) (form : Result) (env : List Value) (v : Value)
-            → Meets forms nodes pool bindings limit c.row c.bound l p form env → Bound nodes p at v → code ≡ form_code form → IsSame form
+        go : {l : Limits} {p : List ℕ} {form : Result} {env : List Value} {v : Value} → IsSame form
+            → Meets forms nodes pool bindings limit c.row c.bound l p form env → Bound nodes p at v → code ≡ form_code form
             → Comes (follow form l env v steps) limit p results results' c r
-        go l p (Result.convert a to_int q) env v m b i is_convert =
+        go {p = p} {v = v} (is_convert {c = to_int}) m b i =
             g.told p (whole_value v) (record { handed = v; bound = b; by_int = λ z. refl; by_other = λ n. absurd (n i) })
-        go l p (Result.convert a to_dec q) env v m b i is_convert = g.told p v (handed_on b (λ e. omega (arith, e, i)))
-        go l p (Result.convert a to_bool q) env v m b i is_convert = g.told p v (handed_on b (λ e. omega (arith, e, i)))
-        go l p (Result.convert a to_text q) env v m b i is_convert = g.told p v (handed_on b (λ e. omega (arith, e, i)))
-        go l p (Result.keep a q) env v m b i is_keep = g.told p v (handed_on b (λ e. omega (arith, e, i)))
-        go l p (Rattle.definitions.specs.Reader.count _ _) env v m b i x5 = elim x5 [ ]
-        go l p (Rattle.definitions.specs.Reader.each _ _ _) env v m b i x7 = elim x7 [ ]
-        go l p (Rattle.definitions.specs.Reader.when _ _ _ _ _) env v m b i x10 = elim x10 [ ]
-        go l p (Rattle.definitions.specs.Reader.choose _ _ _ _) env v m b i x10 = elim x10 [ ]
-        go l p (Rattle.definitions.specs.Reader.literal _ _) env v m b i x9 = elim x9 [ ]
-        go l p (Rattle.definitions.specs.Reader.pack _ _) env v m b i x10 = elim x10 [ ]
+        go {p = p} {v = v} (is_convert {c = to_dec}) m b i = g.told p v (handed_on b (λ e. omega (arith, e, i)))
+        go {p = p} {v = v} (is_convert {c = to_bool}) m b i = g.told p v (handed_on b (λ e. omega (arith, e, i)))
+        go {p = p} {v = v} (is_convert {c = to_text}) m b i = g.told p v (handed_on b (λ e. omega (arith, e, i)))
+        go {p = p} {v = v} is_keep m b i = g.told p v (handed_on b (λ e. omega (arith, e, i)))
 
 -- ---- `when`
 
@@ -296,14 +275,7 @@ module _ {forms nodes pool bindings results : List ℕ} {limit : ℕ} {c : Curso
 module _ {forms nodes pool bindings results : List ℕ} {limit : ℕ} {c : Cursor} {at steps : ℕ} where
   pub when_room : Following forms nodes pool bindings results limit c at steps 10 10 → c.bound < length bindings
   unfolding result_levels
-  when_room f = go f.ready.form (when_of f.ready.form (omega (arith, f.late, f.early, stands_code f.ready.meets.stands))) f.ready.meets.room
+  when_room f = go (when_of f.ready.form (omega (arith, f.late, f.early, stands_code f.ready.meets.stands))) f.ready.meets.room
     where
-      go : (r : Result) → IsWhen r → c.bound + result_levels r ≤ length bindings + 1 → c.bound < length bindings
-      go (Result.when a k q r₁ r₂) is_when h = omega (arith, h, levels_some r₁)
-      go (Rattle.definitions.specs.Reader.convert _ _ _) x4 h = elim x4 [ ]
-      go (Rattle.definitions.specs.Reader.keep _ _) x4 h = elim x4 [ ]
-      go (Rattle.definitions.specs.Reader.count _ _) x5 h = elim x5 [ ]
-      go (Rattle.definitions.specs.Reader.each _ _ _) x7 h = elim x7 [ ]
-      go (Rattle.definitions.specs.Reader.choose _ _ _ _) x9 h = elim x9 [ ]
-      go (Rattle.definitions.specs.Reader.literal _ _) x8 h = elim x8 [ ]
-      go (Rattle.definitions.specs.Reader.pack _ _) x9 h = elim x9 [ ]
+      go : {r : Result} → IsWhen r → c.bound + result_levels r ≤ length bindings + 1 → c.bound < length bindings
+      go (is_when {r₁}) h = omega (arith, h, levels_some r₁)

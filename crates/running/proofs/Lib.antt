@@ -1,4 +1,3 @@
-pub mod Words
 pub mod Lookup
 pub mod PlaceRuns
 pub mod Operands

@@ -14,13 +14,14 @@ use Rattle.forms.specs.Forms.{literal_code, form_code, LiteralPayload, null_payl
 use Rattle.forms.specs.Forms.{text_payload, PlaceStands}
 use Rattle.forms.specs.FormsLaws.{stands_code, stands_at, place_stands_within, place_forms_some, levels_some}
 use Rattle.forms.specs.PartsLaws.{convert_place, keep_place, count_place, each_place, when_place, literal_stands}
-use Rattle.running.specs.declared.going.Seen.{Seen}
-use Rattle.running.specs.declared.going.Seen.TheVariants as SeenIs
+use Rattle.std.specs.Prelude.{Ok, Err}
+use Rattle.reading.specs.declared.Refusal.{Refusal}
+use Rattle.reading.specs.declared.Cause.TheVariants as cause
 use Rattle.running.specs.Bindings.{Bound}
 use Rattle.running.specs.Kinds.{wanted}
 use Rattle.running.specs.FormLaws.{PlacedForm, placed_convert, placed_keep, placed_count, placed_each, placed_when, operand_judged, judged_refused}
 use Rattle.running.specs.FormLaws.{judged_stuck, judged_given}
-use Rattle.running.specs.Walk.{Meets, MeetsPlace, OperandReady, PlaceReady, SeenAt, Sees, SeesPlace, SeesOperand}
+use Rattle.running.specs.Walk.{Seen, Meets, MeetsPlace, OperandReady, PlaceReady, SeenAt, Sees, SeesPlace, SeesOperand}
 
 literal_some : {p : List ℕ} {v : Value} {k : ℕ} → LiteralPayload p v k → 12 ≤ literal_code v
 unfolding literal_code
@@ -72,7 +73,7 @@ module _ {forms nodes pool bindings : List ℕ} {limit row bound : ℕ} {l : Lim
 
 seen
     : {forms nodes pool bindings : List ℕ} {limit row steps at behind : ℕ} {r : Seen} → SeesPlace forms nodes pool bindings limit (row + 3) steps r
-    → r ≡ SeenIs.At at behind → {l : Limits} {p : List ℕ} {form : Result} {env : List Value}
+    → r ≡ Ok (record { row = at; steps = behind }) → {l : Limits} {p : List ℕ} {form : Result} {env : List Value}
     → (h : HasPlace forms nodes pool bindings limit row l p form env)
     → SeenAt (run_place h.place l env steps) nodes p limit steps at behind
 seen {nodes = nodes} {limit = limit} {steps = steps} s e {l} {p} {form} {env} h =
@@ -92,23 +93,22 @@ module _ {forms nodes pool bindings : List ℕ} {limit row bound steps : ℕ} wh
 
   module _ (placed : get_or forms row 0 % 32 ≤ 10) {r : Seen} (s : SeesPlace forms nodes pool bindings limit (row + 3) steps r) where
     pub place_refused
-        : {number place : ℕ} → r ≡ SeenIs.Refused number place → SeesOperand forms nodes pool bindings limit row bound steps r
+        : {why : Refusal} → r ≡ Err why → SeesOperand forms nodes pool bindings limit row bound steps (Err why)
     place_refused e =
-        subst (SeesOperand forms nodes pool bindings limit row bound steps) (sym e)
-        (record {
+        record {
           told = λ l p form env m.
               let h = has_place form m placed in
               operand_judged l env steps h.placed
               ∙ judged_refused form
               (subst (Sees (run_place h.place l env steps) nodes p limit steps) e (s.told l p h.place env h.meets));
-        })
+        }
 
-    module _ {at behind : ℕ} (e : r ≡ SeenIs.At at behind) where
+    module _ {at behind : ℕ} (e : r ≡ Ok (record { row = at; steps = behind })) where
       module _ {b : Bool} {code : ℕ} (coded : code ≡ get_or forms row 0 % 32)
           (w : (p : List ℕ) (v : Value) (form : Result) → Bound nodes p at v → form_code form ≡ code → b ≡ wanted form v) where
         pub stuck
             : {place : ℕ} → b ≡ false → place ≡ get_or forms row 0 / 2048 % 65536
-            → SeesOperand forms nodes pool bindings limit row bound steps (SeenIs.Refused 12 place)
+            → SeesOperand forms nodes pool bindings limit row bound steps (Err (record { cause = cause.Stuck; place = place }))
         stuck n g =
             record {
               told = λ l p form env m.
@@ -120,7 +120,7 @@ module _ {forms nodes pool bindings : List ℕ} {limit row bound steps : ℕ} wh
                   ∙ ap (refused 12) (sym (g ∙ stands_at m.stands));
             }
 
-        pub judged_at : b ≡ true → SeesOperand forms nodes pool bindings limit row bound steps (SeenIs.At at behind)
+        pub judged_at : b ≡ true → SeesOperand forms nodes pool bindings limit row bound steps (Ok (record { row = at; steps = behind }))
         judged_at n =
             record {
               told = λ l p form env m.

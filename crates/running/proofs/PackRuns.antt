@@ -20,14 +20,14 @@ use Rattle.plain.specs.Table.{BoundedNumbers, BoundedMembers}
 use Rattle.forms.specs.Forms.{PairsStand, size_at}
 use Rattle.forms.specs.FormsLaws.{stands_code, stands_name, stands_size, stands_within, forms_some}
 use Rattle.forms.specs.PartsLaws as parts
+use Rattle.std.specs.Prelude.{Ok, Err}
+use Rattle.reading.specs.declared.Refusal.{Refusal}
 use Rattle.running.specs.declared.going.Cursor.{Cursor}
-use Rattle.running.specs.declared.going.Part.{Part}
-use Rattle.running.specs.declared.going.Part.TheVariants as PartIs
 use Rattle.running.specs.BindingsLaws.{binds_kept}
 use Rattle.running.specs.Codes.{IsPack, is_pack, pack_of}
 use Rattle.running.specs.FormLaws as laws
 use Rattle.running.specs.Rows.{MembersAt, RecordClosable, ClosesRecord}
-use Rattle.running.specs.Walk.{Meets, Paid, Ready, Entered, Made, Comes, Runs}
+use Rattle.running.specs.Walk.{Part, Meets, Paid, Ready, Entered, Made, Comes, Runs}
 use Rattle.running.proofs.WhenRuns.{part_meets}
 use Rattle.running.proofs.EachRuns.{PartsPut, parts_more, parts_stand}
 
@@ -86,15 +86,16 @@ module _ {forms nodes pool bindings₀ results₀ : List ℕ} {limit : ℕ} {c :
         bound_kept = refl;
         front = refl;
         later = omega arith;
-        going = λ l p form env m. go l p form env m (pack_of form (sym (stands_code m.stands) ∙ f.coded));
+        going = λ l p form env m. go (pack_of form (sym (stands_code m.stands) ∙ f.coded)) l p env m;
       }
     where
       good_of : {a : ℕ} {ps : Pairs} → GoodReader (Result.pack a ps) → GoodPairs ps
       good_of (good_pack g) = g
 
-      go : (l : Limits) (p : List ℕ) (form : Result) (env : List Value) → Meets forms nodes pool bindings₀ limit c.row c.bound l p form env
-          → IsPack form → PackState forms bindings₀ results₀ limit c end l p form env results₀ (c.row + 3) (c.begun + 1) (c.steps + 1)
-      go l p (Result.pack a ps) env m is_pack =
+      go : {form : Result} → IsPack form → (l : Limits) (p : List ℕ) (env : List Value)
+          → Meets forms nodes pool bindings₀ limit c.row c.bound l p form env
+          → PackState forms bindings₀ results₀ limit c end l p form env results₀ (c.row + 3) (c.begun + 1) (c.steps + 1)
+      go (is_pack {at = a} {ps}) l p env m =
           record {
             done = no_members;
             left = ps;
@@ -117,13 +118,6 @@ module _ {forms nodes pool bindings₀ results₀ : List ℕ} {limit : ℕ} {c :
               },
             );
           }
-      go l p (Rattle.definitions.specs.Reader.convert at _ _) env m x4 = elim x4 [ ]
-      go l p (Rattle.definitions.specs.Reader.keep at _) env m x4 = elim x4 [ ]
-      go l p (Rattle.definitions.specs.Reader.count at _) env m x5 = elim x5 [ ]
-      go l p (Rattle.definitions.specs.Reader.each at _ _) env m x7 = elim x7 [ ]
-      go l p (Rattle.definitions.specs.Reader.when at _ _ _ _) env m x10 = elim x10 [ ]
-      go l p (Rattle.definitions.specs.Reader.choose at _ _ _) env m x10 = elim x10 [ ]
-      go l p (Rattle.definitions.specs.Reader.literal at _) env m x9 = elim x9 [ ]
 
   module _ {end : ℕ} {bindings results : List ℕ} {row begun steps : ℕ}
       (w : PackLoop forms nodes pool bindings₀ results₀ limit c end bindings results row begun steps) where
@@ -207,11 +201,10 @@ module _ {forms nodes pool bindings₀ results₀ : List ℕ} {limit : ℕ} {c :
             ∙ w.front
 
         pub part_refused
-            : {number place : ℕ} → r ≡ PartIs.Refused number place
-            → Runs forms nodes pool bindings₀ bindings' results₀ results' limit c r
+            : {why : Refusal} → r ≡ Err why
+            → Runs forms nodes pool bindings₀ bindings' results₀ results' limit c (Err why)
         part_refused e =
-            subst (Runs forms nodes pool bindings₀ bindings' results₀ results' limit c) (sym e)
-            (record {
+            record {
               kept = record { bound_kept = ran.kept.bound_kept ∙ w.bound_kept; front = front_kept };
               told = λ l p form env m.
                   let s = w.going l p form env m in
@@ -220,10 +213,11 @@ module _ {forms nodes pool bindings₀ results₀ : List ℕ} {limit : ℕ} {c :
                   ∙ ap (λ (ps : Pairs). laws.members_behind s.done (run_pairs ps l env steps)) k.same
                   ∙ laws.pack_refused k.text k.result k.others l env s.done steps
                   (subst (Comes (run k.result l env steps) limit p results results' (part name)) e (ran.told l p k.result env k.meets));
-            })
+            }
 
         pub part_done
-            : {kind to after n : ℕ} → r ≡ PartIs.Done kind to after → length bindings' ≡ length bindings → length results' ≡ length results
+            : {kind to after n : ℕ} → r ≡ Ok (record { kind = kind; begun = to; steps = after }) → length bindings' ≡ length bindings
+            → length results' ≡ length results
             → n ≡ size_at forms row
             → PackLoop forms nodes pool bindings₀ results₀ limit c end bindings' results' (row + n) to after
         unfolding size BoundedNumbers
@@ -306,7 +300,7 @@ module _ {forms nodes pool bindings₀ results₀ : List ℕ} {limit : ℕ} {c :
 
       pub pack_ends
           : {results' : List ℕ} → ClosesRecord results results' pool c.begun begun c.name
-          → Runs forms nodes pool bindings₀ bindings results₀ results' limit c (PartIs.Done 6 begun steps)
+          → Runs forms nodes pool bindings₀ bindings results₀ results' limit c (Ok (record { kind = 6; begun = begun; steps = steps }))
       unfolding size kind_code BoundedNumbers
       pack_ends {results'} k =
           record {

@@ -1,5 +1,5 @@
 -- What running a place answers, for each way through it. Assumes nothing.
-use Prim.Native.Nat.{ℕ, suc, ◌+◌, ◌/◌, ◌%◌, ◌^◌, ◌≤◌, ◌<◌}
+use Prim.Native.Nat.{ℕ, suc, ◌+◌, ◌/◌, ◌%◌, ◌≤◌, ◌<◌}
 use native.Mathlib.Numerals.{add-one}
 use native.Mathlib.Omega.{arith}
 use mathlib.Core.Path.{◌≡◌, refl, sym, ap, ◌∙◌, subst}
@@ -15,16 +15,17 @@ use Rattle.nodes.specs.Nodes.{Refers}
 use Rattle.forms.specs.Forms.{place_code, place_at, slot}
 use Rattle.forms.specs.FormsLaws.{place_stands_code, place_stands_within, place_forms_some}
 use Rattle.forms.specs.PartsLaws.{it_slot, field_name, field_place}
-use Rattle.running.specs.declared.going.Seen.{Seen}
-use Rattle.running.specs.declared.going.Seen.TheVariants as SeenIs
+use Rattle.std.specs.Prelude.{Ok, Err}
+use Rattle.reading.specs.declared.Refusal.{Refusal}
+use Rattle.reading.specs.declared.Cause.TheVariants as cause
 use Rattle.running.specs.Bindings.{Bound, standing}
-use Rattle.running.specs.BindingsLaws.{bound_kind, bound_within, binds_at, slot_within}
+use Rattle.running.specs.BindingsLaws.{bound_kind, binds_at, slot_within}
 use Rattle.running.specs.Codes.{IsIt, is_it, it_of}
 use Rattle.running.specs.Members.{RecordAt, SomeRecord}
 use Rattle.running.specs.PlaceLaws.{place_stops, it_given, field_of, field_entered, field_refused, field_stuck, field_through, IsRec, is_rec}
 use Rattle.running.specs.PlaceLaws.{rec_of_kind, field_given}
 use Rattle.running.specs.PlaceLaws.{place_stands_at}
-use Rattle.running.specs.Walk.{MeetsPlace, PlaceReady, SeenAt, Sees, SeesPlace}
+use Rattle.running.specs.Walk.{Seen, MeetsPlace, PlaceReady, SeenAt, Sees, SeesPlace}
 
 -- the place is a field
 record FieldParts (forms nodes pool bindings : List ℕ) (limit row : ℕ) (l : Limits) (p : List ℕ) (q : Place) (env : List Value) : Type 0 where
@@ -64,20 +65,12 @@ module _ {forms nodes pool bindings : List ℕ} {limit row : ℕ} where
 
   pub stopped
       : {steps place : ℕ} → limit ≤ steps → place ≡ get_or forms row 0 / 2048 % 65536
-      → SeesPlace forms nodes pool bindings limit row steps (SeenIs.Refused 13 place)
+      → SeesPlace forms nodes pool bindings limit row steps (Err (record { cause = cause.StepLimit; place = place }))
   stopped {steps} h e =
       record {
         told = λ l p q env m.
             place_stops q l env steps (omega (arith, m.limited)) ∙ ap (refused 13) (sym (e ∙ place_stands_at m.stands));
       }
-
-  -- a word has room for where its value stands
-  pub seen_fits
-      : {steps at behind : ℕ} → PlaceReady forms nodes pool bindings limit row steps
-      → SeesPlace forms nodes pool bindings limit row steps (SeenIs.At at behind) → (at < 2 ^ 31) × (behind < 2 ^ 32)
-  seen_fits r s =
-      let x = s.told r.limits r.used r.place r.env r.meets in
-      (omega (arith, bound_within x.bound, r.small), omega (arith, x.left, r.few))
 
   -- ---- `it`
 
@@ -86,12 +79,12 @@ module _ {forms nodes pool bindings : List ℕ} {limit row : ℕ} where
       → get_or forms row 0 % 32 ≡ 1 → steps < limit
       → (get_or forms (row + 1) 0 < length bindings)
       × SeenAt (run_place q l env steps) nodes p limit steps (get_or bindings (get_or forms (row + 1) 0) 0) (suc steps)
-  it_parts {l} {p} q {env} steps m f h = go q (it_of q (sym (place_stands_code m.stands) ∙ f)) m
+  it_parts {l} {p} q {env} steps m f h = go (it_of q (sym (place_stands_code m.stands) ∙ f)) m
     where
-      go : (a : Place) → IsIt a → MeetsPlace forms nodes pool bindings limit row l p a env
+      go : {a : Place} → IsIt a → MeetsPlace forms nodes pool bindings limit row l p a env
           → (get_or forms (row + 1) 0 < length bindings)
           × SeenAt (run_place a l env steps) nodes p limit steps (get_or bindings (get_or forms (row + 1) 0) 0) (suc steps)
-      go (Place.it at n) is_it w =
+      go (is_it {at} {n}) w =
           let s = it_slot w.stands in
           let e : get_or forms (row + 1) 0 ≡ slot (length env) n = s.0 ∙ ap (λ (d : ℕ). slot d n) (sym w.counted) in
           let k : n < length env = omega (arith, s.1, w.counted) in (
@@ -104,7 +97,6 @@ module _ {forms nodes pool bindings : List ℕ} {limit row : ℕ} where
               left = omega arith;
             },
           )
-      go (Rattle.definitions.specs.Reader.field at name _) x3 w = elim x3 [ ]
 
   pub it_within
       : {steps : ℕ} → PlaceReady forms nodes pool bindings limit row steps → get_or forms row 0 % 32 ≡ 1 → steps < limit
@@ -113,7 +105,7 @@ module _ {forms nodes pool bindings : List ℕ} {limit row : ℕ} where
 
   pub it_seen
       : {steps payload : ℕ} → get_or forms row 0 % 32 ≡ 1 → steps < limit → payload ≡ get_or forms (row + 1) 0
-      → SeesPlace forms nodes pool bindings limit row steps (SeenIs.At (get_or bindings payload 0) (steps + 1))
+      → SeesPlace forms nodes pool bindings limit row steps (Ok (record { row = (get_or bindings payload 0); steps = (steps + 1) }))
   it_seen {steps} {payload} f h e =
       record {
         told = λ l p q env m.
@@ -147,19 +139,18 @@ module _ {forms nodes pool bindings : List ℕ} {limit row : ℕ} where
         ∙ ap (λ (n : ℕ). field_of k.at k.name (run_place k.inner l env n)) (sym (add-one steps))
 
     pub inner_refused
-        : {r : Seen} {number place : ℕ} → steps < limit → SeesPlace forms nodes pool bindings limit (row + 3) (steps + 1) r
-        → r ≡ SeenIs.Refused number place → SeesPlace forms nodes pool bindings limit row steps r
-    inner_refused {r} {number} {place} h s e =
-        subst (SeesPlace forms nodes pool bindings limit row steps) (sym e)
-        (record {
+        : {r : Seen} {why : Refusal} → steps < limit → SeesPlace forms nodes pool bindings limit (row + 3) (steps + 1) r
+        → r ≡ Err why → SeesPlace forms nodes pool bindings limit row steps (Err why)
+    inner_refused {r} {why} h s e =
+        record {
           told = λ l p q env m.
               let k = field_parts q m f in
               entered k h ∙ field_refused k.at k.name
               (subst (Sees (run_place k.inner l env (steps + 1)) nodes p limit (steps + 1)) e (s.told l p k.inner env k.meets));
-        })
+        }
 
     module _ {r : Seen} {at behind kind : ℕ} (h : steps < limit)
-        (s : SeesPlace forms nodes pool bindings limit (row + 3) (steps + 1) r) (e : r ≡ SeenIs.At at behind)
+        (s : SeesPlace forms nodes pool bindings limit (row + 3) (steps + 1) r) (e : r ≡ Ok (record { row = at; steps = behind }))
         (kinded : kind ≡ get_or nodes at 0 % 8) where
       seen
           : {l : Limits} {p : List ℕ} {q : Place} {env : List Value} (k : FieldParts forms nodes pool bindings limit row l p q env)
@@ -169,7 +160,7 @@ module _ {forms nodes pool bindings : List ℕ} {limit row : ℕ} where
 
       pub stuck
           : {place : ℕ} → (kind ≡ 0 → ⊥) → (kind ≡ 6 → ⊥) → place ≡ get_or forms row 0 / 2048 % 65536
-          → SeesPlace forms nodes pool bindings limit row steps (SeenIs.Refused 12 place)
+          → SeesPlace forms nodes pool bindings limit row steps (Err (record { cause = cause.Stuck; place = place }))
       stuck z n g =
           record {
             told = λ l p q env m.
@@ -182,7 +173,7 @@ module _ {forms nodes pool bindings : List ℕ} {limit row : ℕ} where
           }
 
       -- null is left where it stands
-      pub through : kind ≡ 0 → SeesPlace forms nodes pool bindings limit row steps (SeenIs.At at behind)
+      pub through : kind ≡ 0 → SeesPlace forms nodes pool bindings limit row steps (Ok (record { row = at; steps = behind }))
       through z =
           record {
             told = λ l p q env m.
@@ -202,39 +193,34 @@ module _ {forms nodes pool bindings : List ℕ} {limit row : ℕ} where
       some_record n w =
           let k = field_parts w.place w.meets f in
           let x = seen k in
-          go x.value (rec_of_kind x.value (sym (kinded ∙ bound_kind x.bound) ∙ n)) x.bound
+          go (rec_of_kind x.value (sym (kinded ∙ bound_kind x.bound) ∙ n)) x.bound
         where
-          go : (v : Value) → IsRec v → Bound nodes w.used at v → SomeRecord nodes pool at
-          go (Value.rec ms) is_rec (standing {m} b bd) =
+          go : {v : Value} → IsRec v → Bound nodes w.used at v → SomeRecord nodes pool at
+          go (is_rec {ms}) (standing {m} b bd) =
               record {
                 used = w.used;
                 members = ms;
                 held = record { name = m; stands = b; bounded = bd; pooled = w.meets.pooled };
                 small = w.small;
               }
-          go Rattle.definitions.specs.Value.null x'' _ = elim x'' [ ]
-          go (Rattle.definitions.specs.Value.bool _) x4 _ = elim x4 [ ]
-          go (Rattle.definitions.specs.Value.number _) x5 _ = elim x5 [ ]
-          go (Rattle.definitions.specs.Value.text _) x6 _ = elim x6 [ ]
-          go (Rattle.definitions.specs.Value.list _) x7 _ = elim x7 [ ]
 
       pub found
           : {row' payload : ℕ} → kind ≡ 6 → payload ≡ get_or forms (row + 1) 0
           → ((p : List ℕ) (ms : Members) (n : Bytes) → RecordAt nodes pool at p ms → Refers p n payload → Bound nodes p row' (member_of n ms))
-          → SeesPlace forms nodes pool bindings limit row steps (SeenIs.At row' behind)
+          → SeesPlace forms nodes pool bindings limit row steps (Ok (record { row = row'; steps = behind }))
       found {row'} {payload} n g b =
           record {
             told = λ l p q env m.
                 let k = field_parts q m f in
                 let x = seen k in
-                go l p q env m k x.value (rec_of_kind x.value (sym (kinded ∙ bound_kind x.bound) ∙ n)) x.bound x.ran x.counted x.left;
+                go l p q env m k (rec_of_kind x.value (sym (kinded ∙ bound_kind x.bound) ∙ n)) x.bound x.ran x.counted x.left;
           }
         where
           go : (l : Limits) (p : List ℕ) (q : Place) (env : List Value) → MeetsPlace forms nodes pool bindings limit row l p q env
-              → (k : FieldParts forms nodes pool bindings limit row l p q env) (v : Value) → IsRec v → Bound nodes p at v
+              → (k : FieldParts forms nodes pool bindings limit row l p q env) {v : Value} → IsRec v → Bound nodes p at v
               → run_place k.inner l env (steps + 1) ≡ gives v behind → steps + 1 ≤ behind → behind ≤ limit
               → SeenAt (run_place q l env steps) nodes p limit steps row' behind
-          go l p q env m k (Value.rec ms) is_rec (standing {m = j} w bd) ran more left =
+          go l p q env m k (is_rec {ms}) (standing {m = j} w bd) ran more left =
               record {
                 value = member_of k.name ms;
                 ran = entered k h ∙ field_given k.at k.name ms behind ran;
@@ -244,8 +230,3 @@ module _ {forms nodes pool bindings : List ℕ} {limit row : ℕ} where
                 counted = omega (arith, more);
                 left = left;
               }
-          go l p q env m k Rattle.definitions.specs.Value.null x5 _ ran more left = elim x5 [ ]
-          go l p q env m k (Rattle.definitions.specs.Value.bool _) x7 _ ran more left = elim x7 [ ]
-          go l p q env m k (Rattle.definitions.specs.Value.number _) x8 _ ran more left = elim x8 [ ]
-          go l p q env m k (Rattle.definitions.specs.Value.text _) x9 _ ran more left = elim x9 [ ]
-          go l p q env m k (Rattle.definitions.specs.Value.list _) x10 _ ran more left = elim x10 [ ]

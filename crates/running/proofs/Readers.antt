@@ -14,14 +14,14 @@ use Rattle.definitions.specs.Reader.{Result}
 use Rattle.definitions.specs.Running.{run, run_reader}
 use Rattle.nodes.specs.Standing.{ValueStands}
 use Rattle.forms.specs.FormsLaws.{levels_some}
+use Rattle.std.specs.Prelude.{Ok, Err}
+use Rattle.reading.specs.declared.Refusal.{Refusal}
+use Rattle.running.specs.declared.Halt.TheVariants as halt
 use Rattle.running.specs.declared.going.Cursor.{Cursor}
-use Rattle.running.specs.declared.going.Part.{Part}
-use Rattle.running.specs.declared.going.Part.TheVariants as PartIs
-use Rattle.running.specs.declared.Came.TheVariants as CameIs
 use Rattle.running.specs.Bindings.{Bound, standing, no_binding, binding}
 use Rattle.running.specs.Depth.{SomeValue}
 use Rattle.running.specs.Run.{ReadsBoth, Runnable, RunsReader}
-use Rattle.running.specs.Walk.{Meets, Ready, Made, Comes, Runs}
+use Rattle.running.specs.Walk.{Part, Meets, Ready, Made, Comes, Runs}
 
 -- where it begins
 abbrev pub start : Cursor
@@ -65,20 +65,20 @@ module _ {forms nodes pool : List ℕ} (bindings : List ℕ) {l : Limits} (room 
       }
 
   module _ {bindings' results results' : List ℕ} {r : Part} (ran : Runs forms nodes pool (set bindings 0 0) bindings' results results' l.steps start r) where
-    pub refused_at : {number place : ℕ} → r ≡ PartIs.Refused number place → RunsReader forms nodes pool results' l (CameIs.Refused number place)
+    pub refused_at : {why : Refusal} → r ≡ Err why → RunsReader forms nodes pool results' l (Err (halt.Refused why))
     unfolding run_reader
     refused_at e =
         record {
           told = λ p form v h. subst (Comes (run form l (v ∷ []) 0) l.steps p results results' start) e (ran.told l p form (v ∷ []) (meets h));
         }
 
-    module _ {kind begun steps : ℕ} (e : r ≡ PartIs.Done kind begun steps) where
+    module _ {kind begun steps : ℕ} (e : r ≡ Ok (record { kind = kind; begun = begun; steps = steps })) where
       made
           : {p : List ℕ} {form : Result} {v : Value} → ReadsBoth forms nodes pool l p form v
           → Made (run form l (v ∷ []) 0) l.steps p results results' start kind begun steps
       made {p} {form} {v} h = subst (Comes (run form l (v ∷ []) 0) l.steps p results results' start) e (ran.told l p form (v ∷ []) (meets h))
 
-      pub too_many : l.values < begun → RunsReader forms nodes pool results' l CameIs.Over
+      pub too_many : l.values < begun → RunsReader forms nodes pool results' l (Err halt.Over)
       unfolding run_reader
       too_many h =
           record {
@@ -120,7 +120,7 @@ module _ {forms nodes pool : List ℕ} (bindings : List ℕ) {l : Limits} (room 
           sized : {p : List ℕ} {form : Result} {v : Value} (q : ReadsBoth forms nodes pool l p form v) → ltb l.values (size (made q).value) ≡ false
           sized q = le-ltb l.values (size (made q).value) (omega (arith, few, (made q).puts.counted))
 
-          pub too_deep : b ≡ true → RunsReader forms nodes pool results' l CameIs.Over
+          pub too_deep : b ≡ true → RunsReader forms nodes pool results' l (Err halt.Over)
           unfolding run_reader
           too_deep t =
               record {
@@ -134,7 +134,7 @@ module _ {forms nodes pool : List ℕ} (bindings : List ℕ) {l : Limits} (room 
                     };
               }
 
-          pub allowed : b ≡ false → RunsReader forms nodes pool results' l (CameIs.Ran steps)
+          pub allowed : b ≡ false → RunsReader forms nodes pool results' l (Ok steps)
           unfolding run_reader
           allowed t =
               record {

@@ -22,8 +22,8 @@ use Rattle.plain.specs.HeadLaws.{head_kind}
 use Rattle.plain.specs.Table.{BoundedNumbers, Used}
 use Rattle.plain.specs.TableLaws.{found}
 use Rattle.forms.specs.Forms.{literal_code, LiteralPayload, null_payload, yes_payload, no_payload, number_payload, text_payload}
+use Rattle.std.specs.Prelude.{Ok}
 use Rattle.running.specs.declared.going.Cursor.{Cursor}
-use Rattle.running.specs.declared.going.Part.TheVariants as PartIs
 use Rattle.running.specs.Bindings.{Bound, standing, missing}
 use Rattle.running.specs.BindingsLaws.{bound_kind}
 use Rattle.running.specs.Lengths.{text_most}
@@ -45,12 +45,6 @@ bound_bounded (missing e) = tt
 
 pub few_begun : {limit : ℕ} {c : Cursor} {steps : ℕ} → Giving limit c steps → c.begun < 2 ^ 60
 few_begun g = omega (arith, g.paid, g.counted, g.left, g.few)
-
--- a word has room for what is given
-pub done_fits
-    : {limit : ℕ} {c : Cursor} {steps kind begun : ℕ} → Giving limit c steps → kind < 8 → begun ≤ c.begun + 65536
-    → (kind < 8) × (begun < 2 ^ 39) × (steps < 2 ^ 21)
-done_fits g k h = (k, omega (arith, g.paid, g.counted, g.left, g.few), omega (arith, g.left, g.few))
 
 literal_row_of
     : {p : List ℕ} {v : Value} {k : ℕ} (name : ℕ) → LiteralPayload p v k → Rows p name v (head_word v ∷ k ∷ name ∷ [])
@@ -94,7 +88,7 @@ module _ {results results' : List ℕ} {limit : ℕ} {c : Cursor} {steps : ℕ} 
   pub value_given
       : {nodes : List ℕ} {at kind begun : ℕ} → SomeBound nodes at 0 → kind ≡ get_or nodes at 0 % 8
       → Keeps nodes at results results' c.begun c.name begun
-      → Gives results results' limit c steps (λ p v. Bound nodes p at v) (PartIs.Done kind begun steps)
+      → Gives results results' limit c steps (λ p v. Bound nodes p at v) (Ok (record { kind = kind; begun = begun; steps = steps }))
   value_given s k q =
       record {
         front = q.front;
@@ -119,7 +113,7 @@ module _ {results results' : List ℕ} {limit : ℕ} {c : Cursor} {steps : ℕ} 
       → ((x : Number) → NumberWord 0 n x → head ≡ head_word (Value.number x))
       → PutRow results results' c.begun head n c.name begun
       → n ≤ 65536
-      → Gives results results' limit c steps (Counts nodes at) (PartIs.Done 3 begun steps)
+      → Gives results results' limit c steps (Counts nodes at) (Ok (record { kind = 3; begun = begun; steps = steps }))
   unfolding int_value
   count_given {nodes} {at} {begun} {head} {n} s m h q few =
       record {
@@ -138,7 +132,7 @@ module _ {results results' : List ℕ} {limit : ℕ} {c : Cursor} {steps : ℕ} 
       → ((p : List ℕ) (v : Value) → LiteralAt forms pool c.row p v → head ≡ head_word v)
       → payload ≡ get_or forms (c.row + 1) 0
       → PutRow results results' c.begun head payload c.name begun
-      → Gives results results' limit c steps (λ p v. LiteralAt forms pool c.row p v) (PartIs.Done (head % 8) begun steps)
+      → Gives results results' limit c steps (λ p v. LiteralAt forms pool c.row p v) (Ok (record { kind = (head % 8); begun = begun; steps = steps }))
   literal_given_here {forms} {pool} {begun} {head} {payload} h e q =
       record {
         front = q.front;
@@ -216,76 +210,66 @@ module _ {forms pool : List ℕ} {row code : ℕ} (coded : code ≡ get_or forms
       : code ≡ 12 → {bits payload : ℕ} → bits ≡ get_or forms row 0 / 32 % 64 → payload ≡ get_or forms (row + 1) 0 → (p : List ℕ) (v : Value)
       → LiteralAt forms pool row p v → (x : Number) × (v ≡ Value.number x) × NumberWord bits payload x
   unfolding literal_code number_bits BoundedNumbers
-  literal_number e {bits} {payload} f g p v h = go v h.payload g h.coded h.operand h.bounded
+  literal_number e {bits} {payload} f g p v h = go h.payload g h.coded h.operand h.bounded
     where
-      go : (w : Value) {j : ℕ} → LiteralPayload p w j → payload ≡ j → get_or forms row 0 % 32 ≡ literal_code w → get_or forms row 0 / 32 % 64 ≡ number_bits w
+      go : {w : Value} {j : ℕ} → LiteralPayload p w j → payload ≡ j → get_or forms row 0 % 32 ≡ literal_code w → get_or forms row 0 / 32 % 64 ≡ number_bits w
           → BoundedNumbers w → (x : Number) × (w ≡ Value.number x) × NumberWord bits payload x
-      go Value.null null_payload y k o b = absurd (let z : ⊥ = omega (arith, k, coded, e) in z)
-      go (Value.bool true) yes_payload y k o b = absurd (let z : ⊥ = omega (arith, k, coded, e) in z)
-      go (Value.bool false) no_payload y k o b = absurd (let z : ⊥ = omega (arith, k, coded, e) in z)
-      go (Value.number x) number_payload y k o b = (x, refl, record { signed = f ∙ o; whole = y; bounded = b })
-      go (Value.text t) (text_payload q) y k o b = absurd (let z : ⊥ = omega (arith, k, coded, e) in z)
-      go (Rattle.definitions.specs.Value.list _) {j = j} x6 y k o b = elim x6 [ ]
-      go (Rattle.definitions.specs.Value.rec _) {j = j} x7 y k o b = elim x7 [ ]
+      go null_payload y k o b = absurd (let z : ⊥ = omega (arith, k, coded, e) in z)
+      go yes_payload y k o b = absurd (let z : ⊥ = omega (arith, k, coded, e) in z)
+      go no_payload y k o b = absurd (let z : ⊥ = omega (arith, k, coded, e) in z)
+      go (number_payload {x = x}) y k o b = (x, refl, record { signed = f ∙ o; whole = y; bounded = b })
+      go (text_payload {t = t} q) y k o b = absurd (let z : ⊥ = omega (arith, k, coded, e) in z)
 
   pub literal_text
       : code ≡ 13 → {payload : ℕ} → payload ≡ get_or forms (row + 1) 0 → (p : List ℕ) (v : Value)
       → LiteralAt forms pool row p v → (t : Bytes) × (v ≡ Value.text t) × Refers p t payload
   unfolding literal_code
-  literal_text e {payload} g p v h = go v h.payload g h.coded
+  literal_text e {payload} g p v h = go h.payload g h.coded
     where
-      go : (w : Value) {j : ℕ} → LiteralPayload p w j → payload ≡ j → get_or forms row 0 % 32 ≡ literal_code w
+      go : {w : Value} {j : ℕ} → LiteralPayload p w j → payload ≡ j → get_or forms row 0 % 32 ≡ literal_code w
           → (t : Bytes) × (w ≡ Value.text t) × Refers p t payload
-      go Value.null null_payload y k = absurd (let z : ⊥ = omega (arith, k, coded, e) in z)
-      go (Value.bool true) yes_payload y k = absurd (let z : ⊥ = omega (arith, k, coded, e) in z)
-      go (Value.bool false) no_payload y k = absurd (let z : ⊥ = omega (arith, k, coded, e) in z)
-      go (Value.number x) number_payload y k = absurd (let z : ⊥ = omega (arith, k, coded, e) in z)
-      go (Value.text t) (text_payload q) y k = (t, refl, subst (Refers p t) (sym y) q)
-      go (Rattle.definitions.specs.Value.list _) {j = j} x4 y k = elim x4 [ ]
-      go (Rattle.definitions.specs.Value.rec _) {j = j} x5 y k = elim x5 [ ]
+      go null_payload y k = absurd (let z : ⊥ = omega (arith, k, coded, e) in z)
+      go yes_payload y k = absurd (let z : ⊥ = omega (arith, k, coded, e) in z)
+      go no_payload y k = absurd (let z : ⊥ = omega (arith, k, coded, e) in z)
+      go (number_payload {x = x}) y k = absurd (let z : ⊥ = omega (arith, k, coded, e) in z)
+      go (text_payload {t = t} q) y k = (t, refl, subst (Refers p t) (sym y) q)
 
   pub literal_yes
       : code ≡ 14 → {head : ℕ} → head ≡ head_of 2 0 4 → (p : List ℕ) (v : Value) → LiteralAt forms pool row p v → head ≡ head_word v
   unfolding literal_code kind_code number_bits plain plain_bool true_name bytes
-  literal_yes e {head} f p v h = go v h.payload h.coded
+  literal_yes e {head} f p v h = go h.payload h.coded
     where
-      go : (w : Value) {j : ℕ} → LiteralPayload p w j → get_or forms row 0 % 32 ≡ literal_code w → head ≡ head_word w
-      go Value.null null_payload k = absurd (let z : ⊥ = omega (arith, k, coded, e) in z)
-      go (Value.bool true) yes_payload k = f ∙ head_word_is (Value.bool true) refl refl refl
-      go (Value.bool false) no_payload k = absurd (let z : ⊥ = omega (arith, k, coded, e) in z)
-      go (Value.number x) number_payload k = absurd (let z : ⊥ = omega (arith, k, coded, e) in z)
-      go (Value.text t) (text_payload q) k = absurd (let z : ⊥ = omega (arith, k, coded, e) in z)
-      go (Rattle.definitions.specs.Value.list _) {j = j} x3 k = elim x3 [ ]
-      go (Rattle.definitions.specs.Value.rec _) {j = j} x4 k = elim x4 [ ]
+      go : {w : Value} {j : ℕ} → LiteralPayload p w j → get_or forms row 0 % 32 ≡ literal_code w → head ≡ head_word w
+      go null_payload k = absurd (let z : ⊥ = omega (arith, k, coded, e) in z)
+      go yes_payload k = f ∙ head_word_is (Value.bool true) refl refl refl
+      go no_payload k = absurd (let z : ⊥ = omega (arith, k, coded, e) in z)
+      go (number_payload {x = x}) k = absurd (let z : ⊥ = omega (arith, k, coded, e) in z)
+      go (text_payload {t = t} q) k = absurd (let z : ⊥ = omega (arith, k, coded, e) in z)
 
   pub literal_no
       : code ≡ 15 → {head : ℕ} → head ≡ head_of 1 0 5 → (p : List ℕ) (v : Value) → LiteralAt forms pool row p v → head ≡ head_word v
   unfolding literal_code kind_code number_bits plain plain_bool false_name bytes
-  literal_no e {head} f p v h = go v h.payload h.coded
+  literal_no e {head} f p v h = go h.payload h.coded
     where
-      go : (w : Value) {j : ℕ} → LiteralPayload p w j → get_or forms row 0 % 32 ≡ literal_code w → head ≡ head_word w
-      go Value.null null_payload k = absurd (let z : ⊥ = omega (arith, k, coded, e) in z)
-      go (Value.bool true) yes_payload k = absurd (let z : ⊥ = omega (arith, k, coded, e) in z)
-      go (Value.bool false) no_payload k = f ∙ head_word_is (Value.bool false) refl refl refl
-      go (Value.number x) number_payload k = absurd (let z : ⊥ = omega (arith, k, coded, e) in z)
-      go (Value.text t) (text_payload q) k = absurd (let z : ⊥ = omega (arith, k, coded, e) in z)
-      go (Rattle.definitions.specs.Value.list _) {j = j} x3 k = elim x3 [ ]
-      go (Rattle.definitions.specs.Value.rec _) {j = j} x4 k = elim x4 [ ]
+      go : {w : Value} {j : ℕ} → LiteralPayload p w j → get_or forms row 0 % 32 ≡ literal_code w → head ≡ head_word w
+      go null_payload k = absurd (let z : ⊥ = omega (arith, k, coded, e) in z)
+      go yes_payload k = absurd (let z : ⊥ = omega (arith, k, coded, e) in z)
+      go no_payload k = f ∙ head_word_is (Value.bool false) refl refl refl
+      go (number_payload {x = x}) k = absurd (let z : ⊥ = omega (arith, k, coded, e) in z)
+      go (text_payload {t = t} q) k = absurd (let z : ⊥ = omega (arith, k, coded, e) in z)
 
   pub literal_none
       : (code ≡ 12 → ⊥) → (code ≡ 13 → ⊥) → (code ≡ 14 → ⊥) → (code ≡ 15 → ⊥) → {head : ℕ} → head ≡ head_of 0 0 4 → (p : List ℕ) (v : Value)
       → LiteralAt forms pool row p v → head ≡ head_word v
   unfolding literal_code kind_code number_bits plain null_name bytes
-  literal_none a b d e {head} f p v h = go v h.payload h.coded
+  literal_none a b d e {head} f p v h = go h.payload h.coded
     where
-      go : (w : Value) {j : ℕ} → LiteralPayload p w j → get_or forms row 0 % 32 ≡ literal_code w → head ≡ head_word w
-      go Value.null null_payload k = f ∙ head_word_is Value.null refl refl refl
-      go (Value.bool true) yes_payload k = absurd (d (coded ∙ k))
-      go (Value.bool false) no_payload k = absurd (e (coded ∙ k))
-      go (Value.number x) number_payload k = absurd (a (coded ∙ k))
-      go (Value.text t) (text_payload q) k = absurd (b (coded ∙ k))
-      go (Rattle.definitions.specs.Value.list _) {j = j} x3 k = elim x3 [ ]
-      go (Rattle.definitions.specs.Value.rec _) {j = j} x4 k = elim x4 [ ]
+      go : {w : Value} {j : ℕ} → LiteralPayload p w j → get_or forms row 0 % 32 ≡ literal_code w → head ≡ head_word w
+      go null_payload k = f ∙ head_word_is Value.null refl refl refl
+      go yes_payload k = absurd (d (coded ∙ k))
+      go no_payload k = absurd (e (coded ∙ k))
+      go (number_payload {x = x}) k = absurd (a (coded ∙ k))
+      go (text_payload {t = t} q) k = absurd (b (coded ∙ k))
 
 -- a text of the pool, at a reference
 module _ {pool : List ℕ} {k w n : ℕ} (worded : w ≡ k % 65536) (sized : n ≡ k / 65536) where

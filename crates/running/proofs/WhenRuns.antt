@@ -20,14 +20,15 @@ use Rattle.laws.specs.Good.{GoodReader, good_when, good_choose}
 use Rattle.forms.specs.Forms.{form_operand, form_at, test_code, FormStands, size_at}
 use Rattle.forms.specs.FormsLaws.{stands_code, stands_operand, stands_at, stands_within, forms_some, levels_some}
 use Rattle.forms.specs.PartsLaws as parts
+use Rattle.std.specs.Prelude.{Ok, Err}
+use Rattle.reading.specs.declared.Refusal.{Refusal}
+use Rattle.reading.specs.declared.Cause.TheVariants as cause
 use Rattle.running.specs.declared.going.Cursor.{Cursor}
-use Rattle.running.specs.declared.going.Part.{Part}
-use Rattle.running.specs.declared.going.Part.TheVariants as PartIs
 use Rattle.running.specs.Bindings.{Bound, Binds}
 use Rattle.running.specs.BindingsLaws.{binds_kept, binds_more}
 use Rattle.running.specs.Codes.{IsWhen, is_when, IsChoose, is_choose, when_of, choose_of}
 use Rattle.running.specs.FormLaws as laws
-use Rattle.running.specs.Walk.{follow, Meets, Ready, Entered, Following, branch, Made, Comes, Kept, Runs, Follows}
+use Rattle.running.specs.Walk.{Part, follow, Meets, Ready, Entered, Following, branch, Made, Comes, Kept, Runs, Follows}
 use Rattle.running.proofs.FormRuns.{comes_on}
 
 -- a part of a form, with what is bound at it
@@ -57,10 +58,10 @@ record WhenMeets (forms nodes pool bindings : List ℕ) (limit row first second 
 module _ {forms nodes pool bindings : List ℕ} {limit row bound at first second : ℕ}
     (firsts : first ≡ parts.after forms (row + 3)) (seconds : second ≡ parts.after forms first) where
   when_meets
-      : {l : Limits} {p : List ℕ} {env : List Value} {v : Value} (form : Result) → IsWhen form → Meets forms nodes pool bindings limit row bound l p form env
+      : {l : Limits} {p : List ℕ} {env : List Value} {v : Value} {form : Result} → IsWhen form → Meets forms nodes pool bindings limit row bound l p form env
       → Bound nodes p at v → WhenMeets forms nodes pool (set bindings bound at) limit row first second (bound + 1) l p form (v ∷ env)
   unfolding result_levels form_operand
-  when_meets {l} {p} {env} {v} (Result.when a k q r₁ r₂) is_when m b = go m.good
+  when_meets {l} {p} {env} {v} (is_when {at = a} {k} {q} {r₁} {r₂}) m b = go m.good
     where
       bd : suc bound ≡ bound + 1
       bd = sym (add-one bound)
@@ -94,13 +95,6 @@ module _ {forms nodes pool bindings : List ℕ} {limit row bound at first second
                 (subst (λ (i : ℕ). FormStands forms p (parts.after forms (parts.after forms (row + 3))) i 0 r₂) bd (parts.when_second m.stands)))
                 g₂ (omega (arith, m.counted)) more (omega (arith, m.room, long));
           }
-  when_meets {l = l} {p = p} {env = env} {v = v} (Rattle.definitions.specs.Reader.convert _ _ _) x5 m b = elim x5 [ ]
-  when_meets {l = l} {p = p} {env = env} {v = v} (Rattle.definitions.specs.Reader.keep _ _) x5 m b = elim x5 [ ]
-  when_meets {l = l} {p = p} {env = env} {v = v} (Rattle.definitions.specs.Reader.count _ _) x6 m b = elim x6 [ ]
-  when_meets {l = l} {p = p} {env = env} {v = v} (Rattle.definitions.specs.Reader.each _ _ _) x8 m b = elim x8 [ ]
-  when_meets {l = l} {p = p} {env = env} {v = v} (Rattle.definitions.specs.Reader.choose _ _ _ _) x10 m b = elim x10 [ ]
-  when_meets {l = l} {p = p} {env = env} {v = v} (Rattle.definitions.specs.Reader.literal _ _) x9 m b = elim x9 [ ]
-  when_meets {l = l} {p = p} {env = env} {v = v} (Rattle.definitions.specs.Reader.pack _ _) x10 m b = elim x10 [ ]
 
 -- what was bound before is kept
 pub kept_before
@@ -118,7 +112,7 @@ pub when_within
     → (parts.after forms (c.row + 3) + 3 ≤ length forms) × (parts.after forms (parts.after forms (c.row + 3)) + 3 ≤ length forms)
 when_within f =
     let r = f.ready in
-    let w = when_meets refl refl r.form (when_of r.form (omega (arith, f.late, f.early, stands_code r.meets.stands))) r.meets f.bound in
+    let w = when_meets refl refl (when_of r.form (omega (arith, f.late, f.early, stands_code r.meets.stands))) r.meets f.bound in
     (omega (arith, stands_within w.yes.stands, forms_some w.one), omega (arith, stands_within w.no.stands, forms_some w.two))
 
 module _ {forms nodes pool bindings results : List ℕ} {limit : ℕ} {c : Cursor} {at steps first second : ℕ} (firsts : first ≡ parts.after forms (c.row + 3))
@@ -133,7 +127,7 @@ module _ {forms nodes pool bindings results : List ℕ} {limit : ℕ} {c : Curso
       → Ready forms nodes pool (set bindings c.bound at) results limit (branch c first (c.bound + 1) steps)
   when_yes_ready f =
       let r = f.ready in
-      let w = when_meets firsts seconds r.form (is_it r.form r.meets f) r.meets f.bound in
+      let w = when_meets firsts seconds (is_it r.form r.meets f) r.meets f.bound in
       record {
         limits = r.limits;
         used = r.used;
@@ -149,7 +143,7 @@ module _ {forms nodes pool bindings results : List ℕ} {limit : ℕ} {c : Curso
       → Ready forms nodes pool (set bindings c.bound at) results limit (branch c second (c.bound + 1) steps)
   when_no_ready f =
       let r = f.ready in
-      let w = when_meets firsts seconds r.form (is_it r.form r.meets f) r.meets f.bound in
+      let w = when_meets firsts seconds (is_it r.form r.meets f) r.meets f.bound in
       record {
         limits = r.limits;
         used = r.used;
@@ -171,7 +165,7 @@ module _ {forms nodes pool bindings results : List ℕ} {limit : ℕ} {c : Curso
         record {
           kept = record { bound_kept = kept_before bindings bindings' c.bound at x.kept.bound_kept; front = x.kept.front };
           told = λ l p form env v m bd.
-              let w = when_meets firsts seconds form (is_it form m f) m bd in
+              let w = when_meets firsts seconds (is_it form m f) m bd in
               comes_on limit p results results' c first (c.bound + 1) steps
               (ap (λ (y : Result). follow y l env v steps) w.same
               ∙ laws.when_first w.place w.test w.inner w.one w.two l env v steps
@@ -187,7 +181,7 @@ module _ {forms nodes pool bindings results : List ℕ} {limit : ℕ} {c : Curso
         record {
           kept = record { bound_kept = kept_before bindings bindings' c.bound at x.kept.bound_kept; front = x.kept.front };
           told = λ l p form env v m bd.
-              let w = when_meets firsts seconds form (is_it form m f) m bd in
+              let w = when_meets firsts seconds (is_it form m f) m bd in
               comes_on limit p results results' c second (c.bound + 1) steps
               (ap (λ (y : Result). follow y l env v steps) w.same
               ∙ laws.when_second w.place w.test w.inner w.one w.two l env v steps
@@ -209,10 +203,10 @@ record ChooseMeets (forms nodes pool bindings : List ℕ) (limit row bound : ℕ
   no : Meets forms nodes pool bindings limit (parts.after forms (parts.after forms (row + 3))) bound l p two env
 
 choose_meets
-    : {forms nodes pool bindings : List ℕ} {limit row bound : ℕ} {l : Limits} {p : List ℕ} {env : List Value} (form : Result) → IsChoose form
+    : {forms nodes pool bindings : List ℕ} {limit row bound : ℕ} {l : Limits} {p : List ℕ} {env : List Value} {form : Result} → IsChoose form
     → Meets forms nodes pool bindings limit row bound l p form env → ChooseMeets forms nodes pool bindings limit row bound l p form env
 unfolding result_levels form_at
-choose_meets {forms} {nodes} {pool} {bindings} {limit} {row} {bound} {l} {p} {env} (Result.choose a r₁ r₂ r₃) is_choose m = go m.good
+choose_meets {forms} {nodes} {pool} {bindings} {limit} {row} {bound} {l} {p} {env} (is_choose {at = a} {r₁} {r₂} {r₃}) m = go m.good
   where
     go : GoodReader (Result.choose a r₁ r₂ r₃) → ChooseMeets forms nodes pool bindings limit row bound l p (Result.choose a r₁ r₂ r₃) env
     go (good_choose g₁ g₂ g₃) =
@@ -227,20 +221,6 @@ choose_meets {forms} {nodes} {pool} {bindings} {limit} {row} {bound} {l} {p} {en
           yes = part_meets m (parts.choose_second m.stands) g₂ m.counted m.binds (omega (arith, m.room));
           no = part_meets m (parts.choose_third m.stands) g₃ m.counted m.binds (omega (arith, m.room));
         }
-choose_meets {forms = forms} {nodes = nodes} {pool = pool} {bindings = bindings} {limit = limit} {row = row} {bound = bound} {l = l} {p = p} {env = env}
-    (Rattle.definitions.specs.Reader.convert at _ _) x4 m = elim x4 [ ]
-choose_meets {forms = forms} {nodes = nodes} {pool = pool} {bindings = bindings} {limit = limit} {row = row} {bound = bound} {l = l} {p = p} {env = env}
-    (Rattle.definitions.specs.Reader.keep at _) x4 m = elim x4 [ ]
-choose_meets {forms = forms} {nodes = nodes} {pool = pool} {bindings = bindings} {limit = limit} {row = row} {bound = bound} {l = l} {p = p} {env = env}
-    (Rattle.definitions.specs.Reader.count at _) x5 m = elim x5 [ ]
-choose_meets {forms = forms} {nodes = nodes} {pool = pool} {bindings = bindings} {limit = limit} {row = row} {bound = bound} {l = l} {p = p} {env = env}
-    (Rattle.definitions.specs.Reader.each at _ _) x7 m = elim x7 [ ]
-choose_meets {forms = forms} {nodes = nodes} {pool = pool} {bindings = bindings} {limit = limit} {row = row} {bound = bound} {l = l} {p = p} {env = env}
-    (Rattle.definitions.specs.Reader.when at _ _ _ _) x10 m = elim x10 [ ]
-choose_meets {forms = forms} {nodes = nodes} {pool = pool} {bindings = bindings} {limit = limit} {row = row} {bound = bound} {l = l} {p = p} {env = env}
-    (Rattle.definitions.specs.Reader.literal at _) x8 m = elim x8 [ ]
-choose_meets {forms = forms} {nodes = nodes} {pool = pool} {bindings = bindings} {limit = limit} {row = row} {bound = bound} {l = l} {p = p} {env = env}
-    (Rattle.definitions.specs.Reader.pack at _) x9 m = elim x9 [ ]
 
 -- the bindings of a part that ran
 meets_kept
@@ -274,7 +254,7 @@ module _ {forms nodes pool bindings results : List ℕ} {limit : ℕ} {c : Curso
   chooses
       : {l : Limits} {p : List ℕ} {env : List Value} (form : Result) → Meets forms nodes pool bindings limit c.row c.bound l p form env
       → ChooseMeets forms nodes pool bindings limit c.row c.bound l p form env
-  chooses form m = choose_meets form (choose_of form (sym (stands_code m.stands) ∙ w.coded)) m
+  chooses form m = choose_meets (choose_of form (sym (stands_code m.stands) ∙ w.coded)) m
 
   pub choose_within
       : (c.row + 6 ≤ length forms) × (parts.after forms (c.row + 3) + 3 ≤ length forms)
@@ -315,19 +295,18 @@ module _ {forms nodes pool bindings results : List ℕ} {limit : ℕ} {c : Curso
         ∙ ap (λ (n : ℕ). laws.chosen k.place k.one k.two l env (run k.test l env n)) (sym (add-one c.steps))
 
     pub test_refused
-        : {number place : ℕ} → r ≡ PartIs.Refused number place
-        → Runs forms nodes pool bindings bindings' results results' limit c r
+        : {why : Refusal} → r ≡ Err why
+        → Runs forms nodes pool bindings bindings' results results' limit c (Err why)
     test_refused e =
-        subst (Runs forms nodes pool bindings bindings' results results' limit c) (sym e)
-        (record {
+        record {
           kept = record { bound_kept = ran.kept.bound_kept; front = ap (take (3 * c.begun)) results_kept };
           told = λ l p form env m.
               let k = chooses form m in
               entered m k ∙ laws.choose_refused k.place k.one k.two l env
               (subst (Comes (run k.test l env (c.steps + 1)) limit p results results' (condition c results)) e (ran.told l p k.test env k.tests));
-        })
+        }
 
-    module _ {kind begun steps : ℕ} (e : r ≡ PartIs.Done kind begun steps) where
+    module _ {kind begun steps : ℕ} (e : r ≡ Ok (record { kind = kind; begun = begun; steps = steps })) where
       tested
           : {l : Limits} {p : List ℕ} {env : List Value} {form : Result} (k : ChooseMeets forms nodes pool bindings limit c.row c.bound l p form env)
           → Made (run k.test l env (c.steps + 1)) limit p results results' (condition c results) kind begun steps
@@ -336,7 +315,7 @@ module _ {forms nodes pool bindings results : List ℕ} {limit : ℕ} {c : Curso
 
       pub choose_stuck
           : {place : ℕ} → (kind ≡ 2 → ⊥) → (kind ≡ 1 → ⊥) → place ≡ get_or forms c.row 0 / 2048 % 65536
-          → Runs forms nodes pool bindings bindings' results results' limit c (PartIs.Refused 12 place)
+          → Runs forms nodes pool bindings bindings' results results' limit c (Err (record { cause = cause.Stuck; place = place }))
       choose_stuck f g h =
           record {
             kept = record { bound_kept = ran.kept.bound_kept; front = ap (take (3 * c.begun)) results_kept };
@@ -424,19 +403,6 @@ module _ {forms nodes pool bindings results : List ℕ} {limit : ℕ} {c : Curso
                     (subst (λ (i : ℕ). Meets forms nodes pool bindings' limit i c.bound l p k.two env) (sym g)
                     (meets_kept ran.kept.bound_kept same_bindings k.no))));
               }
-
--- ---- a cursor by its name
-
-pub ready_as
-    : {forms nodes pool bindings results : List ℕ} {limit : ℕ} {b c : Cursor} → b ≡ c → Ready forms nodes pool bindings results limit c
-    → Ready forms nodes pool bindings results limit b
-ready_as {forms} {nodes} {pool} {bindings} {results} {limit} e r = subst (Ready forms nodes pool bindings results limit) (sym e) r
-
-pub runs_as
-    : {forms nodes pool bindings bindings' results results' : List ℕ} {limit : ℕ} {b c : Cursor} {r : Part} → b ≡ c
-    → Runs forms nodes pool bindings bindings' results results' limit b r → Runs forms nodes pool bindings bindings' results results' limit c r
-runs_as {forms} {nodes} {pool} {bindings} {bindings'} {results} {results'} {limit} {r = r} e x =
-    subst (λ c. Runs forms nodes pool bindings bindings' results results' limit c r) e x
 
 -- the row behind a part, and the one behind that
 pub row_behind : (forms : List ℕ) (row n : ℕ) → n ≡ size_at forms row → row + n ≡ parts.after forms row

@@ -14,14 +14,13 @@ use Rattle.number.specs.NumberWrite.{Bounded}
 use Rattle.nodes.specs.Nodes.{sign_bit, number_bits, head_word}
 use Rattle.plain.specs.HeadLaws.{sign_small, bits_small, head_bits}
 use Rattle.plain.specs.Table.{BoundedNumbers}
+use Rattle.std.specs.Prelude.{Ok}
 use Rattle.running.specs.declared.going.Cursor.{Cursor}
-use Rattle.running.specs.declared.going.Part.{Part}
-use Rattle.running.specs.declared.going.Part.TheVariants as PartIs
 use Rattle.running.specs.Bindings.{Bound}
 use Rattle.running.specs.BindingsLaws.{Scaled, bound_unscaled, bound_scaled}
 use Rattle.running.specs.Rows.{PutRow, SomeBound}
 use Rattle.running.specs.Singles.{Giving, Gives, Wholes, Handed, NumberWord, SomeNumber}
-use Rattle.running.specs.Walk.{Made}
+use Rattle.running.specs.Walk.{Part, Made}
 use Rattle.running.proofs.SingleRows.{number_given}
 
 -- what holds for one sort of values holds for those that are among them
@@ -83,7 +82,7 @@ module _ {nodes : List ℕ} {at scale : ℕ} (scaled : scale ≡ get_or nodes at
             : {results results' : List ℕ} {limit : ℕ} {c : Cursor} {steps begun head : ℕ} → Giving limit c steps
             → ((x : Number) → NumberWord bits n x → head ≡ head_word (Value.number x))
             → PutRow results results' c.begun head n c.name begun
-            → Gives results results' limit c steps (Wholes nodes at) (PartIs.Done 3 begun steps)
+            → Gives results results' limit c steps (Wholes nodes at) (Ok (record { kind = 3; begun = begun; steps = steps }))
         unfolding whole_value
         whole_given {results} {results'} {limit} {c} {steps} {begun} g h q =
             record {

@@ -91,48 +91,47 @@ says_true (Value.text t) k e = absurd (let z : ⊥ = omega (arith, e) in z)
 says_true (Value.list vs) k e = absurd (let z : ⊥ = omega (arith, e) in z)
 says_true (Value.rec ms) k e = absurd (let z : ⊥ = omega (arith, e) in z)
 
--- no other value is a number
+-- any other value's code is that of its test
 pub says_not
-    : (v : Value) (k : Test) → (kind_code v ≡ 3 → ⊥) → (test_code k ≡ 3 → ⊥) → (test_code k ≡ 2 → ⊥) → (kind_code v ≡ 2 → ⊥)
-    → eqb (kind_code v) (test_code k) ≡ among (kind_of v) (test_kinds k)
+    : (v : Value) (k : Test) → (kind_code v ≡ 3 → ⊥) → (kind_code v ≡ 2 → ⊥) → eqb (kind_code v) (test_code k) ≡ among (kind_of v) (test_kinds k)
 unfolding kind_code test_code test_kinds kind_of among rank
-says_not Value.null Test.null e f g h = refl
-says_not Value.null Test.bool e f g h = refl
-says_not Value.null Test.int e f g h = absurd (g refl)
-says_not Value.null Test.num e f g h = absurd (f refl)
-says_not Value.null Test.text e f g h = refl
-says_not Value.null Test.list e f g h = refl
-says_not Value.null Test.rec e f g h = refl
-says_not (Value.bool true) k e f g h = absurd (h refl)
-says_not (Value.bool false) Test.null e f g h = refl
-says_not (Value.bool false) Test.bool e f g h = refl
-says_not (Value.bool false) Test.int e f g h = absurd (g refl)
-says_not (Value.bool false) Test.num e f g h = absurd (f refl)
-says_not (Value.bool false) Test.text e f g h = refl
-says_not (Value.bool false) Test.list e f g h = refl
-says_not (Value.bool false) Test.rec e f g h = refl
-says_not (Value.number x) k e f g h = absurd (e refl)
-says_not (Value.text t) Test.null e f g h = refl
-says_not (Value.text t) Test.bool e f g h = refl
-says_not (Value.text t) Test.int e f g h = absurd (g refl)
-says_not (Value.text t) Test.num e f g h = absurd (f refl)
-says_not (Value.text t) Test.text e f g h = refl
-says_not (Value.text t) Test.list e f g h = refl
-says_not (Value.text t) Test.rec e f g h = refl
-says_not (Value.list vs) Test.null e f g h = refl
-says_not (Value.list vs) Test.bool e f g h = refl
-says_not (Value.list vs) Test.int e f g h = absurd (g refl)
-says_not (Value.list vs) Test.num e f g h = absurd (f refl)
-says_not (Value.list vs) Test.text e f g h = refl
-says_not (Value.list vs) Test.list e f g h = refl
-says_not (Value.list vs) Test.rec e f g h = refl
-says_not (Value.rec ms) Test.null e f g h = refl
-says_not (Value.rec ms) Test.bool e f g h = refl
-says_not (Value.rec ms) Test.int e f g h = absurd (g refl)
-says_not (Value.rec ms) Test.num e f g h = absurd (f refl)
-says_not (Value.rec ms) Test.text e f g h = refl
-says_not (Value.rec ms) Test.list e f g h = refl
-says_not (Value.rec ms) Test.rec e f g h = refl
+says_not Value.null Test.null e h = refl
+says_not Value.null Test.bool e h = refl
+says_not Value.null Test.int e h = refl
+says_not Value.null Test.num e h = refl
+says_not Value.null Test.text e h = refl
+says_not Value.null Test.list e h = refl
+says_not Value.null Test.rec e h = refl
+says_not (Value.bool true) k e h = absurd (h refl)
+says_not (Value.bool false) Test.null e h = refl
+says_not (Value.bool false) Test.bool e h = refl
+says_not (Value.bool false) Test.int e h = refl
+says_not (Value.bool false) Test.num e h = refl
+says_not (Value.bool false) Test.text e h = refl
+says_not (Value.bool false) Test.list e h = refl
+says_not (Value.bool false) Test.rec e h = refl
+says_not (Value.number x) k e h = absurd (e refl)
+says_not (Value.text t) Test.null e h = refl
+says_not (Value.text t) Test.bool e h = refl
+says_not (Value.text t) Test.int e h = refl
+says_not (Value.text t) Test.num e h = refl
+says_not (Value.text t) Test.text e h = refl
+says_not (Value.text t) Test.list e h = refl
+says_not (Value.text t) Test.rec e h = refl
+says_not (Value.list vs) Test.null e h = refl
+says_not (Value.list vs) Test.bool e h = refl
+says_not (Value.list vs) Test.int e h = refl
+says_not (Value.list vs) Test.num e h = refl
+says_not (Value.list vs) Test.text e h = refl
+says_not (Value.list vs) Test.list e h = refl
+says_not (Value.list vs) Test.rec e h = refl
+says_not (Value.rec ms) Test.null e h = refl
+says_not (Value.rec ms) Test.bool e h = refl
+says_not (Value.rec ms) Test.int e h = refl
+says_not (Value.rec ms) Test.num e h = refl
+says_not (Value.rec ms) Test.text e h = refl
+says_not (Value.rec ms) Test.list e h = refl
+says_not (Value.rec ms) Test.rec e h = refl
 
 pub says_no_num : (v : Value) (k : Test) → (kind_code v ≡ 3 → ⊥) → test_code k ≡ 3 → false ≡ among (kind_of v) (test_kinds k)
 unfolding kind_code test_kinds kind_of among rank

@@ -4,7 +4,6 @@ pub mod Codes
 pub mod Bindings
 pub mod BindingsLaws
 pub mod Members
-pub mod Words
 pub mod Walk
 pub mod PlaceLaws
 pub mod FormLaws

@@ -1,8 +1,9 @@
 -- What running a reader asks and answers, ready for the end of an operation. Assumes nothing.
-use Rattle.std.specs.Prelude.{ℕ, ◌*◌, ◌≤◌, ◌≡◌, true, false, List, length}
+use Rattle.std.specs.Prelude.{ℕ, ◌*◌, ◌≤◌, ◌≡◌, true, false, List, length, Ok, Err}
+use Rattle.std.specs.Prelude as std
 use Rattle.definitions.specs.declared.Limits.{Limits}
 use Rattle.definitions.specs.Limits.{over}
-use Rattle.definitions.specs.Outcome.{Outcome, refused}
+use Rattle.definitions.specs.Outcome.{Outcome}
 use Rattle.definitions.specs.Value.{Value, size, nesting}
 use Rattle.definitions.specs.Reader.{Result}
 use Rattle.definitions.specs.Running.{Ran, gives, run_reader}
@@ -11,8 +12,9 @@ use Rattle.laws.specs.Good.{GoodReader}
 use Rattle.nodes.specs.Standing.{ValueStands}
 use Rattle.plain.specs.Table.{BoundedNumbers, Used, Holds}
 use Rattle.forms.specs.Forms.{FormStands}
-use Rattle.running.specs.declared.Came.{Came}
-use Rattle.running.specs.declared.Came.TheVariants as CameIs
+use Rattle.reading.specs.Refusals.{refused_as}
+use Rattle.running.specs.declared.Halt.{Halt}
+use Rattle.running.specs.declared.Halt.TheVariants as halt
 
 -- the first rows of the tables are those of a reader and of a document; p is the used part of the pool
 pub record ReadsBoth (forms nodes pool : List ℕ) (l : Limits) (p : List ℕ) (r : Result) (v : Value) : Type 0 where
@@ -52,11 +54,11 @@ pub record RanOver (o : Outcome ℕ (Ran Value)) (l : Limits) : Type 0 where
   pub ran : o ≡ gives value steps
   pub too_much : over l (size value) (nesting value) ≡ true
 
-abbrev pub ComesTo : Outcome ℕ (Ran Value) → Limits → (results pool : List ℕ) → Came → Type 0
-ComesTo o l results pool (CameIs.Ran steps) = RanTo o l results pool steps
-ComesTo o l results pool CameIs.Over = RanOver o l
-ComesTo o l results pool (CameIs.Refused number place) = o ≡ refused number place
+abbrev pub ComesTo : Outcome ℕ (Ran Value) → Limits → (results pool : List ℕ) → std.Result ℕ Halt → Type 0
+ComesTo o l results pool (Ok steps) = RanTo o l results pool steps
+ComesTo o l results pool (Err halt.Over) = RanOver o l
+ComesTo o l results pool (Err (halt.Refused why)) = o ≡ refused_as why
 
-pub record RunsReader (forms nodes pool results : List ℕ) (l : Limits) (r : Came) : Type 0 where
+pub record RunsReader (forms nodes pool results : List ℕ) (l : Limits) (r : std.Result ℕ Halt) : Type 0 where
   pub told
       : (p : List ℕ) (form : Result) (v : Value) → ReadsBoth forms nodes pool l p form v → ComesTo (run_reader form l v) l results pool r

@@ -8,9 +8,8 @@ use Rattle.nodes.specs.Nodes.{sign_bit, number_bits}
 use Rattle.plain.specs.Table.{BoundedNumbers, Used}
 use Rattle.forms.specs.Forms.{literal_code, LiteralPayload}
 use Rattle.running.specs.declared.going.Cursor.{Cursor}
-use Rattle.running.specs.declared.going.Part.{Part}
 use Rattle.running.specs.Bindings.{Bound}
-use Rattle.running.specs.Walk.{Paid, Comes}
+use Rattle.running.specs.Walk.{Paid, Part, Comes}
 
 -- the form is entered, and so many steps are counted behind it
 pub record Giving (limit : ℕ) (c : Cursor) (steps : ℕ) : Type 0 where

@@ -1,5 +1,6 @@
 -- What running a form asks of its tables, and what it answers. Assumes nothing.
-use Rattle.std.specs.Prelude.{ℕ, ◌+◌, ◌*◌, ◌%◌, ◌≤◌, ◌<◌, ◌≡◌, true, false, List, ◌∷◌, ◌++◌, length, get_or, take}
+use Rattle.std.specs.Prelude.{ℕ, ◌+◌, ◌*◌, ◌%◌, ◌≤◌, ◌<◌, ◌≡◌, true, false, List, ◌∷◌, ◌++◌, length, get_or, take, Ok, Err}
+use Rattle.std.specs.Prelude as std
 use Rattle.definitions.specs.declared.Limits.{Limits}
 use Rattle.definitions.specs.Outcome.{Outcome, refused, ◌>>=◌}
 use Rattle.definitions.specs.Value.{Value, count, size}
@@ -14,10 +15,10 @@ use Rattle.nodes.specs.Nodes.{kind_code, Rows}
 use Rattle.plain.specs.Table.{BoundedNumbers, Used}
 use Rattle.forms.specs.Forms.{PlaceStands, FormStands}
 use Rattle.running.specs.declared.going.Cursor.{Cursor}
-use Rattle.running.specs.declared.going.Part.{Part}
-use Rattle.running.specs.declared.going.Part.TheVariants as PartIs
-use Rattle.running.specs.declared.going.Seen.{Seen}
-use Rattle.running.specs.declared.going.Seen.TheVariants as SeenIs
+use Rattle.reading.specs.declared.Refusal.{Refusal}
+use Rattle.reading.specs.Refusals.{refused_as}
+use Rattle.running.specs.declared.going.At.{At}
+use Rattle.running.specs.declared.going.Done.{Done}
 use Rattle.running.specs.Bindings.{Bound, Binds}
 
 -- ---- running a form with a place, in two
@@ -134,6 +135,14 @@ branch c row bound steps = record { row = row; name = c.name; bound = bound; beg
 
 -- ---- what is answered
 
+-- the value of a place, or why it has none
+abbrev pub Seen : Type 0
+Seen = std.Result At Refusal
+
+-- the value of a form, or why it has none
+abbrev pub Part : Type 0
+Part = std.Result Done Refusal
+
 -- the place comes to a value at a row
 pub record SeenAt (o : Outcome ℕ (Ran Value)) (nodes p : List ℕ) (limit n at steps : ℕ) : Type 0 where
   pub value : Value
@@ -143,8 +152,8 @@ pub record SeenAt (o : Outcome ℕ (Ran Value)) (nodes p : List ℕ) (limit n at
   pub left : steps ≤ limit
 
 abbrev pub Sees : Outcome ℕ (Ran Value) → (nodes p : List ℕ) → (limit n : ℕ) → Seen → Type 0
-Sees o nodes p limit n (SeenIs.At row steps) = SeenAt o nodes p limit n row steps
-Sees o nodes p limit n (SeenIs.Refused number place) = o ≡ refused number place
+Sees o nodes p limit n (Ok here) = SeenAt o nodes p limit n here.row here.steps
+Sees o nodes p limit n (Err why) = o ≡ refused_as why
 
 pub record SeesPlace (forms nodes pool bindings : List ℕ) (limit row steps : ℕ) (r : Seen) : Type 0 where
   pub told
@@ -180,8 +189,8 @@ pub record Made
   pub left : steps ≤ limit
 
 abbrev pub Comes : Outcome ℕ (Ran Value) → ℕ → (p before after : List ℕ) → Cursor → Part → Type 0
-Comes o limit p before after c (PartIs.Done kind begun steps) = Made o limit p before after c kind begun steps
-Comes o limit p before after c (PartIs.Refused number place) = o ≡ refused number place
+Comes o limit p before after c (Ok done) = Made o limit p before after c done.kind done.begun done.steps
+Comes o limit p before after c (Err why) = o ≡ refused_as why
 
 -- the tables afterwards: what was bound and the rows before are kept
 pub record Kept (bindings bindings' results results' : List ℕ) (bound begun : ℕ) : Type 0 where

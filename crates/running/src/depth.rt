@@ -21,7 +21,7 @@ pub fn is_deep(nodes: &[u64], at: usize, left: usize) -> bool
         if is_deep(nodes, i, left - 1) {
             return true;
         }
-        i += nodes::row_size(nodes, i);
+        i += nodes::row_size(nodes, i); // a row tells where the next begins
     }
     false
 }

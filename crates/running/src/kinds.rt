@@ -23,34 +23,22 @@ pub fn is_kind(nodes: &[u64], at: usize, test: u64) -> bool
     ensures told { (p : List ℕ) (v : Value) (k : Test) → Bound nodes.now p at v → test_code k ≡ test
         → result ≡ among (kind_of v) (test_kinds k) }
 {
-    let kind = nodes::row_kind(nodes, at);
-    if kind == nodes::NUMBER {
-        if test == INT {
-            return nodes::row_is_int(nodes, at);
-        }
-        return test == NUM;
+    match nodes::row_kind(nodes, at) {
+        nodes::NUMBER if test == INT => nodes::row_is_int(nodes, at),
+        nodes::NUMBER => test == NUM,
+        nodes::TRUE => test == BOOL,
+        kind => kind == test, // the other codes are the same
     }
-    if kind == nodes::TRUE {
-        return test == BOOL;
-    }
-    if test == NUM {
-        return false;
-    }
-    if test == INT {
-        return false;
-    }
-    kind == test
 }
 
 // Whether the value at a row is a list or null.
 fn is_list(nodes: &[u64], at: usize) -> bool
     ensures told { (p : List ℕ) (v : Value) → Bound nodes.now p at v → result ≡ among (kind_of v) list_kinds }
 {
-    let kind = nodes::row_kind(nodes, at);
-    if kind == nodes::NULL {
-        return true;
+    match nodes::row_kind(nodes, at) {
+        nodes::NULL => true,
+        kind => kind == nodes::LIST,
     }
-    kind == nodes::LIST
 }
 
 // Whether the form of a code is not stuck on the value at a row.
@@ -58,23 +46,12 @@ pub fn is_wanted(nodes: &[u64], at: usize, code: u64) -> bool
     ensures told { (p : List ℕ) (v : Value) (form : Result) → Bound nodes.now p at v → form_code form ≡ code
         → result ≡ wanted form v }
 {
-    if code == forms::INT {
-        return is_kind(nodes, at, INT);
+    match code {
+        forms::INT => is_kind(nodes, at, INT),
+        forms::DEC => is_kind(nodes, at, NUM),
+        forms::BOOL => is_kind(nodes, at, BOOL),
+        forms::TEXT => is_kind(nodes, at, TEXT),
+        forms::COUNT | forms::EACH => is_list(nodes, at),
+        _ => true,
     }
-    if code == forms::DEC {
-        return is_kind(nodes, at, NUM);
-    }
-    if code == forms::BOOL {
-        return is_kind(nodes, at, BOOL);
-    }
-    if code == forms::TEXT {
-        return is_kind(nodes, at, TEXT);
-    }
-    if code == forms::COUNT {
-        return is_list(nodes, at);
-    }
-    if code == forms::EACH {
-        return is_list(nodes, at);
-    }
-    true
 }

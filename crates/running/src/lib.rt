@@ -1,6 +1,8 @@
 // Running a reader on a document: a walk over its forms, an environment of the document's rows, and a table of results.
 #![tactic(auto)]
 
+ghost use Rattle.std.specs.Prelude.{◌≡◌};
+ghost use Rattle.running.specs.declared.Halt.TheVariants.{Refused};
 ghost use Rattle.running.specs.Run.{Runnable, RunsReader};
 
 mod depth; // how deep a result is nested
@@ -12,20 +14,28 @@ mod singles; // results that are one value
 mod walk;
 
 use definitions::Limits;
-use going::{Cursor, Part};
+use going::{Cursor, Tables};
+use reading::Refusal;
 
-// What running a reader comes to.
+// Why a run gives no result.
 #[derive(Clone, Copy)]
-pub enum Came {
-    // the first rows of the results hold a value, made in so many steps
-    Ran { steps: usize },
+pub enum Halt {
     // a result of more values, or nested deeper, than allowed
     Over,
-    // a refusal's number and its place
-    Refused { number: u64, place: usize },
+    // a form that is refused
+    Refused(Refusal),
 }
 
-// Runs the reader of a forms table on the document of a node table. Its result goes into the table of results.
+impl From<Refusal> for Halt {
+    ghost from_gives = { λ why h. h ≡ Refused why };
+
+    fn from(why: Refusal) -> Halt {
+        Halt::Refused(why)
+    }
+}
+
+// Runs the reader of a forms table on the document of a node table. The first rows of the results then hold a value, made in so
+// many steps.
 pub fn run(
     forms: &[u64],
     nodes: &[u64],
@@ -33,11 +43,17 @@ pub fn run(
     bindings: &mut [u64],
     results: &mut [u64],
     limits: Limits,
-) -> Came
+) -> Result<usize, Halt>
     requires { Runnable forms.now nodes.now pool.now bindings.old results.old limits }
     ensures ran { RunsReader forms.now nodes.now pool.now results.new limits result }
 {
     bindings[0] = 0; // the document's row
+    let t = Tables {
+        forms,
+        nodes,
+        pool,
+        limit: limits.steps,
+    };
     let start = Cursor {
         row: 0,
         name: 0,
@@ -45,21 +61,12 @@ pub fn run(
         begun: 0,
         steps: 0,
     };
-    let r = walk::run_form(forms, nodes, pool, bindings, results, limits.steps, start);
-    match going::opened(r) {
-        Part::Done {
-            kind: _,
-            begun,
-            steps,
-        } => {
-            if limits.values < begun {
-                return Came::Over;
-            }
-            if depth::is_deep(results, 0, limits.nesting) {
-                return Came::Over;
-            }
-            Came::Ran { steps }
-        }
-        Part::Refused { number, place } => Came::Refused { number, place },
+    let done = walk::run_form(&t, bindings, results, start)?;
+    if limits.values < done.begun {
+        return Err(Halt::Over);
     }
+    if depth::is_deep(results, 0, limits.nesting) {
+        return Err(Halt::Over);
+    }
+    Ok(done.steps)
 }

@@ -7,10 +7,10 @@ ghost use Rattle.nodes.specs.Nodes.{Refers};
 ghost use Rattle.running.specs.Bindings.{Bound};
 ghost use Rattle.running.specs.Members.{RecordAt, SomeRecord};
 ghost use Rattle.running.specs.Walk.{PlaceReady, SeesPlace, OperandReady, SeesOperand};
-ghost use Rattle.running.specs.Words.{seen_of};
 
-use crate::going::{Seen, looked, refused, seen_at};
+use crate::going::{At, Cursor, Tables};
 use crate::kinds::is_wanted;
+use reading::{Cause, Refusal};
 
 // The row of the member of a name in the record at a row, or past the table's end where it is missing.
 fn find_member(nodes: &[u64], at: usize, pool: &[u64], name: u64) -> usize
@@ -27,75 +27,58 @@ fn find_member(nodes: &[u64], at: usize, pool: &[u64], name: u64) -> usize
         if pool::same_held(pool, w, n, nodes::text_word(k), nodes::text_bytes(k)) {
             return i;
         }
-        i += nodes::row_size_in(nodes, i);
+        i += nodes::row_size_in(nodes, i); // a row tells where the next begins
     }
-    nodes.len()
+    nodes.len() // where the table reads as null, which a missing member is
 }
 
 // Runs the place at a row: each form is entered before the one inside it, and stuck behind it.
-pub fn run_place(
-    forms: &[u64],
-    row: usize,
-    nodes: &[u64],
-    pool: &[u64],
-    bindings: &[u64],
-    limit: usize,
-    steps: usize,
-) -> u64
-    requires { PlaceReady forms.now nodes.now pool.now bindings.now limit row steps }
-    ensures seen { SeesPlace forms.now nodes.now pool.now bindings.now limit row steps (seen_of result) }
+pub fn run_place(t: &Tables, row: usize, bindings: &[u64], steps: usize) -> Result<At, Refusal>
+    requires { PlaceReady t.now.forms.now t.now.nodes.now t.now.pool.now bindings.now t.now.limit row steps }
+    ensures seen { SeesPlace t.now.forms.now t.now.nodes.now t.now.pool.now bindings.now t.now.limit row steps result }
 {
-    if limit <= steps {
-        let place = forms::place(forms, row);
-        return refused(13, place);
+    if t.limit <= steps {
+        return Err(Refusal {
+            cause: Cause::StepLimit,
+            place: forms::place(t.forms, row),
+        });
     }
-    let payload = forms::payload(forms, row);
-    if forms::code(forms, row) == forms::IT {
-        let at = bindings[payload as usize] as usize;
-        return seen_at(at, steps + 1);
+    let payload = forms::payload(t.forms, row);
+    if forms::code(t.forms, row) == forms::IT {
+        return Ok(At {
+            row: bindings[payload as usize] as usize,
+            steps: steps + 1,
+        });
     }
-    let inner = run_place(forms, row + 3, nodes, pool, bindings, limit, steps + 1);
-    let Seen::At {
-        row: at,
-        steps: behind,
-    } = looked(inner)
-    else {
-        return inner;
-    };
-    let kind = nodes::row_kind(nodes, at);
+    let inner = run_place(t, row + 3, bindings, steps + 1)?;
+    let kind = nodes::row_kind(t.nodes, inner.row);
     if kind == nodes::NULL {
-        return inner; // on null it reads null
+        return Ok(inner); // on null it reads null
     }
     if kind != nodes::RECORD {
-        let place = forms::place(forms, row);
-        return refused(12, place);
+        return Err(Refusal {
+            cause: Cause::Stuck,
+            place: forms::place(t.forms, row),
+        });
     }
-    let found = find_member(nodes, at, pool, payload);
-    seen_at(found, behind)
+    Ok(At {
+        row: find_member(t.nodes, inner.row, t.pool, payload),
+        ..inner
+    })
 }
 
 // Runs the place of the form at a row, which is then judged stuck or not on its value.
-pub fn run_operand(
-    forms: &[u64],
-    row: usize,
-    nodes: &[u64],
-    pool: &[u64],
-    bindings: &[u64],
-    bound: usize,
-    limit: usize,
-    steps: usize,
-) -> u64
-    requires { OperandReady forms.now nodes.now pool.now bindings.now limit row bound steps }
-    ensures seen { SeesOperand forms.now nodes.now pool.now bindings.now limit row
-        bound steps (seen_of result) }
+pub fn run_operand(t: &Tables, bindings: &[u64], c: Cursor, steps: usize) -> Result<At, Refusal>
+    requires { OperandReady t.now.forms.now t.now.nodes.now t.now.pool.now bindings.now t.now.limit c.row c.bound steps }
+    ensures seen { SeesOperand t.now.forms.now t.now.nodes.now t.now.pool.now bindings.now t.now.limit c.row
+        c.bound steps result }
 {
-    let found = run_place(forms, row + 3, nodes, pool, bindings, limit, steps);
-    let Seen::At { row: at, steps: _ } = looked(found) else {
-        return found;
-    };
-    if is_wanted(nodes, at, forms::code(forms, row)) {
-        return found;
+    let found = run_place(t, c.row + 3, bindings, steps)?;
+    if is_wanted(t.nodes, found.row, forms::code(t.forms, c.row)) {
+        return Ok(found);
     }
-    let place = forms::place(forms, row);
-    refused(12, place)
+    Err(Refusal {
+        cause: Cause::Stuck,
+        place: forms::place(t.forms, c.row),
+    })
 }

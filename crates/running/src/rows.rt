@@ -1,9 +1,11 @@
 // Rows of results: put behind each other; those for which the table has no room are counted and not put.
-ghost use Rattle.std.specs.Prelude.{◌≡◌, List, ◌++◌, ℕ, ◌+◌, ◌^◌, ◌≤◌, ◌<◌, max, length, take, drop};
+ghost use Rattle.std.specs.Prelude.{◌≡◌, List, ℕ, ◌+◌, ◌-◌, ◌*◌, ◌^◌, ◌≤◌, ◌<◌, max, length};
 ghost use Rattle.definitions.specs.Bytes.{Bytes};
 ghost use Rattle.definitions.specs.Value.{Value, Items, Members, count};
 ghost use Rattle.definitions.specs.Plain.{plain_text};
 ghost use Rattle.definitions.specs.Running.{items_of};
+ghost use Rattle.nodes.specs.Nodes.{head_of};
+ghost use Rattle.nodes.specs.RowLaws.{with_row};
 ghost use Rattle.plain.specs.PlainLaws.{items_length, members_length};
 ghost use Rattle.running.specs.Bindings.{Bound};
 ghost use Rattle.running.specs.Rows.{PutRow, SomeBound, Keeps, EndsItems, ItemsAt, SomeItems, NameAt, SomeName, MembersAt, SomeMembers};
@@ -21,20 +23,6 @@ pub fn put(results: &mut [u64], begun: usize, head: u64, payload: u64, name: u64
     begun + 1
 }
 
-// Copies words of the document's table into the results.
-fn copy_words(results: &mut [u64], to: usize, nodes: &[u64], from: usize, count: usize)
-    requires count_in_bounds { to + count ≤ length results.old }
-    requires within { from + count ≤ length nodes.now }
-    ensures copied { results.new
-        ≡ take to results.old ++ take count (drop from nodes.now) ++ drop (to + count) results.old }
-{
-    let mut i: usize = 0;
-    while i < count {
-        results[to + i] = nodes[from + i];
-        i += 1;
-    }
-}
-
 // Copies the value at a row of the document's table, under a name. Null is put: it may stand past the table's end.
 pub fn keep(results: &mut [u64], begun: usize, nodes: &[u64], at: usize, name: u64) -> usize
     requires { SomeBound nodes.now at begun }
@@ -48,8 +36,9 @@ pub fn keep(results: &mut [u64], begun: usize, nodes: &[u64], at: usize, name: u
     if results.len() < 3 * begun + size {
         return to;
     }
-    copy_words(results, 3 * begun, nodes, at, size);
-    results[3 * begun + 2] = name;
+    let row = 3 * begun;
+    results[row..row + size].copy_from_slice(&nodes[at..at + size]);
+    results[row + 2] = name;
     to
 }
 
@@ -74,7 +63,7 @@ pub fn count_items(nodes: &[u64], at: usize) -> u64
     let mut n: u64 = 0;
     while i < end {
         n += 1;
-        i += nodes::row_size(nodes, i);
+        i += nodes::row_size(nodes, i); // a row tells where the next begins
     }
     n
 }
@@ -88,7 +77,7 @@ fn items_length(results: &[u64], row: usize, end: usize) -> usize
     let mut length: usize = 0;
     while i < end {
         length += 1 + nodes::row_written(results, i);
-        i += nodes::row_size(results, i);
+        i += nodes::row_size(results, i); // a row tells where the next begins
     }
     length
 }
@@ -102,7 +91,8 @@ fn name_length(results: &[u64], row: usize, pool: &[u64]) -> usize
     text::text_length(pool, nodes::text_word(k), nodes::text_bytes(k))
 }
 
-// How long the members from a row up to an end are in plain JSON, each with its name, a colon and a comma.
+// How long the members from a row up to an end are in plain JSON, each with its name, a colon and a comma. Beside `items_length`: one
+// function with a closure for what a name adds would be no plainer.
 fn members_length(results: &[u64], row: usize, end: usize, pool: &[u64]) -> usize
     requires { SomeMembers results.now pool.now row end }
     ensures measured { (p : List ℕ) (ms : Members) → MembersAt results.now pool.now row end p ms → result ≡ members_length ms }
@@ -111,20 +101,26 @@ fn members_length(results: &[u64], row: usize, end: usize, pool: &[u64]) -> usiz
     let mut length: usize = 0;
     while i < end {
         length += 2 + name_length(results, i, pool) + nodes::row_written(results, i);
-        i += nodes::row_size(results, i);
+        i += nodes::row_size(results, i); // a row tells where the next begins
     }
     length
 }
 
-// What stands between two brackets, with them: its parts have a comma too many.
-fn bracketed(length: usize) -> usize
-    requires { length < 2 ^ 62 }
-    ensures made { result ≡ 1 + max 1 length }
+// Puts the row of the list or record whose parts' rows end at number `to`. With a comma each they are so long `inside` the brackets,
+// one comma too many.
+fn close(results: &mut [u64], begun: usize, to: usize, kind: u64, inside: usize, name: u64)
+    requires later { begun < to }
+    requires to_in_bounds { 3 * to ≤ length results.old }
+    requires few { to < 2 ^ 60 }
+    requires short { inside < 2 ^ 50 }
+    requires coded { kind < 8 }
+    ensures closed { results.new
+        ≡ with_row results.old begun (head_of kind 0 (1 + max 1 inside)) (3 * (to - begun)) name }
 {
-    if length == 0 {
-        return 2;
-    }
-    length + 1
+    let written = 1 + inside.max(1);
+    let head = nodes::head_word(kind, 0, written);
+    let size = 3 * (to - begun);
+    nodes::put_row(results, 3 * begun, head, size as u64, name);
 }
 
 // Puts the row of the list whose elements' rows end at number `to`.
@@ -135,10 +131,8 @@ pub fn close_list(results: &mut [u64], begun: usize, to: usize, name: u64)
     if results.len() < 3 * to {
         return;
     }
-    let written = bracketed(items_length(results, 3 * begun + 3, 3 * to));
-    let head = nodes::head_word(nodes::LIST, 0, written);
-    let size = 3 * (to - begun);
-    nodes::put_row(results, 3 * begun, head, size as u64, name);
+    let length = items_length(results, 3 * begun + 3, 3 * to);
+    close(results, begun, to, nodes::LIST, length, name);
 }
 
 // Puts the row of the record whose members' rows end at number `to`.
@@ -149,8 +143,6 @@ pub fn close_record(results: &mut [u64], begun: usize, to: usize, pool: &[u64], 
     if results.len() < 3 * to {
         return;
     }
-    let written = bracketed(members_length(results, 3 * begun + 3, 3 * to, pool));
-    let head = nodes::head_word(nodes::RECORD, 0, written);
-    let size = 3 * (to - begun);
-    nodes::put_row(results, 3 * begun, head, size as u64, name);
+    let length = members_length(results, 3 * begun + 3, 3 * to, pool);
+    close(results, begun, to, nodes::RECORD, length, name);
 }

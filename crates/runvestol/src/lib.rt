@@ -27,9 +27,8 @@ pub fn runvestol_plain(
         (plain_call read_json (set_of bytes values nesting steps) document.now output.old answer.old).output }
 {
     let limits = slices::set(bytes, values, nesting, steps); // judged whole, though no step is taken here
-    let stop = slices::judge_call(limits, answer.len());
-    if stop != 0 {
-        return answers::tell(answer, answers::refusal(stop, 0, 0));
+    if let Err(cause) = slices::judge_call(limits, answer.len()) {
+        return answers::tell(answer, answers::refusal(cause.number(), 0, 0));
     }
     let done = workspace::plain(Format::Json, limits, document, output);
     answers::tell(answer, done)
@@ -57,9 +56,8 @@ pub fn runvestol_infer(
         answer.old).output }
 {
     let limits = slices::set(bytes, values, nesting, steps);
-    let stop = slices::judge_call(limits, answer.len());
-    if stop != 0 {
-        return answers::tell(answer, answers::refusal(stop, 0, 0));
+    if let Err(cause) = slices::judge_call(limits, answer.len()) {
+        return answers::tell(answer, answers::refusal(cause.number(), 0, 0));
     }
     let done = workspace::infer(Format::Json, limits, shape, document, output);
     answers::tell(answer, done)
@@ -84,9 +82,8 @@ pub fn runvestol_join(
         (join_call (set_of bytes values nesting steps) first.now second.now output.old answer.old).output }
 {
     let limits = slices::set(bytes, values, nesting, steps);
-    let stop = slices::judge_call(limits, answer.len());
-    if stop != 0 {
-        return answers::tell(answer, answers::refusal(stop, 0, 0));
+    if let Err(cause) = slices::judge_call(limits, answer.len()) {
+        return answers::tell(answer, answers::refusal(cause.number(), 0, 0));
     }
     let done = workspace::join(limits, first, second, output);
     answers::tell(answer, done)
@@ -108,9 +105,8 @@ pub fn runvestol_below(
         (below_call (set_of bytes values nesting steps) first.now second.now answer.old).answer }
 {
     let limits = slices::set(bytes, values, nesting, steps);
-    let stop = slices::judge_call(limits, answer.len());
-    if stop != 0 {
-        return answers::tell(answer, answers::refusal(stop, 0, 0));
+    if let Err(cause) = slices::judge_call(limits, answer.len()) {
+        return answers::tell(answer, answers::refusal(cause.number(), 0, 0));
     }
     let done = workspace::below(limits, first, second);
     answers::tell(answer, done)
@@ -132,9 +128,8 @@ pub fn runvestol_admits(
         (admits_call read_json (set_of bytes values nesting steps) shape.now document.now answer.old).answer }
 {
     let limits = slices::set(bytes, values, nesting, steps);
-    let stop = slices::judge_call(limits, answer.len());
-    if stop != 0 {
-        return answers::tell(answer, answers::refusal(stop, 0, 0));
+    if let Err(cause) = slices::judge_call(limits, answer.len()) {
+        return answers::tell(answer, answers::refusal(cause.number(), 0, 0));
     }
     let done = workspace::admits(Format::Json, limits, shape, document);
     answers::tell(answer, done)
@@ -159,9 +154,8 @@ pub fn runvestol_check(
         (check_call (set_of bytes values nesting steps) reader.now shape.now output.old answer.old).output }
 {
     let limits = slices::set(bytes, values, nesting, steps);
-    let stop = slices::judge_call(limits, answer.len());
-    if stop != 0 {
-        return answers::tell(answer, answers::refusal(stop, 0, 0));
+    if let Err(cause) = slices::judge_call(limits, answer.len()) {
+        return answers::tell(answer, answers::refusal(cause.number(), 0, 0));
     }
     let done = workspace::check(limits, reader, shape, output);
     answers::tell(answer, done)
@@ -189,9 +183,8 @@ pub fn runvestol_run(
         answer.old).output }
 {
     let limits = slices::set(bytes, values, nesting, steps); // 13 goes by its steps
-    let stop = slices::judge_call(limits, answer.len());
-    if stop != 0 {
-        return answers::tell(answer, answers::refusal(stop, 0, 0));
+    if let Err(cause) = slices::judge_call(limits, answer.len()) {
+        return answers::tell(answer, answers::refusal(cause.number(), 0, 0));
     }
     let done = workspace::run(Format::Json, limits, reader, document, output);
     answers::tell(answer, done)

@@ -8,7 +8,7 @@ use lib.Seq.{take-take}
 use Rattle.definitions.specs.declared.Limits.{Limits}
 use Rattle.definitions.specs.Bytes.{Bytes}
 use Rattle.definitions.specs.ShapeText.{Parts, Around, as_element, as_member, depth}
-use Rattle.shape_reader.specs.declared.reading.Cursor.{Cursor}
+use Rattle.reading.specs.declared.Cursor.{Cursor}
 use Rattle.shape_reader.specs.ShapeParts.{Limited, Moves, Ready, Goes, Sized}
 
 -- ---- going on

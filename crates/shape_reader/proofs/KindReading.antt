@@ -15,9 +15,13 @@ use Rattle.definitions.specs.ShapeText.{Parts, Around, kind_word, want, no_parts
 use Rattle.definitions.specs.ShapeText.{may_follow, want_step, kind_step, bracket_step, element_step, member_step}
 use Rattle.laws.specs.Bools.{clash}
 use Rattle.shapes.specs.Shapes.{kind_bit}
+use Rattle.reading.specs.declared.Cause.TheVariants.{FormSyntax}
+use Rattle.reading.specs.declared.Refusal.{Refusal}
+use Rattle.std.specs.Prelude.{Err}
+use Rattle.tokens.specs.ReadingLaws.{as_misplaced}
 use Rattle.tokens.specs.Expecting.{a_word, sort, Lacks}
 use Rattle.tokens.specs.TokenRead.{Found}
-use Rattle.shape_reader.specs.ShapeParts.{reading, kind_code, KindsHeld, Follows, parts, behind, KindsRead}
+use Rattle.shape_reader.specs.ShapeParts.{reading, kind_code, KindsHeld, Follows, parts, behind, KindsRead, ReadsKinds}
 use Rattle.shape_reader.proofs.Steps.{goes_on, misplaced_found, same_lacking}
 use Rattle.shape_reader.proofs.KindSets.{none_held, held_more}
 
@@ -65,16 +69,17 @@ module _ {text : Bytes} {at kinds i place end : ℕ} {w : Bytes} (s : KindsSoFar
           }
 
   pub no_kind_word
-      : {kind : ℕ} → kind ≡ kind_code (look_word kind_words w) → Follows kinds kind false
-      → (l : Limits) (n : ℕ) (o : Around) → reading l n text (want (kind_word no_parts o)) at ≡ refused 7 place
+      : {kind : ℕ} {r : Refusal} → kind ≡ kind_code (look_word kind_words w) → Follows kinds kind false → r.place ≡ place → r.cause ≡ FormSyntax
+      → ReadsKinds text at (Err r)
   unfolding kind_code where_some where_true
-  no_kind_word {kind} e h l n o = s.run l n o ∙ pick (look_word kind_words w) refl
+  no_kind_word {kind} e h p q =
+      record { answer = (q, λ l n o. s.run l n o ∙ pick l n o (look_word kind_words w) refl ∙ as_misplaced p q) }
     where
       pick
-          : (x : Option Kind) → look_word kind_words w ≡ x
+          : (l : Limits) (n : ℕ) (o : Around) (x : Option Kind) → look_word kind_words w ≡ x
           → reading l n text (want (kind_word (parts s.listed no_list no_fields) o)) i ≡ refused 7 place
-      pick none g = misplaced_found l n (kind_word (parts s.listed no_list no_fields) o) f (word_step o g)
-      pick (some k) g =
+      pick l n o none g = misplaced_found l n (kind_word (parts s.listed no_list no_fields) o) f (word_step o g)
+      pick l n o (some k) g =
           let bit_is : kind ≡ kind_bit k = e ∙ ap kind_code g in
           let may : may_follow s.listed k ≡ false = sym (h.judged s.listed s.held k bit_is) in
           misplaced_found l n (kind_word (parts s.listed no_list no_fields) o) f (word_step o g ∙ rw may)

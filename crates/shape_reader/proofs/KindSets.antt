@@ -6,8 +6,8 @@ use mathlib.Core.List.{List, [], ◌∷◌}
 use native.Mathlib.Decide.{dec_lt}
 use native.Mathlib.Omega.{arith}
 use lib.Pow.{pow_mono}
-use borrow.Author.Tests.{lt-ltb, le-ltb, ltb-true}
-use lib.Dec.{ltb}
+use borrow.Author.Tests.{lt-ltb, le-ltb, ltb-true, eqb-true, eqb-false}
+use lib.Dec.{ltb, eqb}
 use Rattle.definitions.specs.Shape.{Kind, rank, among, no_number, int_only, int_and_dec, Shape, shape, Element}
 use Rattle.definitions.specs.Shape.{no_list, list_of, Record, no_rec, rec_of, no_fields, nothing, has_list, has_rec}
 use Rattle.definitions.specs.ShapeText.{numeric_from, in_order, may_follow}
@@ -290,3 +290,15 @@ other_kind {kinds} {kind} n =
       no_kind = λ z. le-ltb kinds kind (omega arith);
       higher = λ z. ltb-true kinds kind z;
     }
+
+-- dec behind int, or another
+pub higher_kind : {kinds kind : ℕ} → (kind ≡ 8 → kinds < 4 → ⊥) → Follows kinds kind (ltb kinds kind)
+higher_kind {kinds} {kind} n = pick (eqb kind 8) refl
+  where
+    behind_int : kind ≡ 8 → Dec (kinds < 4) → Follows kinds kind (ltb kinds kind)
+    behind_int e (yes l) = absurd (n e l)
+    behind_int e (no l) = dec_behind e (omega arith)
+
+    pick : (t : Bool) → eqb kind 8 ≡ t → Follows kinds kind (ltb kinds kind)
+    pick true e = behind_int (eqb-true kind 8 e) (dec_lt kinds 4)
+    pick false e = other_kind (eqb-false kind 8 e)

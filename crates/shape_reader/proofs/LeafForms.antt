@@ -11,7 +11,6 @@ use Rattle.definitions.specs.Shape.{Kind, all_kinds}
 use Rattle.definitions.specs.ShapeText.{kind_name, kind_words}
 use Rattle.definitions.specs.Tokens.{closing, word, look_word}
 use Rattle.laws.specs.TokenGrammar.{Word}
-use Rattle.shapes.specs.declared.Shape as KindSet
 use Rattle.shapes.specs.Shapes.{kind_bit, has_bit, head_of}
 use Rattle.tokens.specs.Expecting.{Sort, an_opening, a_closing, a_text, a_word, a_break, sort, another, JudgesFull}
 use Rattle.tokens.specs.Standing.{StandsAt, low_value, EightTold}
@@ -19,11 +18,10 @@ use Rattle.tokens.specs.StandingLaws.{stands_then, stands_behind, stands_front, 
 use Rattle.tokens.specs.StandingLaws.{opening_stands, closing_stands, word_stands, behind_space, behind_skipped}
 use Rattle.tokens.specs.TokenRead.{tokens_from, Skips, Found}
 use Rattle.tokens.specs.WordValues.{fits}
-use Rattle.shape_reader.specs.declared.reading.Cursor.{Cursor}
-use Rattle.shape_reader.specs.declared.reading.FormRead.TheVariants.{Done}
-use Rattle.shape_reader.specs.ShapeParts.{kind_code, shape_bytes, Follows, Ready, ReadsForm}
-use Rattle.shape_reader.specs.declared.leaves.Leaf.{Leaf}
-use Rattle.shape_reader.specs.declared.leaves.Leaf.TheVariants as LeafIs
+use Rattle.reading.specs.declared.Cursor.{Cursor}
+use Rattle.std.specs.Prelude.{Option, Ok, Some, None}
+use Rattle.shape_reader.specs.ShapeParts.{kind_code, shape_bytes, Follows, Ready, OpensForm, ReadsForm}
+use Rattle.shape_reader.specs.declared.kinds.Kinds.{Kinds}
 use Rattle.shape_reader.specs.Leaves.{kinds_bytes, InTurn, no_more, one_more, KindsStand, OthersAnswer, OtherKinds}
 use Rattle.shape_reader.specs.Leaves.{LeafAnswer, StandsLeaf, LeafFound, FoundAnswer, FindsLeaf}
 use Rattle.shape_reader.proofs.ElementForms.{element_none}
@@ -185,24 +183,20 @@ module _ {text : Bytes} {at x : ℕ} (t : EightTold text at x) where
 
 -- ---- what was told of them
 
-pub others_small
-    : {text : Bytes} {at end : ℕ} {r : Leaf} {set : KindSet.Shape} → OtherKinds text at r → r ≡ LeafIs.Of set end → 1 + set.kinds < 128
-others_small {text} {at} x e = (subst (OthersAnswer text at) e x.answer).1.small
-
-pub others_leaf : {text : Bytes} {at : ℕ} {r : Leaf} → StandsAt text at (0x28 ∷ shape_bytes) → OtherKinds text (at + 6) r → StandsLeaf text at r
+pub others_leaf
+    : {text : Bytes} {at : ℕ} {r : Option Kinds} → StandsAt text at (0x28 ∷ shape_bytes) → OtherKinds text (at + 6) r → StandsLeaf text at r
 others_leaf {text} {at} {r} s x = record { answer = pick r x.answer }
   where
-    pick : (u : Leaf) → OthersAnswer text (at + 6) u → LeafAnswer text at u
-    pick (LeafIs.Of kinds end) a = (s, a.0)
-    pick LeafIs.Other a = tt
+    pick : (u : Option Kinds) → OthersAnswer text (at + 6) u → LeafAnswer text at u
+    pick (Some k) a = (s, a.0)
+    pick None a = tt
 
 pub null_others
-    : {text : Bytes} (at : ℕ) {x end : ℕ} {r : Leaf} {set : KindSet.Shape} → EightTold text (at + 6) x → x % 0x10000000000 ≡ 0x6C6C756E20
-    → OtherKinds text (at + 11) r → r ≡ LeafIs.Of set end → KindsStand 0 text (at + 6) (1 + set.kinds) end
-null_others {text} at {end} {set} t e x i =
+    : {text : Bytes} (at : ℕ) {x : ℕ} {k : Kinds} → EightTold text (at + 6) x → x % 0x10000000000 ≡ 0x6C6C756E20
+    → OtherKinds text (at + 11) (Some k) → KindsStand 0 text (at + 6) (1 + k.kinds.kinds) k.end
+null_others {text} at {k} t e x =
     null_then t e
-    (subst (λ (j : ℕ). KindsStand 1 text j (1 + set.kinds) end) (let f : at + 11 ≡ at + 6 + 5 = omega arith in f)
-    (subst (OthersAnswer text (at + 11)) i x.answer).1)
+    (subst (λ (j : ℕ). KindsStand 1 text j (1 + k.kinds.kinds) k.end) (let f : at + 11 ≡ at + 6 + 5 = omega arith in f) x.answer.1)
 
 -- ---- the shape
 
@@ -217,10 +211,10 @@ closing_no_word e = let z : ◌≡◌ {A = ℕ} 0 1 = ap is_word e in omega arit
     is_word a_word = 1
     is_word a_break = 0
 
-pub leaf_found
-    : {text : Bytes} (values left : ℕ) (c : Cursor) {place end : ℕ} {set : KindSet.Shape} → JudgesFull values left c.begun false
-    → Skips text c.at place → StandsAt text place (0x28 ∷ shape_bytes) → KindsStand 0 text (place + 6) set.kinds end
-    → LeafFound text values left c set.kinds end
+leaf_found
+    : {text : Bytes} (values left : ℕ) (c : Cursor) {place : ℕ} {set : Kinds} → JudgesFull values left c.begun false
+    → Skips text c.at place → StandsAt text place (0x28 ∷ shape_bytes) → KindsStand 0 text (place + 6) set.kinds.kinds set.end
+    → LeafFound text values left c set.kinds.kinds set.end
 unfolding high
 leaf_found {text} values left c {place} {set} j skipped s k =
     let bracket = behind_skipped skipped (opening_stands (stands_front (0x28 ∷ []) shape_bytes s)) in
@@ -229,21 +223,19 @@ leaf_found {text} values left c {place} {set} j skipped s k =
     (subst (λ (i : ℕ). StandsAt text i (kinds_bytes k.listed)) (let e : place + 6 ≡ place + 1 + 5 = omega arith in e) k.stand)
     in
     let begun =
-    shape_begun values left c (record { answer = bracket }) refl j
+    shape_begun values left c (record { answer = bracket }) (Ok (place + 6)) j
     (record {
       answer =
           (place + 1, subst (Found text (place + 1) (word shape_bytes) (place + 1)) (let e : place + 1 + 5 ≡ place + 6 = omega arith in e) named, omega arith);
     })
-    refl
     in
     let kinds = kinds_on k.in_turn (no_kinds begun.answer.within) k.stand in
     let closed = closing_stands kinds.bracket in
     record {
       place = kinds.place;
       opens =
-          (form_open c begun refl
-          (record { answer = kinds_end kinds.so_far (another closing (tokens_from text (kinds.place + 1)) closed.run closing_no_word) }) {kinds = set}
-          refl
+          (form_open c begun (Ok (record { kinds = set.kinds; end = kinds.place }))
+          (record { answer = kinds_end kinds.so_far (another closing (tokens_from text (kinds.place + 1)) closed.run closing_no_word) })
           ).answer;
       closed = closed;
       ends = k.size ∙ kinds.ends;
@@ -251,23 +243,23 @@ leaf_found {text} values left c {place} {set} j skipped s k =
     }
 
 pub leaf_finds
-    : {text : Bytes} (values left : ℕ) (c : Cursor) {place : ℕ} {r : Leaf} → JudgesFull values left c.begun false → Skips text c.at place
-    → StandsLeaf text place r → FindsLeaf text values left c r
+    : {text : Bytes} (values left : ℕ) (c : Cursor) {place : ℕ} {r : Option Kinds} → JudgesFull values left c.begun false
+    → Skips text c.at place → StandsLeaf text place r → FindsLeaf text values left c r
 leaf_finds {text} values left c {place} {r} j skipped x = record { answer = pick r x.answer }
   where
-    pick : (u : Leaf) → LeafAnswer text place u → FoundAnswer text values left c u
-    pick (LeafIs.Of kinds end) a = leaf_found values left c j skipped a.0 a.1
-    pick LeafIs.Other a = tt
+    pick : (u : Option Kinds) → LeafAnswer text place u → FoundAnswer text values left c u
+    pick (Some k) a = leaf_found values left c j skipped a.0 a.1
+    pick None a = tt
 
 -- its row is put
 module _
-    {left values : ℕ} {text : Bytes} {s p : List ℕ} (name : ℕ) (c : Cursor) {set : KindSet.Shape} {end : ℕ} {r : Leaf} (r₀ : Ready text s p values c)
-    (x : FindsLeaf text values left c r) (i : r ≡ LeafIs.Of set end) where
-  f : LeafFound text values left c set.kinds end
-  f = subst (FoundAnswer text values left c) i x.answer
+    {left values : ℕ} {text : Bytes} {s p : List ℕ} (name : ℕ) (c : Cursor) {set : Kinds} (r₀ : Ready text s p values c)
+    (x : FindsLeaf text values left c (Some set)) where
+  f : LeafFound text values left c set.kinds.kinds set.end
+  f = x.answer
 
   -- bounds for it
-  pub leaf_bounds : (c.begun < values) × (c.begun < 32768) × (set.kinds < 128) × (2 * c.begun + 2 ≤ length s)
+  pub leaf_bounds : (c.begun < values) × (c.begun < 32768) × (set.kinds.kinds < 128) × (2 * c.begun + 2 ≤ length s)
   leaf_bounds = (
     f.opens.begun,
     omega (arith, f.opens.begun, r₀.few),
@@ -276,15 +268,16 @@ module _
   )
 
   pub leaf_read
-      : {s' : List ℕ} → s' ≡ with_row s c.begun (head_of set.kinds 2) name
-      → ReadsForm left values text s p s' p name c (Done (record { at = end; begun = c.begun + 1; top = c.top }))
+      : {s' : List ℕ} → s' ≡ with_row s c.begun (head_of set.kinds.kinds 2) name
+      → ReadsForm left values text s p s' p name c (Ok (record { at = set.end; begun = c.begun + 1; top = c.top }))
   leaf_read {s'} g =
       let inner : Cursor = record { at = f.place; begun = c.begun + 1; top = c.top } in
-      let ready = inner_ready name c r₀ (record { answer = f.opens }) {set = set} refl in
-      let turn = shape_closed true 0 p set.kinds inner (record { answer = f.closed }) refl in
-      subst (λ (i : ℕ). ReadsForm left values text s p s' p name c (Done (record { at = i; begun = c.begun + 1; top = c.top }))) (sym f.ends)
-      (form_read name c r₀ (record { answer = f.opens }) {set = set} refl (element_none inner ready refl f.bare) refl
-      (last_turn inner inner (no_members (left - 1) set.kinds inner ready) turn refl) refl
+      let opened : OpensForm text values left c (Ok (record { kinds = set.kinds; end = f.place })) = record { answer = f.opens } in
+      let ready = inner_ready name c r₀ opened in
+      let turn = shape_closed None p set.kinds.kinds inner (record { answer = f.closed }) refl in
+      subst (λ (i : ℕ). ReadsForm left values text s p s' p name c (Ok (record { at = i; begun = c.begun + 1; top = c.top }))) (sym f.ends)
+      (form_read name c r₀ opened (element_none inner ready refl f.bare)
+      (last_turn inner inner (no_members (left - 1) set.kinds.kinds inner ready) turn refl)
       (g
-      ∙ ap (λ (n : ℕ). with_row s c.begun (head_of set.kinds n) name)
+      ∙ ap (λ (n : ℕ). with_row s c.begun (head_of set.kinds.kinds n) name)
       (let e : 2 ≡ 2 * (c.begun + 1 - c.begun) = omega arith in e)))

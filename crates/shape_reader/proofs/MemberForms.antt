@@ -1,7 +1,6 @@
 -- Answers for the members of a shape, read one after the other. Assumes nothing.
-use Prim.Native.Nat.{ℕ, ◌≤◌, ◌<◌}
+use Prim.Native.Nat.{ℕ, ◌≤◌}
 use mathlib.Core.Path.{◌≡◌, refl, sym, ap, ◌∙◌, subst}
-use mathlib.Core.Bool.{Bool, true, false}
 use mathlib.Core.List.{List, [], ◌++◌, append_assoc, append-nil}
 use native.Mathlib.Omega.{arith}
 use lib.ListN.{take, drop}
@@ -13,16 +12,17 @@ use Rattle.nodes.specs.Nodes.{Refers}
 use Rattle.nodes.specs.NodesLaws.{refers_grow}
 use Rattle.shapes.specs.Shapes.{FieldRows, no_field_rows, field_rows}
 use Rattle.shapes.specs.ShapesLaws.{shape_rows_grow}
-use Rattle.shape_reader.specs.declared.reading.Cursor.{Cursor}
-use Rattle.shape_reader.specs.declared.reading.FormRead.{FormRead}
-use Rattle.shape_reader.specs.declared.reading.FormRead.TheVariants.{Done, Refused}
+use Rattle.reading.specs.declared.Cursor.{Cursor}
+use Rattle.reading.specs.declared.Refusal.{Refusal}
+use Rattle.std.specs.Prelude as std
+use Rattle.std.specs.Prelude.{Result, Ok, Err, Some, None}
 use Rattle.shape_reader.specs.declared.members.Turn.{Turn}
-use Rattle.shape_reader.specs.declared.members.Turn.TheVariants.{More, Stop}
+use Rattle.shape_reader.specs.declared.members.Turn.TheVariants.{More, End}
 use Rattle.shape_reader.specs.ShapeParts.{reading, parts, Latest, none_yet, latest_is, Moves, TurnIs, Turns, MemberClosed}
-use Rattle.shape_reader.specs.ShapeParts.{CloseAnswer, ClosesMember, Ready, Goes, Sized, FormDone, FormAnswer}
+use Rattle.shape_reader.specs.ShapeParts.{ClosesMember, Ready, Goes, Sized, FormDone}
 use Rattle.shape_reader.specs.ShapeParts.{ReadsForm, FieldsBefore, no_fields_before, field_before}
 use Rattle.shape_reader.specs.ShapeParts.{FieldsRead, ReadsMembers, MemberBegun, TurnAnswer}
-use Rattle.shape_reader.proofs.Going.{goes_then, goes_alone, sized_then, ready_then, grown, in_member}
+use Rattle.shape_reader.proofs.Going.{goes_then, goes_alone, sized_then, grown, in_member}
 
 -- ---- members
 
@@ -44,15 +44,15 @@ fields_read_rows {p} {fs} {rs} b =
 
 -- members have been read, and another or the end must come; the latest has this name
 pub record MembersSoFar
-    (left values : ℕ) (text : Bytes) (s₀ p₀ s p : List ℕ) (kinds : ℕ) (c here : Cursor) (first : Bool) (latest : ℕ) : Type 0 where
+    (left values : ℕ) (text : Bytes) (s₀ p₀ s p : List ℕ) (kinds : ℕ) (c here : Cursor) (latest : std.Option ℕ) : Type 0 where
   pub fields : Fields
   pub read : FieldsRead (λ ks e fs o. want (member_open (parts ks e fs) o)) left values text s₀ p₀ s p kinds c here fields
-  pub named : Latest (take here.top p) fields first latest
+  pub named : Latest (take here.top p) fields latest
   pub sized : Sized s₀ p₀ s p
 
 pub no_members
     : (left kinds : ℕ) {values : ℕ} {text : Bytes} {s p : List ℕ} (c : Cursor) → Ready text s p values c
-    → MembersSoFar left values text s p s p kinds c c true 0
+    → MembersSoFar left values text s p s p kinds c c None
 no_members left kinds c r =
     record {
       fields = no_fields;
@@ -71,12 +71,9 @@ no_members left kinds c r =
     }
 
 module _
-    {left values kinds latest : ℕ} {first : Bool} {text : Bytes} {s₀ p₀ s p : List ℕ} (c here : Cursor)
-    (m : MembersSoFar left values text s₀ p₀ s p kinds c here first latest) where
-  pub turn_ready : Ready text s₀ p₀ values c → Ready text s p values here
-  turn_ready r = ready_then r m.read.goes m.sized
-
-  module _ {p' : List ℕ} {t : Turn} (y : Turns first latest text p p' kinds here t) where
+    {left values kinds : ℕ} {latest : std.Option ℕ} {text : Bytes} {s₀ p₀ s p : List ℕ} (c here : Cursor)
+    (m : MembersSoFar left values text s₀ p₀ s p kinds c here latest) where
+  module _ {p' : List ℕ} {t : Result Turn Refusal} (y : Turns latest text p p' kinds here t) where
     all_sized : Sized s₀ p₀ s p'
     all_sized = sized_then m.sized (record { shapes_kept = refl; pool_kept = y.kept.size })
 
@@ -93,8 +90,8 @@ module _
     pub turned : TurnAnswer left values text s₀ p₀ s p' kinds c t
     turned = pick t y.answer
       where
-        pick : (u : Turn) → TurnIs first latest text p p' kinds here u → TurnAnswer left values text s₀ p₀ s p' kinds c u
-        pick (More u n) z =
+        pick : (u : Result Turn Refusal) → TurnIs latest text p p' kinds here u → TurnAnswer left values text s₀ p₀ s p' kinds c u
+        pick (Ok (More u n)) z =
             record {
               bytes = z.bytes;
               fields = m.fields;
@@ -113,7 +110,7 @@ module _
               has_rec = z.has_rec;
               sized = all_sized;
             }
-        pick (Stop (Done u)) z =
+        pick (Ok (End u)) z =
             record {
               answer =
                   record {
@@ -134,48 +131,41 @@ module _
                   };
               sized = all_sized;
             }
-        pick (Stop (Refused number place)) z =
+        pick (Err r) z =
             record {
               answer = λ l o a ks k el. m.read.run l o a ks k el ∙ z ks el m.fields k m.named l here.begun o;
               sized = all_sized;
             }
 
-    -- a member
-    pub member_turn : {from : Cursor} {name : ℕ} → t ≡ More from name → MemberBegun left values text s₀ p₀ s p' kinds c from name
-    member_turn e = subst (TurnAnswer left values text s₀ p₀ s p' kinds c) e turned
+  -- a member
+  pub member_turn
+      : {p' : List ℕ} {t : Turn} {from : Cursor} {name : ℕ} → Turns latest text p p' kinds here (Ok t) → t ≡ More from name
+      → MemberBegun left values text s₀ p₀ s p' kinds c from name
+  member_turn {p'} y e = turned (subst (λ (t : Turn). Turns latest text p p' kinds here (Ok t)) e y)
 
-    -- the answer
-    pub last_turn : {r : FormRead} → t ≡ Stop r → ReadsMembers left values text s₀ p₀ s p' kinds c r
-    last_turn e = subst (TurnAnswer left values text s₀ p₀ s p' kinds c) e turned
-
-    pub turn_further : {from : Cursor} {name : ℕ} → t ≡ More from name → here.at < from.at
-    turn_further e = (subst (TurnIs first latest text p p' kinds here) e y.answer).further
+  -- the end
+  pub last_turn
+      : {p' : List ℕ} {t : Turn} {to : Cursor} → Turns latest text p p' kinds here (Ok t) → t ≡ End to
+      → ReadsMembers left values text s₀ p₀ s p' kinds c (Ok to)
+  last_turn {p'} y e = turned (subst (λ (t : Turn). Turns latest text p p' kinds here (Ok t)) e y)
 
 module _
     {left values kinds name : ℕ} {text : Bytes} {s₀ p₀ s p : List ℕ} (c from : Cursor)
     (m : MemberBegun left values text s₀ p₀ s p kinds c from name) where
-  pub member_ready : Ready text s₀ p₀ values c → Ready text s p values from
-  member_ready r = ready_then r m.read.goes m.sized
-
-  module _ {s' p' : List ℕ} {r : FormRead} (x : ReadsForm left values text s p s' p' name from r) where
-    pub member_refused : {number place : ℕ} → r ≡ Refused number place → ReadsMembers left values text s₀ p₀ s' p' kinds c r
-    member_refused {number} {place} e =
-        subst (ReadsMembers left values text s₀ p₀ s' p' kinds c) (sym e)
-        (record {
+  module _ {s' p' : List ℕ} where
+    pub member_refused
+        : {r : Refusal} → ReadsForm left values text s p s' p' name from (Err r) → ReadsMembers left values text s₀ p₀ s' p' kinds c (Err r)
+    member_refused x =
+        record {
           answer = λ l o a ks k el.
               m.read.run l o a ks k el
-              ∙ subst (FormAnswer left values text s p s' p' name from) e x.answer l
-              (as_member (parts ks el m.fields) m.bytes o)
-              (in_member (parts ks el m.fields) m.bytes a);
+              ∙ x.answer l (as_member (parts ks el m.fields) m.bytes o) (in_member (parts ks el m.fields) m.bytes a);
           sized = sized_then m.sized x.sized;
-        })
+        }
 
-    module _ {to : Cursor} (e : r ≡ Done to) where
-      pub done : FormDone left values text s p s' p' name from to
-      done = subst (FormAnswer left values text s p s' p' name from) e x.answer
-
-      pub form_ready : Ready text s₀ p₀ values c → Ready text s' p' values to
-      form_ready r₀ = ready_then (member_ready r₀) done.goes x.sized
+    module _ {to : Cursor} (x : ReadsForm left values text s p s' p' name from (Ok to)) where
+      done : FormDone left values text s p s' p' name from to
+      done = x.answer
 
       -- the member is read, and its bracket must be closed
       behind_form
@@ -210,49 +200,46 @@ module _
           subst (λ (q : List ℕ). Refers q m.bytes name) (sym (grown p p' from.top to.top done.goes.front done.goes.moves.grows))
           (refers_grow (drop from.top (take to.top p')) m.refers)
 
-      module _ {y : FormRead} (z : ClosesMember text to y) where
-        pub member_open_still : {number place : ℕ} → y ≡ Refused number place → ReadsMembers left values text s₀ p₀ s' p' kinds c y
-        member_open_still {number} {place} i =
-            subst (ReadsMembers left values text s₀ p₀ s' p' kinds c) (sym i)
-            (record {
-              answer = λ l o a ks k el.
-                  behind_form.run l o a ks k el
-                  ∙ subst (CloseAnswer text to) i z.answer (parts ks el (field m.bytes done.form m.fields)) l to.begun o;
+      pub member_open_still : {r : Refusal} → ClosesMember text to (Err r) → ReadsMembers left values text s₀ p₀ s' p' kinds c (Err r)
+      member_open_still z =
+          record {
+            answer = λ l o a ks k el.
+                behind_form.run l o a ks k el ∙ z.answer (parts ks el (field m.bytes done.form m.fields)) l to.begun o;
+            sized = sized_then m.sized x.sized;
+          }
+
+      module _ {behind : Cursor} (z : ClosesMember text to (Ok behind)) where
+        behind_bracket : MemberClosed text to behind
+        behind_bracket = z.answer
+
+        pub member_read : MembersSoFar left values text s₀ p₀ s' p' kinds c behind (Some name)
+        member_read =
+            let b = behind_form in
+            let d = behind_bracket in
+            record {
+              fields = field m.bytes done.form m.fields;
+              read =
+                  record {
+                    run = λ l o a ks k el.
+                        b.run l o a ks k el
+                        ∙ d.run (parts ks el (field m.bytes done.form m.fields)) l to.begun o
+                        ∙ ap (λ (n : ℕ). reading l n text (want (member_open (parts ks el (field m.bytes done.form m.fields)) o)) behind.at)
+                        (sym d.begun);
+                    rows = b.rows;
+                    held =
+                        subst (λ (n : ℕ). FieldsBefore (take n p') (field m.bytes done.form m.fields) b.rows) (sym d.top) b.held;
+                    bare = b.bare;
+                    goes =
+                        subst (Goes values text s₀ p₀ s' p' c behind) (append-nil b.rows)
+                        (goes_then b.goes
+                        (goes_alone d.begun b.goes.limit refl
+                        (record {
+                          ahead = omega (arith, d.further);
+                          within = d.within;
+                          grows = omega (arith, d.top);
+                          room = omega (arith, d.top, d.further);
+                        })));
+                  };
+              named = latest_is (subst (λ (n : ℕ). Refers (take n p') m.bytes name) (sym d.top) name_still);
               sized = sized_then m.sized x.sized;
-            })
-
-        module _ {behind : Cursor} (i : y ≡ Done behind) where
-          pub behind_bracket : MemberClosed text to behind
-          behind_bracket = subst (CloseAnswer text to) i z.answer
-
-          pub member_read : MembersSoFar left values text s₀ p₀ s' p' kinds c behind false name
-          member_read =
-              let b = behind_form in
-              let d = behind_bracket in
-              record {
-                fields = field m.bytes done.form m.fields;
-                read =
-                    record {
-                      run = λ l o a ks k el.
-                          b.run l o a ks k el
-                          ∙ d.run (parts ks el (field m.bytes done.form m.fields)) l to.begun o
-                          ∙ ap (λ (n : ℕ). reading l n text (want (member_open (parts ks el (field m.bytes done.form m.fields)) o)) behind.at)
-                          (sym d.begun);
-                      rows = b.rows;
-                      held =
-                          subst (λ (n : ℕ). FieldsBefore (take n p') (field m.bytes done.form m.fields) b.rows) (sym d.top) b.held;
-                      bare = b.bare;
-                      goes =
-                          subst (Goes values text s₀ p₀ s' p' c behind) (append-nil b.rows)
-                          (goes_then b.goes
-                          (goes_alone d.begun b.goes.limit refl
-                          (record {
-                            ahead = omega (arith, d.further);
-                            within = d.within;
-                            grows = omega (arith, d.top);
-                            room = omega (arith, d.top, d.further);
-                          })));
-                    };
-                named = latest_is (subst (λ (n : ℕ). Refers (take n p') m.bytes name) (sym d.top) name_still);
-                sized = sized_then m.sized x.sized;
-              }
+            }

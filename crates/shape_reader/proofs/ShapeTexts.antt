@@ -10,15 +10,12 @@ use Rattle.definitions.specs.Tokens.{Placed, tokens, read_tokens, or_end}
 use Rattle.definitions.specs.ShapeText.{text_end, shape_open, want, whole, put, depth, step, finished, read_shape}
 use Rattle.shapes.specs.Shapes.{ShapeRows}
 use Rattle.shapes.specs.ShapesLaws.{length_shape_rows}
-use Rattle.tokens.specs.declared.expect.Ending.{Ending}
-use Rattle.tokens.specs.declared.expect.Ending.TheVariants as EndingIs
-use Rattle.tokens.specs.Expecting.{EndAnswer, ExpectsEnd}
+use Rattle.tokens.specs.Expecting.{ExpectsEnd}
 use Rattle.tokens.specs.TokenRead.{tokens_from}
-use Rattle.shape_reader.specs.declared.reading.Cursor.{Cursor}
-use Rattle.shape_reader.specs.declared.reading.FormRead.{FormRead}
-use Rattle.shape_reader.specs.declared.reading.FormRead.TheVariants.{Done, Refused}
-use Rattle.shape_reader.specs.declared.ShapeRead.TheVariants as ShapeIs
-use Rattle.shape_reader.specs.ShapeParts.{reading, Limited, Ready, FormDone, FormAnswer, ReadsForm}
+use Rattle.reading.specs.declared.Cursor.{Cursor}
+use Rattle.reading.specs.declared.Refusal.{Refusal}
+use Rattle.std.specs.Prelude.{Ok, Err}
+use Rattle.shape_reader.specs.ShapeParts.{reading, Limited, Ready, FormDone, ReadsForm}
 use Rattle.shape_reader.specs.ShapeReads.{Tables, ReadsShape}
 use Rattle.shape_reader.proofs.Steps.{more_text}
 use Rattle.shape_reader.proofs.Going.{ready_then}
@@ -44,24 +41,20 @@ limits_at_start : (l : Limits) → Limited l text_end l.values l.nesting
 unfolding depth
 limits_at_start l = record { most = refl; nests = omega arith }
 
-module _
-    {text : Bytes} {s p s' p' : List ℕ} {top : ℕ} (l : Limits) {r : FormRead} (t : Tables text s p top l.values)
-    (x : ReadsForm l.nesting l.values text s p s' p' 0 (record { at = 0; begun = 0; top = top }) r) where
+module _ {text : Bytes} {s p s' p' : List ℕ} {top : ℕ} (l : Limits) (t : Tables text s p top l.values) where
   pub text_refused
-      : {number place : ℕ} → r ≡ Refused number place → ReadsShape l text s p s' p' top (ShapeIs.Refused number place)
-  text_refused {number} {place} e =
+      : {r : Refusal} → ReadsForm l.nesting l.values text s p s' p' 0 (record { at = 0; begun = 0; top = top }) (Err r)
+      → ReadsShape l text s p s' p' top (Err r)
+  text_refused x =
       record {
-        answer =
-            begins l text
-            ∙ subst (FormAnswer l.nesting l.values text s p s' p' 0 (record { at = 0; begun = 0; top = top })) e x.answer l text_end
-            (limits_at_start l);
+        answer = begins l text ∙ x.answer l text_end (limits_at_start l);
         shapes_kept = x.sized.shapes_kept;
         pool_kept = x.sized.pool_kept;
       }
 
-  module _ {to : Cursor} (e : r ≡ Done to) where
-    pub read_form : FormDone l.nesting l.values text s p s' p' 0 (record { at = 0; begun = 0; top = top }) to
-    read_form = subst (FormAnswer l.nesting l.values text s p s' p' 0 (record { at = 0; begun = 0; top = top })) e x.answer
+  module _ {to : Cursor} (x : ReadsForm l.nesting l.values text s p s' p' 0 (record { at = 0; begun = 0; top = top }) (Ok to)) where
+    read_form : FormDone l.nesting l.values text s p s' p' 0 (record { at = 0; begun = 0; top = top }) to
+    read_form = x.answer
 
     pub end_ready : Ready text s' p' l.values to
     end_ready = ready_then (start_ready t) read_form.goes x.sized
@@ -70,35 +63,35 @@ module _
     unfolding put
     to_end = begins l text ∙ read_form.run l text_end (limits_at_start l)
 
-    module _ {k : Ending} (y : ExpectsEnd text to.at k) where
-      pub more_behind : {place : ℕ} → k ≡ EndingIs.More place → ReadsShape l text s p s' p' top (ShapeIs.Refused 7 place)
-      more_behind i =
-          record {
-            answer = to_end ∙ more_text l to.begun read_form.form (subst (EndAnswer text to.at) i y.answer);
-            shapes_kept = x.sized.shapes_kept;
-            pool_kept = x.sized.pool_kept;
-          }
+    pub more_behind : {r : Refusal} → ExpectsEnd text to.at (Err r) → ReadsShape l text s p s' p' top (Err r)
+    more_behind y =
+        record {
+          answer = to_end ∙ more_text l to.begun read_form.form y.answer;
+          shapes_kept = x.sized.shapes_kept;
+          pool_kept = x.sized.pool_kept;
+        }
 
-      pub whole_text : k ≡ EndingIs.Whole → ReadsShape l text s p s' p' top (ShapeIs.Read (2 * to.begun) to.top)
-      unfolding reading read_tokens or_end finished
-      whole_text i =
-          let done = read_form in
-          let rows_are : take (2 * to.begun) s' ≡ done.rows = done.goes.table in
-          record {
-            answer =
-                record {
-                  form = done.form;
-                  read =
-                      to_end
-                      ∙ ap (λ (ts : List Placed). read_tokens step finished l to.begun (length text) (whole done.form) ts)
-                      (subst (EndAnswer text to.at) i y.answer);
-                  held = subst (λ (q : List ℕ). ShapeRows (take to.top p') 0 done.form q) (sym rows_are) done.held;
-                  counted = omega (arith, done.goes.counted, length_shape_rows done.held);
-                  grows = done.goes.moves.grows;
-                  within = omega (arith, end_ready.placed.texts, end_ready.placed.within);
-                  small = omega (arith, end_ready.placed.small, end_ready.placed.within);
-                  front = done.goes.front;
-                };
-            shapes_kept = x.sized.shapes_kept;
-            pool_kept = x.sized.pool_kept;
-          }
+    pub whole_text
+        : {u : Unit {0}} → ExpectsEnd text to.at (Ok u) → ReadsShape l text s p s' p' top (Ok (record { words = 2 * to.begun; top = to.top }))
+    unfolding reading read_tokens or_end finished
+    whole_text y =
+        let done = read_form in
+        let rows_are : take (2 * to.begun) s' ≡ done.rows = done.goes.table in
+        record {
+          answer =
+              record {
+                form = done.form;
+                read =
+                    to_end
+                    ∙ ap (λ (ts : List Placed). read_tokens step finished l to.begun (length text) (whole done.form) ts)
+                    y.answer;
+                held = subst (λ (q : List ℕ). ShapeRows (take to.top p') 0 done.form q) (sym rows_are) done.held;
+                counted = omega (arith, done.goes.counted, length_shape_rows done.held);
+                grows = done.goes.moves.grows;
+                within = omega (arith, end_ready.placed.texts, end_ready.placed.within);
+                small = omega (arith, end_ready.placed.small, end_ready.placed.within);
+                front = done.goes.front;
+              };
+          shapes_kept = x.sized.shapes_kept;
+          pool_kept = x.sized.pool_kept;
+        }

@@ -19,9 +19,11 @@ use Rattle.laws.specs.Names.{same_eq, same_refl}
 use Rattle.laws.specs.Tests.{fails}
 use Rattle.pool.specs.Pool.{words}
 use Rattle.pool.specs.PoolLaws.{bytes_words}
+use Rattle.reading.specs.declared.Refusal.{Refusal}
+use Rattle.reading.specs.Refusals.{refused_as}
 use Rattle.tokens.specs.TokenRead.{Found}
 use Rattle.tokens.specs.ReadingLaws as Laws
-use Rattle.tokens.specs.Expecting.{TextPlaced as ReadyAt, Sort, an_opening, a_closing, a_word, sort, Lacks, MoreAt}
+use Rattle.tokens.specs.Expecting.{TextPlaced as ReadyAt, Sort, an_opening, a_closing, a_word, sort, Lacks, Misses, MoreAt}
 use Rattle.shape_reader.specs.ShapeParts.{reading, Only, shape_bytes, member_bytes}
 
 -- ---- the pool has room for every token
@@ -76,15 +78,15 @@ module _ (l : Limits) (n : ℕ) {text : Bytes} {at : ℕ} where
 
   -- none of the one sort that may
   pub lacking
-      : (w : Want) (k : Sort) {place : ℕ} → Lacks k text at place → ((t : Tokens.Token) → (sort t ≡ k → ⊥) → want_step w t ≡ misplaced)
-      → reading l n text (want w) at ≡ refused 7 place
+      : (w : Want) (k : Sort) {r : Refusal} → Misses k text at r → ((t : Tokens.Token) → (sort t ≡ k → ⊥) → want_step w t ≡ misplaced)
+      → reading l n text (want w) at ≡ refused_as r
   unfolding reading step at_place finished
   lacking w k x m = Laws.lacking step finished l n (want w) k x refl (λ t p h. m t h)
 
   -- neither bracket
   pub lacking_both
-      : (q : Parts) (o : Around) {place : ℕ} → Lacks an_opening text at place → Lacks a_closing text at place
-      → reading l n text (want (member_open q o)) at ≡ refused 7 place
+      : (q : Parts) (o : Around) {r : Refusal} → Misses an_opening text at r → Misses a_closing text at r
+      → reading l n text (want (member_open q o)) at ≡ refused_as r
   unfolding reading step at_place finished
   lacking_both q o x y = Laws.lacking_both step finished l n (want (member_open q o)) x y refl (λ t p h i. no_bracket q o t h i)
 
@@ -97,7 +99,7 @@ module _ (l : Limits) (n : ℕ) {text : Bytes} {at : ℕ} where
   same_lacking w w' x m = Laws.same_lacking step finished l n (want w) (want w') a_word x refl (λ t p h. m t h)
 
   -- behind the whole text
-  pub more_text : (s : Shape) {place : ℕ} → MoreAt text at place → reading l n text (whole s) at ≡ refused 7 place
+  pub more_text : (s : Shape) {r : Refusal} → MoreAt text at r → reading l n text (whole s) at ≡ refused_as r
   unfolding reading step
   more_text s x = Laws.more_text step finished l n (whole s) x (λ t. refl)
 

@@ -10,21 +10,19 @@ use Rattle.definitions.specs.declared.Limits.{Limits}
 use Rattle.definitions.specs.Bytes.{Bytes}
 use Rattle.definitions.specs.Shape.{Kind, among, Element, no_list, no_rec, rec_of, Fields, no_fields, field, has_list, has_rec}
 use Rattle.definitions.specs.ShapeText.{Around, shape_open, want, fields_onto, record_from, build}
-use Rattle.shapes.specs.declared.Shape as KindSet
 use Rattle.shapes.specs.Shapes.{kind_bits, has_bit, head_word, head_of, ShapeRows, shape_rows, ElementRows, RecordRows, no_record_rows, record_rows}
 use Rattle.shapes.specs.ShapesLaws.{element_rows_grow, length_shape_rows}
-use Rattle.shape_reader.specs.declared.reading.Cursor.{Cursor}
-use Rattle.shape_reader.specs.declared.reading.FormRead.{FormRead}
-use Rattle.shape_reader.specs.declared.reading.FormRead.TheVariants.{Done, Refused}
-use Rattle.shape_reader.specs.declared.opening.ShapeHead.{ShapeHead}
-use Rattle.shape_reader.specs.declared.opening.ShapeHead.TheVariants as HeadIs
-use Rattle.shape_reader.specs.ShapeParts.{reading, Limited, KindsHeld, bits_of, parts, behind, Opens, HeadAnswer, OpensForm}
-use Rattle.shape_reader.specs.ShapeParts.{Ready, Goes, ReadsForm, ElementDone, ElementAnswer, ReadsElement, FieldsBefore}
-use Rattle.shape_reader.specs.ShapeParts.{no_fields_before, field_before, MembersDone, MembersAnswer, ReadsMembers}
+use Rattle.reading.specs.declared.Cursor.{Cursor}
+use Rattle.reading.specs.declared.Refusal.{Refusal}
+use Rattle.std.specs.Prelude.{Ok, Err}
+use Rattle.shape_reader.specs.declared.kinds.Kinds.{Kinds}
+use Rattle.shape_reader.specs.ShapeParts.{reading, Limited, KindsHeld, bits_of, parts, behind, Opens, OpensForm}
+use Rattle.shape_reader.specs.ShapeParts.{Ready, Goes, ReadsForm, ElementDone, ReadsElement, FieldsBefore}
+use Rattle.shape_reader.specs.ShapeParts.{no_fields_before, field_before, MembersDone, ReadsMembers}
 use Rattle.shape_reader.proofs.KindSets.{with_parts, has_list_kind, has_rec_kind, held_small}
 use Rattle.tokens.specs.ReadingLaws.{placed_on}
 use Rattle.shape_reader.proofs.Table.{with_row, length_with_row, row_put}
-use Rattle.shape_reader.proofs.Going.{goes_then, ready_then, grown}
+use Rattle.shape_reader.proofs.Going.{goes_then, grown}
 use Rattle.shape_reader.proofs.MemberForms.{fields_read_rows}
 
 -- ---- the shape of its parts
@@ -70,18 +68,12 @@ built_record {p} {ks} e {fs} {rs} k b none = pick (among Kind.rec ks) refl
 nested_left : {l : Limits} {o : Around} {values left : ℕ} → 0 < left → Limited l o values left → Limited l o values (suc (left - 1))
 nested_left h a = record { most = a.most; nests = omega (arith, a.nests) }
 
-module _
-    {left values : ℕ} {text : Bytes} {s p : List ℕ} (name : ℕ) (c : Cursor) {x : ShapeHead} (r₀ : Ready text s p values c)
-    (y : OpensForm text values left c x) where
-  pub open_refused
-      : {number place : ℕ} → x ≡ HeadIs.Refused number place → ReadsForm left values text s p s p name c (Refused number place)
-  open_refused e = record { answer = subst (HeadAnswer text values left c) e y.answer; sized = record { shapes_kept = refl; pool_kept = refl } }
+module _ {left values : ℕ} {text : Bytes} {s p : List ℕ} (name : ℕ) (c : Cursor) (r₀ : Ready text s p values c) where
+  module _ {k : Kinds} (y : OpensForm text values left c (Ok k)) where
+    opens : Opens text values left c k.kinds.kinds k.end
+    opens = y.answer
 
-  module _ {set : KindSet.Shape} {at : ℕ} (e : x ≡ HeadIs.Form set at) where
-    pub opens : Opens text values left c set.kinds at
-    opens = subst (HeadAnswer text values left c) e y.answer
-
-    pub inner_ready : Ready text s p values (record { at = at; begun = c.begun + 1; top = c.top })
+    pub inner_ready : Ready text s p values (record { at = k.end; begun = c.begun + 1; top = c.top })
     inner_ready =
         record {
           placed = placed_on r₀.placed opens.ahead opens.within;
@@ -93,59 +85,53 @@ module _
     to_Inner
         : (l : Limits) (o : Around) → Limited l o values left
         → reading l c.begun text (want (shape_open o)) c.at
-        ≡ reading l (c.begun + 1) text (want (behind (among Kind.list opens.listed) (parts opens.listed no_list no_fields) o)) at
+        ≡ reading l (c.begun + 1) text (want (behind (among Kind.list opens.listed) (parts opens.listed no_list no_fields) o)) k.end
     to_Inner l o a =
         opens.run l o a
-        ∙ ap (λ (n : ℕ). reading l n text (want (behind (among Kind.list opens.listed) (parts opens.listed no_list no_fields) o)) at)
+        ∙ ap (λ (n : ℕ). reading l n text (want (behind (among Kind.list opens.listed) (parts opens.listed no_list no_fields) o)) k.end)
         (sym (add-one c.begun))
 
-    module _ {s' p' : List ℕ} {r : FormRead}
-        (z : ReadsElement (left - 1) values text s p s' p' set.kinds (record { at = at; begun = c.begun + 1; top = c.top }) r) where
-      pub element_refused : {number place : ℕ} → r ≡ Refused number place → ReadsForm left values text s p s' p' name c r
-      element_refused {number} {place} i =
-          subst (ReadsForm left values text s p s' p' name c) (sym i)
-          (record {
-            answer = λ l o a.
-                to_Inner l o a
-                ∙ subst (ElementAnswer (left - 1) values text s p s' p' set.kinds
-                (record { at = at; begun = c.begun + 1; top = c.top })) i z.answer l o
-                (nested_left opens.nested a) opens.listed opens.held;
+    module _ {s' p' : List ℕ} where
+      pub element_refused
+          : {r : Refusal} → ReadsElement (left - 1) values text s p s' p' k.kinds.kinds (record { at = k.end; begun = c.begun + 1; top = c.top }) (Err r)
+          → ReadsForm left values text s p s' p' name c (Err r)
+      element_refused z =
+          record {
+            answer = λ l o a. to_Inner l o a ∙ z.answer l o (nested_left opens.nested a) opens.listed opens.held;
             sized = z.sized;
-          })
+          }
 
-      module _ {mid : Cursor} (i : r ≡ Done mid) where
-        element : ElementDone (left - 1) values text s p s' p' set.kinds (record { at = at; begun = c.begun + 1; top = c.top }) mid
-        element = subst (ElementAnswer (left - 1) values text s p s' p' set.kinds (record { at = at; begun = c.begun + 1; top = c.top })) i z.answer
+      module _ {mid : Cursor}
+          (z : ReadsElement (left - 1) values text s p s' p' k.kinds.kinds (record { at = k.end; begun = c.begun + 1; top = c.top }) (Ok mid)) where
+        element : ElementDone (left - 1) values text s p s' p' k.kinds.kinds (record { at = k.end; begun = c.begun + 1; top = c.top }) mid
+        element = z.answer
 
-        pub members_ready : Ready text s' p' values mid
-        members_ready = ready_then inner_ready element.goes z.sized
-
-        module _ {s'' p'' : List ℕ} {r' : FormRead} (w : ReadsMembers (left - 1) values text s' p' s'' p'' set.kinds mid r') where
-          pub members_refused : {number place : ℕ} → r' ≡ Refused number place → ReadsForm left values text s p s'' p'' name c r'
-          members_refused {number} {place} j =
-              subst (ReadsForm left values text s p s'' p'' name c) (sym j)
-              (record {
+        module _ {s'' p'' : List ℕ} where
+          pub members_refused
+              : {r : Refusal} → ReadsMembers (left - 1) values text s' p' s'' p'' k.kinds.kinds mid (Err r)
+              → ReadsForm left values text s p s'' p'' name c (Err r)
+          members_refused w =
+              record {
                 answer = λ l o a.
                     to_Inner l o a
                     ∙ element.run l o (nested_left opens.nested a) opens.listed opens.held
-                    ∙ subst (MembersAnswer (left - 1) values text s' p' s'' p'' set.kinds mid) j w.answer l o
-                    (nested_left opens.nested a) opens.listed opens.held element.element;
+                    ∙ w.answer l o (nested_left opens.nested a) opens.listed opens.held element.element;
                 sized =
                     record {
                       shapes_kept = w.sized.shapes_kept ∙ z.sized.shapes_kept;
                       pool_kept = w.sized.pool_kept ∙ z.sized.pool_kept;
                     };
-              })
+              }
 
-          module _ {to : Cursor} (j : r' ≡ Done to) where
-            members : MembersDone (left - 1) values text s' p' s'' p'' set.kinds mid to
-            members = subst (MembersAnswer (left - 1) values text s' p' s'' p'' set.kinds mid) j w.answer
+          module _ {to : Cursor} (w : ReadsMembers (left - 1) values text s' p' s'' p'' k.kinds.kinds mid (Ok to)) where
+            members : MembersDone (left - 1) values text s' p' s'' p'' k.kinds.kinds mid to
+            members = w.answer
 
-            both : Goes values text s p s'' p'' (record { at = at; begun = c.begun + 1; top = c.top }) to (element.rows ++ members.read.rows)
+            both : Goes values text s p s'' p'' (record { at = k.end; begun = c.begun + 1; top = c.top }) to (element.rows ++ members.read.rows)
             both = goes_then element.goes members.read.goes
 
             -- bounds for the row
-            pub row_bounds : (c.begun < to.begun) × (to.begun ≤ 32768) × (set.kinds < 128) × (2 * c.begun + 2 ≤ length s'')
+            pub row_bounds : (c.begun < to.begun) × (to.begun ≤ 32768) × (k.kinds.kinds < 128) × (2 * c.begun + 2 ≤ length s'')
             row_bounds = (
               omega (arith, both.counted),
               omega (arith, both.limit, r₀.few),
@@ -165,7 +151,7 @@ module _
                 (built_record element.element opens.held members.read.held members.read.bare)
 
             head_is
-                : head_word (build (parts opens.listed element.element members.fields)) ≡ head_of set.kinds (2 * (to.begun - c.begun))
+                : head_word (build (parts opens.listed element.element members.fields)) ≡ head_of k.kinds.kinds (2 * (to.begun - c.begun))
             unfolding head_word
             head_is =
                 let bits = built_kinds element.element members.fields opens.held element.is_list in
@@ -173,8 +159,8 @@ module _
                 omega (arith, bits, counted, both.counted)
 
             pub form_read
-                : {s''' : List ℕ} → s''' ≡ with_row s'' c.begun (head_of set.kinds (2 * (to.begun - c.begun))) name
-                → ReadsForm left values text s p s''' p'' name c (Done to)
+                : {s''' : List ℕ} → s''' ≡ with_row s'' c.begun (head_of k.kinds.kinds (2 * (to.begun - c.begun))) name
+                → ReadsForm left values text s p s''' p'' name c (Ok to)
             form_read {s'''} g =
                 let room : 2 * c.begun + 2 ≤ length s'' = row_bounds.3 in
                 record {
@@ -194,7 +180,7 @@ module _
                             record {
                               table =
                                   ap (λ (q : List ℕ). take (2 * to.begun) q) g
-                                  ∙ row_put s'' c.begun (head_of set.kinds (2 * (to.begun - c.begun))) name room s (element.rows ++ members.read.rows)
+                                  ∙ row_put s'' c.begun (head_of k.kinds.kinds (2 * (to.begun - c.begun))) name room s (element.rows ++ members.read.rows)
                                   to.begun row_bounds.0 (omega (arith, room, w.sized.shapes_kept, z.sized.shapes_kept))
                                   (both.table
                                   ∙ ap (λ (n : ℕ). take (2 * n) s ++ (element.rows ++ members.read.rows)) (add-one c.begun))
@@ -215,7 +201,7 @@ module _
                       record {
                         shapes_kept =
                             ap length g
-                            ∙ length_with_row s'' c.begun (head_of set.kinds (2 * (to.begun - c.begun))) name room
+                            ∙ length_with_row s'' c.begun (head_of k.kinds.kinds (2 * (to.begun - c.begun))) name room
                             ∙ w.sized.shapes_kept
                             ∙ z.sized.shapes_kept;
                         pool_kept = w.sized.pool_kept ∙ z.sized.pool_kept;

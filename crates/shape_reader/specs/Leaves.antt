@@ -1,5 +1,5 @@
 -- What finding a shape without parts answers: its bytes stand there as they are written. Assumes nothing.
-use Rattle.std.specs.Prelude.{ℕ, ◌+◌, ◌<◌, ◌≡◌, true, false, List, [], ◌∷◌, ◌++◌, length}
+use Rattle.std.specs.Prelude.{ℕ, ◌+◌, ◌<◌, ◌≡◌, true, false, List, [], ◌∷◌, ◌++◌, length, Option, Some, None}
 use Rattle.definitions.specs.Bytes.{Bytes}
 use Rattle.definitions.specs.Shape.{Kind}
 use Rattle.definitions.specs.ShapeText.{kind_name}
@@ -7,9 +7,8 @@ use Rattle.definitions.specs.Tokens.{closing}
 use Rattle.shapes.specs.Shapes.{kind_bit, has_bit}
 use Rattle.tokens.specs.Standing.{StandsAt}
 use Rattle.tokens.specs.TokenRead.{Found}
-use Rattle.shape_reader.specs.declared.reading.Cursor.{Cursor}
-use Rattle.shape_reader.specs.declared.leaves.Leaf.{Leaf}
-use Rattle.shape_reader.specs.declared.leaves.Leaf.TheVariants as LeafIs
+use Rattle.reading.specs.declared.Cursor.{Cursor}
+use Rattle.shape_reader.specs.declared.kinds.Kinds.{Kinds}
 use Rattle.shape_reader.specs.ShapeParts.{shape_bytes, Follows, Opens}
 
 -- ---- kinds as they are written
@@ -36,19 +35,19 @@ pub record KindsStand (n : ℕ) (text : Bytes) (at m end : ℕ) : Type 0 where
 -- ---- answers
 
 -- kinds, which may follow null too
-abbrev pub OthersAnswer : Bytes → ℕ → Leaf → Type 0
-OthersAnswer text at (LeafIs.Of kinds end) = KindsStand 0 text at kinds.kinds end × KindsStand 1 text at (1 + kinds.kinds) end
-OthersAnswer text at LeafIs.Other = Unit {0}
+abbrev pub OthersAnswer : Bytes → ℕ → Option Kinds → Type 0
+OthersAnswer text at (Some k) = KindsStand 0 text at k.kinds.kinds k.end × KindsStand 1 text at (1 + k.kinds.kinds) k.end
+OthersAnswer text at None = Unit {0}
 
-pub record OtherKinds (text : Bytes) (at : ℕ) (r : Leaf) : Type 0 where
+pub record OtherKinds (text : Bytes) (at : ℕ) (r : Option Kinds) : Type 0 where
   pub answer : OthersAnswer text at r
 
 -- the bracket, the word `shape` and kinds
-abbrev pub LeafAnswer : Bytes → ℕ → Leaf → Type 0
-LeafAnswer text at (LeafIs.Of kinds end) = StandsAt text at (0x28 ∷ shape_bytes) × KindsStand 0 text (at + 6) kinds.kinds end
-LeafAnswer text at LeafIs.Other = Unit {0}
+abbrev pub LeafAnswer : Bytes → ℕ → Option Kinds → Type 0
+LeafAnswer text at (Some k) = StandsAt text at (0x28 ∷ shape_bytes) × KindsStand 0 text (at + 6) k.kinds.kinds k.end
+LeafAnswer text at None = Unit {0}
 
-pub record StandsLeaf (text : Bytes) (at : ℕ) (r : Leaf) : Type 0 where
+pub record StandsLeaf (text : Bytes) (at : ℕ) (r : Option Kinds) : Type 0 where
   pub answer : LeafAnswer text at r
 
 -- a shape without parts has been read up to the bracket that ends it
@@ -59,9 +58,9 @@ pub record LeafFound (text : Bytes) (values left : ℕ) (c : Cursor) (kinds end 
   pub ends : end ≡ place + 1
   pub bare : has_bit kinds 32 ≡ false
 
-abbrev pub FoundAnswer : Bytes → (values left : ℕ) → Cursor → Leaf → Type 0
-FoundAnswer text values left c (LeafIs.Of kinds end) = LeafFound text values left c kinds.kinds end
-FoundAnswer text values left c LeafIs.Other = Unit {0}
+abbrev pub FoundAnswer : Bytes → (values left : ℕ) → Cursor → Option Kinds → Type 0
+FoundAnswer text values left c (Some k) = LeafFound text values left c k.kinds.kinds k.end
+FoundAnswer text values left c None = Unit {0}
 
-pub record FindsLeaf (text : Bytes) (values left : ℕ) (c : Cursor) (r : Leaf) : Type 0 where
+pub record FindsLeaf (text : Bytes) (values left : ℕ) (c : Cursor) (r : Option Kinds) : Type 0 where
   pub answer : FoundAnswer text values left c r

@@ -1,6 +1,7 @@
 -- What the parts of reading a shape text answer: each says how `read_tokens` goes from where it starts to where it ends, for
 -- every stack of what is open around it, and what it put into the tables. Assumes nothing.
-use Rattle.std.specs.Prelude.{ℕ, suc, ◌+◌, ◌*◌, ◌≤◌, ◌<◌, ◌≡◌, Bool, true, false, List, [], ◌∷◌, ◌++◌, ltb, length, take}
+use Rattle.std.specs.Prelude.{ℕ, suc, ◌+◌, ◌*◌, ◌≤◌, ◌<◌, ◌≡◌, Bool, true, false, List, [], ◌∷◌, ◌++◌, ltb, length, take, Result, Ok, Err, Some, None}
+use Rattle.std.specs.Prelude as std
 use Rattle.std.proofs.Math.Option.{Option, none, some}
 use Rattle.definitions.specs.declared.Limits.{Limits}
 use Rattle.definitions.specs.Bytes.{Bytes}
@@ -15,21 +16,14 @@ use Rattle.nodes.specs.Nodes.{Refers}
 use Rattle.shapes.specs.Shapes.{kind_bit, bit, numeric_bits, has_bit, ShapeRows, ElementRows}
 use Rattle.tokens.specs.Expecting.{TextPlaced, Kept}
 use Rattle.tokens.specs.TokenRead.{tokens_from, Found}
-use Rattle.shape_reader.specs.declared.reading.Cursor.{Cursor}
-use Rattle.shape_reader.specs.declared.reading.FormRead.{FormRead}
-use Rattle.shape_reader.specs.declared.reading.FormRead.TheVariants.{Done, Refused}
+use Rattle.reading.specs.declared.Cause.TheVariants.{FormSyntax}
+use Rattle.reading.specs.declared.Cursor.{Cursor}
+use Rattle.reading.specs.declared.Refusal.{Refusal}
+use Rattle.reading.specs.Refusals.{refused_as}
+use Rattle.tokens.specs.declared.expect.Quoted.{Quoted}
 use Rattle.shape_reader.specs.declared.kinds.Kinds.{Kinds}
-use Rattle.shape_reader.specs.declared.kinds.Kinds.TheVariants as KindsAre
-use Rattle.shape_reader.specs.declared.opening.Expected.{Expected}
-use Rattle.shape_reader.specs.declared.opening.Expected.TheVariants as ExpectedIs
-use Rattle.shape_reader.specs.declared.opening.ShapeOpening.{ShapeOpening}
-use Rattle.shape_reader.specs.declared.opening.ShapeOpening.TheVariants as OpeningIs
-use Rattle.shape_reader.specs.declared.opening.ShapeHead.{ShapeHead}
-use Rattle.shape_reader.specs.declared.opening.ShapeHead.TheVariants as HeadIs
-use Rattle.shape_reader.specs.declared.members.Named.{Named}
-use Rattle.shape_reader.specs.declared.members.Named.TheVariants as NamedIs
 use Rattle.shape_reader.specs.declared.members.Turn.{Turn}
-use Rattle.shape_reader.specs.declared.members.Turn.TheVariants.{More, Stop}
+use Rattle.shape_reader.specs.declared.members.Turn.TheVariants.{More, End}
 
 -- ---- reading
 
@@ -57,14 +51,14 @@ abbrev pub member_bytes : Bytes
 member_bytes = 0x6D ∷ 0x65 ∷ 0x6D ∷ 0x62 ∷ 0x65 ∷ 0x72 ∷ []
 
 -- the word w stands there up to an end; or what stands there is refused wherever only w may stand
-abbrev pub ExpectedAnswer : Bytes → ℕ → Bytes → Expected → Type 0
-ExpectedAnswer text at w (ExpectedIs.At end) =
+abbrev pub ExpectedAnswer : Bytes → ℕ → Bytes → Result ℕ Refusal → Type 0
+ExpectedAnswer text at w (Ok end) =
     (place : ℕ) × Found text at (Tokens.word w) place end × (place + length w ≡ end)
-ExpectedAnswer text at w (ExpectedIs.Missing place) =
-    (l : Limits) (n : ℕ) (q : Want) → Only q (Tokens.word w) → reading l n text (want q) at ≡ refused 7 place
+ExpectedAnswer text at w (Err r) =
+    (r.cause ≡ FormSyntax) × ((l : Limits) (n : ℕ) (q : Want) → Only q (Tokens.word w) → reading l n text (want q) at ≡ refused_as r)
 
 -- the answer r where the word w must come
-pub record Expects (text : Bytes) (at : ℕ) (w : Bytes) (r : Expected) : Type 0 where
+pub record Expects (text : Bytes) (at : ℕ) (w : Bytes) (r : Result ℕ Refusal) : Type 0 where
   pub answer : ExpectedAnswer text at w r
 
 -- ---- the bracket and the word of a shape
@@ -80,18 +74,18 @@ pub record ShapeBegun (text : Bytes) (values left : ℕ) (c : Cursor) (at : ℕ)
   pub nested : 0 < left
 
 -- reading a shape that must begin at c is refused
-abbrev pub FormRefused : Bytes → (values left : ℕ) → Cursor → (number place : ℕ) → Type 0
-FormRefused text values left c number place =
+abbrev pub FormRefused : Bytes → (values left : ℕ) → Cursor → Refusal → Type 0
+FormRefused text values left c r =
     (l : Limits) (o : Around) → Limited l o values left
-    → reading l c.begun text (want (shape_open o)) c.at ≡ refused number place
+    → reading l c.begun text (want (shape_open o)) c.at ≡ refused_as r
 
 -- the bracket and the word of a shape, or a refusal
-abbrev pub OpeningAnswer : Bytes → (values left : ℕ) → Cursor → ShapeOpening → Type 0
-OpeningAnswer text values left c (OpeningIs.Behind at) = ShapeBegun text values left c at
-OpeningAnswer text values left c (OpeningIs.Refused number place) = FormRefused text values left c number place
+abbrev pub OpeningAnswer : Bytes → (values left : ℕ) → Cursor → Result ℕ Refusal → Type 0
+OpeningAnswer text values left c (Ok at) = ShapeBegun text values left c at
+OpeningAnswer text values left c (Err r) = FormRefused text values left c r
 
 -- the answer r where a shape must begin
-pub record BeginsShape (text : Bytes) (values left : ℕ) (c : Cursor) (r : ShapeOpening) : Type 0 where
+pub record BeginsShape (text : Bytes) (values left : ℕ) (c : Cursor) (r : Result ℕ Refusal) : Type 0 where
   pub answer : OpeningAnswer text values left c r
 
 -- ---- kinds
@@ -146,13 +140,13 @@ pub record KindsRead (text : Bytes) (at kinds to : ℕ) : Type 0 where
   pub within : to ≤ length text
 
 -- the kinds, or refusal 7
-abbrev pub KindsAnswer : Bytes → ℕ → Kinds → Type 0
-KindsAnswer text at (KindsAre.Read kinds to) = KindsRead text at kinds.kinds to
-KindsAnswer text at (KindsAre.Refused place) =
-    (l : Limits) (n : ℕ) (o : Around) → reading l n text (want (kind_word no_parts o)) at ≡ refused 7 place
+abbrev pub KindsAnswer : Bytes → ℕ → Result Kinds Refusal → Type 0
+KindsAnswer text at (Ok k) = KindsRead text at k.kinds.kinds k.end
+KindsAnswer text at (Err r) =
+    (r.cause ≡ FormSyntax) × ((l : Limits) (n : ℕ) (o : Around) → reading l n text (want (kind_word no_parts o)) at ≡ refused_as r)
 
 -- the answer r behind the word `shape`
-pub record ReadsKinds (text : Bytes) (at : ℕ) (r : Kinds) : Type 0 where
+pub record ReadsKinds (text : Bytes) (at : ℕ) (r : Result Kinds Refusal) : Type 0 where
   pub answer : KindsAnswer text at r
 
 -- ---- a shape up to its kinds
@@ -171,20 +165,20 @@ pub record Opens (text : Bytes) (values left : ℕ) (c : Cursor) (kinds at : ℕ
   pub nested : 0 < left
 
 -- a shape up to its kinds, or a refusal
-abbrev pub HeadAnswer : Bytes → (values left : ℕ) → Cursor → ShapeHead → Type 0
-HeadAnswer text values left c (HeadIs.Form kinds at) = Opens text values left c kinds.kinds at
-HeadAnswer text values left c (HeadIs.Refused number place) = FormRefused text values left c number place
+abbrev pub HeadAnswer : Bytes → (values left : ℕ) → Cursor → Result Kinds Refusal → Type 0
+HeadAnswer text values left c (Ok k) = Opens text values left c k.kinds.kinds k.end
+HeadAnswer text values left c (Err r) = FormRefused text values left c r
 
 -- the answer r where a shape must begin
-pub record OpensForm (text : Bytes) (values left : ℕ) (c : Cursor) (r : ShapeHead) : Type 0 where
+pub record OpensForm (text : Bytes) (values left : ℕ) (c : Cursor) (r : Result Kinds Refusal) : Type 0 where
   pub answer : HeadAnswer text values left c r
 
 -- ---- names
 
 -- the name of the latest of the members, if there is one, stands at this reference
-pub data Latest (p : List ℕ) : Fields → (first : Bool) (latest : ℕ) → Type 0 where
-  none_yet : {w : ℕ} → Latest p no_fields true w
-  latest_is : {n : Bytes} {s : Shape} {fs : Fields} {w : ℕ} → Refers p n w → Latest p (field n s fs) false w
+pub data Latest (p : List ℕ) : Fields → (latest : std.Option ℕ) → Type 0 where
+  none_yet : Latest p no_fields None
+  latest_is : {n : Bytes} {s : Shape} {fs : Fields} {w : ℕ} → Refers p n w → Latest p (field n s fs) (Some w)
 
 -- a name of n bytes in the pool from word w on, up to place end
 pub record NameRead (text : Bytes) (at : ℕ) (p : List ℕ) (w place end n : ℕ) : Type 0 where
@@ -200,13 +194,13 @@ pub record NameRead (text : Bytes) (at : ℕ) (p : List ℕ) (w place end n : �
   pub within : end ≤ length text
 
 -- a name, or refusal 7 whatever the parts before
-abbrev pub NamedAnswer : Bytes → ℕ → List ℕ → ℕ → Named → Type 0
-NamedAnswer text at p w (NamedIs.Name place end n) = NameRead text at p w place end n
-NamedAnswer text at p w (NamedIs.Refused place) =
-    (l : Limits) (k : ℕ) (q : Parts) (o : Around) → reading l k text (want (member_word q o)) at ≡ refused 7 place
+abbrev pub NamedAnswer : Bytes → ℕ → List ℕ → ℕ → Result Quoted Refusal → Type 0
+NamedAnswer text at p w (Ok q) = NameRead text at p w q.place q.end q.bytes
+NamedAnswer text at p w (Err r) =
+    (r.cause ≡ FormSyntax) × ((l : Limits) (k : ℕ) (q : Parts) (o : Around) → reading l k text (want (member_word q o)) at ≡ refused_as r)
 
 -- the answer r behind the bracket of a member, and the pool p' that was p
-pub record ReadsName (text : Bytes) (p p' : List ℕ) (at top : ℕ) (r : Named) : Type 0 where
+pub record ReadsName (text : Bytes) (p p' : List ℕ) (at top : ℕ) (r : Result Quoted Refusal) : Type 0 where
   pub answer : NamedAnswer text at p' top r
   pub kept : Kept p p' top
 
@@ -221,10 +215,10 @@ pub record Moves (text : Bytes) (from to : Cursor) : Type 0 where
 
 -- a member's shape comes behind its bracket, which stands before place `at`
 pub record MemberNamed
-    (first : Bool) (latest : ℕ) (text : Bytes) (p p' : List ℕ) (at : ℕ) (c to : Cursor) (name : ℕ) : Type 0 where
+    (latest : std.Option ℕ) (text : Bytes) (p p' : List ℕ) (at : ℕ) (c to : Cursor) (name : ℕ) : Type 0 where
   pub bytes : Bytes
   pub run
-      : (q : Parts) → Latest (take c.top p) q.fields first latest → (l : Limits) (n : ℕ) (o : Around)
+      : (q : Parts) → Latest (take c.top p) q.fields latest → (l : Limits) (n : ℕ) (o : Around)
       → reading l n text (want (member_word q o)) at ≡ reading l n text (want (shape_open (as_member q bytes o))) to.at
   pub refers : Refers (take to.top p') bytes name
   pub begun : to.begun ≡ c.begun
@@ -233,26 +227,26 @@ pub record MemberNamed
 
 -- the shape of a member, or a refusal
 abbrev pub NamesAnswer
-    : (first : Bool) (latest : ℕ) (text : Bytes) (p p' : List ℕ) (at : ℕ) (c : Cursor) → Turn → Type 0
-NamesAnswer first latest text p p' at c (More to name) = MemberNamed first latest text p p' at c to name
-NamesAnswer first latest text p p' at c (Stop (Done to)) = ⊥
-NamesAnswer first latest text p p' at c (Stop (Refused number place)) =
-    (q : Parts) → Latest (take c.top p) q.fields first latest → (l : Limits) (n : ℕ) (o : Around)
-    → reading l n text (want (member_word q o)) at ≡ refused number place
+    : (latest : std.Option ℕ) (text : Bytes) (p p' : List ℕ) (at : ℕ) (c : Cursor) → Result Turn Refusal → Type 0
+NamesAnswer latest text p p' at c (Ok (More to name)) = MemberNamed latest text p p' at c to name
+NamesAnswer latest text p p' at c (Ok (End to)) = ⊥
+NamesAnswer latest text p p' at c (Err r) =
+    (q : Parts) → Latest (take c.top p) q.fields latest → (l : Limits) (n : ℕ) (o : Around)
+    → reading l n text (want (member_word q o)) at ≡ refused_as r
 
 -- the answer r behind the bracket of a member, judged by the latest name, and the pool p' that was p
 pub record NamesMember
-    (first : Bool) (latest : ℕ) (text : Bytes) (p p' : List ℕ) (at : ℕ) (c : Cursor) (r : Turn) : Type 0 where
-  pub answer : NamesAnswer first latest text p p' at c r
+    (latest : std.Option ℕ) (text : Bytes) (p p' : List ℕ) (at : ℕ) (c : Cursor) (r : Result Turn Refusal) : Type 0 where
+  pub answer : NamesAnswer latest text p p' at c r
   pub kept : Kept p p' c.top
 
 -- a member's shape comes
 pub record MemberNext
-    (first : Bool) (latest : ℕ) (text : Bytes) (p p' : List ℕ) (kinds : ℕ) (c to : Cursor) (name : ℕ)
+    (latest : std.Option ℕ) (text : Bytes) (p p' : List ℕ) (kinds : ℕ) (c to : Cursor) (name : ℕ)
     : Type 0 where
   pub bytes : Bytes
   pub run
-      : (ks : List Kind) (e : Element) (fs : Fields) → KindsHeld ks kinds → Latest (take c.top p) fs first latest
+      : (ks : List Kind) (e : Element) (fs : Fields) → KindsHeld ks kinds → Latest (take c.top p) fs latest
       → (l : Limits) (n : ℕ) (o : Around)
       → reading l n text (want (member_open (parts ks e fs) o)) c.at
       ≡ reading l n text (want (shape_open (as_member (parts ks e fs) bytes o))) to.at
@@ -264,9 +258,9 @@ pub record MemberNext
 
 -- the members end
 pub record MembersEnd
-    (first : Bool) (latest : ℕ) (text : Bytes) (p : List ℕ) (kinds : ℕ) (c to : Cursor) : Type 0 where
+    (latest : std.Option ℕ) (text : Bytes) (p : List ℕ) (kinds : ℕ) (c to : Cursor) : Type 0 where
   pub run
-      : (ks : List Kind) (e : Element) (fs : Fields) → KindsHeld ks kinds → Latest (take c.top p) fs first latest
+      : (ks : List Kind) (e : Element) (fs : Fields) → KindsHeld ks kinds → Latest (take c.top p) fs latest
       → (l : Limits) (n : ℕ) (o : Around)
       → reading l n text (want (member_open (parts ks e fs) o)) c.at ≡ reading l n text (put (build (parts ks e fs)) o) to.at
   pub begun : to.begun ≡ c.begun
@@ -274,25 +268,20 @@ pub record MembersEnd
   pub ahead : c.at ≤ to.at
   pub within : to.at ≤ length text
 
--- the bracket that ends the shape, or a refusal
-abbrev pub Stopped
-    : (first : Bool) (latest : ℕ) (text : Bytes) (p : List ℕ) (kinds : ℕ) (c : Cursor) → FormRead → Type 0
-Stopped first latest text p kinds c (Done to) = MembersEnd first latest text p kinds c to
-Stopped first latest text p kinds c (Refused number place) =
-    (ks : List Kind) (e : Element) (fs : Fields) → KindsHeld ks kinds → Latest (take c.top p) fs first latest
-    → (l : Limits) (n : ℕ) (o : Around)
-    → reading l n text (want (member_open (parts ks e fs) o)) c.at ≡ refused number place
-
--- a member, or the answer
+-- a member, the bracket that ends the shape, or a refusal
 abbrev pub TurnIs
-    : (first : Bool) (latest : ℕ) (text : Bytes) (p p' : List ℕ) (kinds : ℕ) (c : Cursor) → Turn → Type 0
-TurnIs first latest text p p' kinds c (More to name) = MemberNext first latest text p p' kinds c to name
-TurnIs first latest text p p' kinds c (Stop r) = Stopped first latest text p kinds c r
+    : (latest : std.Option ℕ) (text : Bytes) (p p' : List ℕ) (kinds : ℕ) (c : Cursor) → Result Turn Refusal → Type 0
+TurnIs latest text p p' kinds c (Ok (More to name)) = MemberNext latest text p p' kinds c to name
+TurnIs latest text p p' kinds c (Ok (End to)) = MembersEnd latest text p kinds c to
+TurnIs latest text p p' kinds c (Err r) =
+    (ks : List Kind) (e : Element) (fs : Fields) → KindsHeld ks kinds → Latest (take c.top p) fs latest
+    → (l : Limits) (n : ℕ) (o : Around)
+    → reading l n text (want (member_open (parts ks e fs) o)) c.at ≡ refused_as r
 
 -- the answer where a member or the end must come
 pub record Turns
-    (first : Bool) (latest : ℕ) (text : Bytes) (p p' : List ℕ) (kinds : ℕ) (c : Cursor) (r : Turn) : Type 0 where
-  pub answer : TurnIs first latest text p p' kinds c r
+    (latest : std.Option ℕ) (text : Bytes) (p p' : List ℕ) (kinds : ℕ) (c : Cursor) (r : Result Turn Refusal) : Type 0 where
+  pub answer : TurnIs latest text p p' kinds c r
   pub kept : Kept p p' c.top
 
 -- the bracket of a member, behind its shape
@@ -305,13 +294,13 @@ pub record MemberClosed (text : Bytes) (c to : Cursor) : Type 0 where
   pub further : c.at < to.at
   pub within : to.at ≤ length text
 
-abbrev pub CloseAnswer : Bytes → Cursor → FormRead → Type 0
-CloseAnswer text c (Done to) = MemberClosed text c to
-CloseAnswer text c (Refused number place) =
-    (q : Parts) (l : Limits) (n : ℕ) (o : Around) → reading l n text (want (member_close q o)) c.at ≡ refused number place
+abbrev pub CloseAnswer : Bytes → Cursor → Result Cursor Refusal → Type 0
+CloseAnswer text c (Ok to) = MemberClosed text c to
+CloseAnswer text c (Err r) =
+    (q : Parts) (l : Limits) (n : ℕ) (o : Around) → reading l n text (want (member_close q o)) c.at ≡ refused_as r
 
 -- the answer r behind the shape of a member
-pub record ClosesMember (text : Bytes) (c : Cursor) (r : FormRead) : Type 0 where
+pub record ClosesMember (text : Bytes) (c : Cursor) (r : Result Cursor Refusal) : Type 0 where
   pub answer : CloseAnswer text c r
 
 -- ---- shapes
@@ -349,15 +338,15 @@ pub record FormDone
 
 -- a shape, or a refusal
 abbrev pub FormAnswer
-    : (left values : ℕ) (text : Bytes) (shapes pool shapes' pool' : List ℕ) (name : ℕ) (c : Cursor) → FormRead → Type 0
-FormAnswer left values text shapes pool shapes' pool' name c (Done to) =
+    : (left values : ℕ) (text : Bytes) (shapes pool shapes' pool' : List ℕ) (name : ℕ) (c : Cursor) → Result Cursor Refusal → Type 0
+FormAnswer left values text shapes pool shapes' pool' name c (Ok to) =
     FormDone left values text shapes pool shapes' pool' name c to
-FormAnswer left values text shapes pool shapes' pool' name c (Refused number place) =
-    FormRefused text values left c number place
+FormAnswer left values text shapes pool shapes' pool' name c (Err r) =
+    FormRefused text values left c r
 
 -- the answer r where a shape must begin, and the tables that were shapes and pool
 pub record ReadsForm
-    (left values : ℕ) (text : Bytes) (shapes pool shapes' pool' : List ℕ) (name : ℕ) (c : Cursor) (r : FormRead) : Type 0 where
+    (left values : ℕ) (text : Bytes) (shapes pool shapes' pool' : List ℕ) (name : ℕ) (c : Cursor) (r : Result Cursor Refusal) : Type 0 where
   pub answer : FormAnswer left values text shapes pool shapes' pool' name c r
   pub sized : Sized shapes pool shapes' pool'
 
@@ -378,16 +367,16 @@ pub record ElementDone
 
 -- an element or none, or a refusal
 abbrev pub ElementAnswer
-    : (left values : ℕ) (text : Bytes) (shapes pool shapes' pool' : List ℕ) (kinds : ℕ) (c : Cursor) → FormRead → Type 0
-ElementAnswer left values text shapes pool shapes' pool' kinds c (Done to) =
+    : (left values : ℕ) (text : Bytes) (shapes pool shapes' pool' : List ℕ) (kinds : ℕ) (c : Cursor) → Result Cursor Refusal → Type 0
+ElementAnswer left values text shapes pool shapes' pool' kinds c (Ok to) =
     ElementDone left values text shapes pool shapes' pool' kinds c to
-ElementAnswer left values text shapes pool shapes' pool' kinds c (Refused number place) =
+ElementAnswer left values text shapes pool shapes' pool' kinds c (Err r) =
     (l : Limits) (o : Around) → Limited l o values (suc left) → (ks : List Kind) → KindsHeld ks kinds
-    → reading l c.begun text (want (behind_kinds (parts ks no_list no_fields) o)) c.at ≡ refused number place
+    → reading l c.begun text (want (behind_kinds (parts ks no_list no_fields) o)) c.at ≡ refused_as r
 
 -- the answer r behind the kinds, and the tables that were shapes and pool
 pub record ReadsElement
-    (left values : ℕ) (text : Bytes) (shapes pool shapes' pool' : List ℕ) (kinds : ℕ) (c : Cursor) (r : FormRead) : Type 0 where
+    (left values : ℕ) (text : Bytes) (shapes pool shapes' pool' : List ℕ) (kinds : ℕ) (c : Cursor) (r : Result Cursor Refusal) : Type 0 where
   pub answer : ElementAnswer left values text shapes pool shapes' pool' kinds c r
   pub sized : Sized shapes pool shapes' pool'
 
@@ -423,16 +412,16 @@ pub record MembersDone
 
 -- the members and the closing bracket, or a refusal
 abbrev pub MembersAnswer
-    : (left values : ℕ) (text : Bytes) (shapes pool shapes' pool' : List ℕ) (kinds : ℕ) (c : Cursor) → FormRead → Type 0
-MembersAnswer left values text shapes pool shapes' pool' kinds c (Done to) =
+    : (left values : ℕ) (text : Bytes) (shapes pool shapes' pool' : List ℕ) (kinds : ℕ) (c : Cursor) → Result Cursor Refusal → Type 0
+MembersAnswer left values text shapes pool shapes' pool' kinds c (Ok to) =
     MembersDone left values text shapes pool shapes' pool' kinds c to
-MembersAnswer left values text shapes pool shapes' pool' kinds c (Refused number place) =
+MembersAnswer left values text shapes pool shapes' pool' kinds c (Err r) =
     (l : Limits) (o : Around) → Limited l o values (suc left) → (ks : List Kind) → KindsHeld ks kinds → (e : Element)
-    → reading l c.begun text (want (member_open (parts ks e no_fields) o)) c.at ≡ refused number place
+    → reading l c.begun text (want (member_open (parts ks e no_fields) o)) c.at ≡ refused_as r
 
 -- the answer r behind the element, and the tables that were shapes and pool
 pub record ReadsMembers
-    (left values : ℕ) (text : Bytes) (shapes pool shapes' pool' : List ℕ) (kinds : ℕ) (c : Cursor) (r : FormRead) : Type 0 where
+    (left values : ℕ) (text : Bytes) (shapes pool shapes' pool' : List ℕ) (kinds : ℕ) (c : Cursor) (r : Result Cursor Refusal) : Type 0 where
   pub answer : MembersAnswer left values text shapes pool shapes' pool' kinds c r
   pub sized : Sized shapes pool shapes' pool'
 
@@ -450,8 +439,10 @@ pub record MemberBegun
 
 -- another member, or the answer
 abbrev pub TurnAnswer
-    : (left values : ℕ) (text : Bytes) (shapes pool shapes' pool' : List ℕ) (kinds : ℕ) (c : Cursor) → Turn → Type 0
-TurnAnswer left values text shapes pool shapes' pool' kinds c (More from name) =
+    : (left values : ℕ) (text : Bytes) (shapes pool shapes' pool' : List ℕ) (kinds : ℕ) (c : Cursor) → Result Turn Refusal → Type 0
+TurnAnswer left values text shapes pool shapes' pool' kinds c (Ok (More from name)) =
     MemberBegun left values text shapes pool shapes' pool' kinds c from name
-TurnAnswer left values text shapes pool shapes' pool' kinds c (Stop r) =
-    ReadsMembers left values text shapes pool shapes' pool' kinds c r
+TurnAnswer left values text shapes pool shapes' pool' kinds c (Ok (End to)) =
+    ReadsMembers left values text shapes pool shapes' pool' kinds c (Ok to)
+TurnAnswer left values text shapes pool shapes' pool' kinds c (Err r) =
+    ReadsMembers left values text shapes pool shapes' pool' kinds c (Err r)

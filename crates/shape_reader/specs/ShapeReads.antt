@@ -1,13 +1,14 @@
 -- What `read_shape` answers: what the definitions come to, with the shape in a shape table. Assumes nothing.
-use Rattle.std.specs.Prelude.{ℕ, ◌+◌, ◌*◌, ◌≤◌, ◌<◌, ◌≡◌, List, length, take}
+use Rattle.std.specs.Prelude.{ℕ, ◌+◌, ◌*◌, ◌≤◌, ◌<◌, ◌≡◌, List, length, take, Result, Ok, Err}
 use Rattle.definitions.specs.declared.Limits.{Limits}
 use Rattle.definitions.specs.Bytes.{Bytes}
-use Rattle.definitions.specs.Outcome.{ok, refused}
+use Rattle.definitions.specs.Outcome.{ok}
 use Rattle.definitions.specs.Shape.{Shape, forms}
 use Rattle.definitions.specs.ShapeText.{read_shape}
 use Rattle.shapes.specs.Shapes.{ShapeRows}
-use Rattle.shape_reader.specs.declared.ShapeRead.{ShapeRead}
-use Rattle.shape_reader.specs.declared.ShapeRead.TheVariants.{Read, Refused}
+use Rattle.reading.specs.declared.Extent.{Extent}
+use Rattle.reading.specs.declared.Refusal.{Refusal}
+use Rattle.reading.specs.Refusals.{refused_as}
 
 -- the tables have room for a shape text of so many shapes, and their words for what is said of it
 pub record Tables (text : Bytes) (shapes pool : List ℕ) (top values : ℕ) : Type 0 where
@@ -33,13 +34,13 @@ pub record ShapeHeld (l : Limits) (text : Bytes) (shapes p p' : List ℕ) (top w
   -- the texts before are kept
   pub front : take top p' ≡ take top p
 
-abbrev pub ShapeAnswer : Limits → Bytes → (shapes p p' : List ℕ) → ℕ → ShapeRead → Type 0
-ShapeAnswer l text shapes p p' top (Read words top') = ShapeHeld l text shapes p p' top words top'
-ShapeAnswer l text shapes p p' top (Refused number place) = read_shape l text ≡ refused number place
+abbrev pub ShapeAnswer : Limits → Bytes → (shapes p p' : List ℕ) → ℕ → Result Extent Refusal → Type 0
+ShapeAnswer l text shapes p p' top (Ok e) = ShapeHeld l text shapes p p' top e.words e.top
+ShapeAnswer l text shapes p p' top (Err r) = read_shape l text ≡ refused_as r
 
 -- the answer r, and the tables that were shapes and pool
 pub record ReadsShape
-    (l : Limits) (text : Bytes) (shapes pool shapes' pool' : List ℕ) (top : ℕ) (r : ShapeRead) : Type 0 where
+    (l : Limits) (text : Bytes) (shapes pool shapes' pool' : List ℕ) (top : ℕ) (r : Result Extent Refusal) : Type 0 where
   pub answer : ShapeAnswer l text shapes' pool pool' top r
   pub shapes_kept : length shapes' ≡ length shapes
   pub pool_kept : length pool' ≡ length pool

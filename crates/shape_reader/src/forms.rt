@@ -1,10 +1,11 @@
 // Shapes, their elements and their members: the shape reader calls the readers of its parts, which call it back; the nesting left falls.
+// The tables are parameters of each and not one struct, which would be no plainer: the clauses speak of each table before and after.
 ghost use Rattle.shape_reader.specs.ShapeParts.{Ready, ReadsForm, ReadsElement, ReadsMembers};
 
-use crate::leaves::{Leaf, find_leaf};
+use crate::leaves::find_leaf;
 use crate::members::{Turn, close_member, next_member};
-use crate::opening::{ShapeHead, open_form};
-use crate::reading::{Cursor, FormRead};
+use crate::opening::open_form;
+use reading::{Cursor, Refusal};
 use shapes::Shape;
 
 // Reads the element of a shape of these kinds, if it has one, with so much nesting left inside the shape.
@@ -17,15 +18,15 @@ fn read_element(
     left: usize,
     kinds: Shape,
     c: Cursor,
-) -> FormRead
+) -> Result<Cursor, Refusal>
     requires { Ready text.now shapes.old pool.old values c }
     ensures read { ReadsElement left values text.now shapes.old pool.old shapes.new
         pool.new kinds.kinds c result }
 {
-    if shapes::has(kinds, Shape::LIST) {
+    if kinds.has(Shape::LIST) {
         read_form(text, shapes, pool, values, left, c, 0)
     } else {
-        FormRead::Done { to: c }
+        Ok(c)
     }
 }
 
@@ -39,22 +40,21 @@ fn read_member(
     left: usize,
     c: Cursor,
     name: u64,
-) -> FormRead
+) -> Result<Cursor, Refusal>
     requires { Ready text.now shapes.old pool.old values c }
     ensures read { ReadsForm left values text.now shapes.old pool.old shapes.new
         pool.new name c result }
 {
     match find_leaf(text, values, left, c) {
-        Leaf::Of { kinds, end } => {
-            shapes::put_row(shapes, 2 * c.begun, kinds, 2, name);
-            let to = Cursor {
-                at: end,
+        Some(leaf) => {
+            shapes::put_row(shapes, 2 * c.begun, leaf.kinds, 2, name);
+            Ok(Cursor {
+                at: leaf.end,
                 begun: c.begun + 1,
-                top: c.top,
-            };
-            FormRead::Done { to }
+                ..c
+            })
         }
-        Leaf::Other => read_form(text, shapes, pool, values, left, c, name),
+        None => read_form(text, shapes, pool, values, left, c, name),
     }
 }
 
@@ -68,31 +68,22 @@ fn read_members(
     left: usize,
     kinds: Shape,
     c: Cursor,
-) -> FormRead
+) -> Result<Cursor, Refusal>
     requires { Ready text.now shapes.old pool.old values c }
     ensures read { ReadsMembers left values text.now shapes.old pool.old shapes.new
         pool.new kinds.kinds c result }
 {
-    let mut first = true;
-    let mut latest: u64 = 0;
+    let mut latest = None;
     let mut here = c;
     loop {
-        match next_member(text, pool, kinds, first, latest, here) {
+        match next_member(text, pool, kinds, latest, here)? {
             Turn::More { from, name } => {
-                let r = read_member(text, shapes, pool, values, left, from, name);
-                let FormRead::Done { to } = r else {
-                    return r;
-                };
-                let e = close_member(text, to);
-                let FormRead::Done { to: behind } = e else {
-                    return e;
-                };
-                first = false;
-                latest = name;
-                here = behind;
+                let to = read_member(text, shapes, pool, values, left, from, name)?;
+                here = close_member(text, to)?;
+                latest = Some(name);
             }
-            Turn::Stop { answer } => {
-                return answer;
+            Turn::End { to } => {
+                return Ok(to);
             }
         }
     }
@@ -108,29 +99,25 @@ pub fn read_form(
     left: usize,
     c: Cursor,
     name: u64,
-) -> FormRead
+) -> Result<Cursor, Refusal>
     requires { Ready text.now shapes.old pool.old values c }
     ensures read { ReadsForm left values text.now shapes.old pool.old shapes.new
         pool.new name c result }
 {
-    match open_form(text, values, left, c) {
-        ShapeHead::Form { kinds, at } => {
-            let inner = Cursor {
-                at,
-                begun: c.begun + 1,
-                top: c.top,
-            };
-            let e = read_element(text, shapes, pool, values, left - 1, kinds, inner);
-            let FormRead::Done { to: behind } = e else {
-                return e;
-            };
-            let m = read_members(text, shapes, pool, values, left - 1, kinds, behind);
-            let FormRead::Done { to } = m else {
-                return m;
-            };
-            shapes::put_row(shapes, 2 * c.begun, kinds, 2 * (to.begun - c.begun), name);
-            FormRead::Done { to }
-        }
-        ShapeHead::Refused { number, place } => FormRead::Refused { number, place },
-    }
+    let head = open_form(text, values, left, c)?;
+    let inner = Cursor {
+        at: head.end,
+        begun: c.begun + 1,
+        ..c
+    };
+    let behind = read_element(text, shapes, pool, values, left - 1, head.kinds, inner)?;
+    let to = read_members(text, shapes, pool, values, left - 1, head.kinds, behind)?;
+    shapes::put_row(
+        shapes,
+        2 * c.begun,
+        head.kinds,
+        2 * (to.begun - c.begun),
+        name,
+    );
+    Ok(to)
 }

@@ -5,10 +5,11 @@ ghost use Rattle.definitions.specs.Tokens.{look_word};
 ghost use Rattle.tokens.specs.TokenRead.{word_in};
 ghost use Rattle.shape_reader.specs.ShapeParts.{kind_code, Follows, ReadsKinds};
 
+use reading::Refusal;
 use shapes::Shape;
-use tokens::expect::Spelled;
+use tokens::expect::misplaced;
 
-// The bit of the kind whose word stands from one place to another; of another word, nothing.
+// The bit of the kind whose word stands from one place to another; of another word no bit, which `may_come` refuses as a kind out of order.
 fn kind_of(text: &[u8], at: usize, end: usize) -> Shape
     requires { (at ≤ end) × (end ≤ length text.now) }
     ensures told { result.kinds ≡ kind_code (look_word kind_words (word_in text.now at end)) }
@@ -26,45 +27,39 @@ fn kind_of(text: &[u8], at: usize, end: usize) -> Shape
 }
 
 // Whether a kind may follow these: a later kind has a higher bit, and dec comes only behind int.
+#[tactic(auto, using(crate::proofs::KindSets::dec_alone, crate::proofs::KindSets::higher_kind))]
 fn may_come(kinds: Shape, kind: Shape) -> bool
     ensures told { Follows kinds.kinds kind.kinds result }
 {
-    if kind.kinds == Shape::DEC.kinds {
-        if kinds.kinds < Shape::INT.kinds {
-            return false;
-        }
-        return kinds.kinds < kind.kinds;
+    if kind.kinds == Shape::DEC.kinds && kinds.kinds < Shape::INT.kinds {
+        return false;
     }
     kinds.kinds < kind.kinds
 }
 
+// Kinds that were read, up to an end.
 #[derive(Clone, Copy)]
-pub enum Kinds {
-    // up to a place, behind which no kind word stands
-    Read { kinds: Shape, at: usize },
-    Refused { place: usize },
+pub struct Kinds {
+    pub kinds: Shape,
+    pub end: usize,
 }
 
-// Reads the kind words behind the word `shape`.
-pub fn read_kinds(text: &[u8], at: usize) -> Kinds
+// Reads the kind words behind the word `shape`, up to where none stands.
+pub fn read_kinds(text: &[u8], at: usize) -> Result<Kinds, Refusal>
     requires { at ≤ length text.now }
     ensures read { ReadsKinds text.now at result }
 {
     let mut kinds = Shape::NOTHING;
-    let mut i = at;
-    loop {
-        let w = tokens::expect::next_word(text, i);
-        let Spelled::At { place, end } = w else {
-            return Kinds::Read { kinds, at: i };
-        };
-        let kind = kind_of(text, place, end);
-        if may_come(kinds, kind) {
-            kinds = Shape {
-                kinds: kinds.kinds + kind.kinds,
-            };
-            i = end;
-        } else {
-            return Kinds::Refused { place };
+    let mut end = at;
+    while let Ok(word) = tokens::expect::next_word(text, end) {
+        let kind = kind_of(text, word.place, word.end);
+        if !may_come(kinds, kind) {
+            return Err(misplaced(word.place));
         }
+        kinds = Shape {
+            kinds: kinds.kinds + kind.kinds,
+        };
+        end = word.end;
     }
+    Ok(Kinds { kinds, end })
 }

@@ -8,20 +8,9 @@ mod kinds; // the kind words of a shape
 mod leaves; // shapes without parts
 mod members; // what comes behind kinds, elements and members
 mod opening; // how a shape begins
-mod reading; // where reading stands, and what it comes to
 
 use definitions::Limits;
-use reading::{Cursor, FormRead};
-use tokens::expect::Ending;
-
-// What reading a shape text comes to.
-#[derive(Clone, Copy)]
-pub enum ShapeRead {
-    // so many words of the shape table and of the pool hold its shape
-    Read { words: usize, top: usize },
-    // a refusal's number and its place
-    Refused { number: u64, place: usize },
-}
+use reading::{Cursor, Extent, Refusal};
 
 // Reads a shape text. Its rows go into the shape table, its names into the pool from word `top` on.
 pub fn read_shape(
@@ -30,7 +19,7 @@ pub fn read_shape(
     pool: &mut [u64],
     top: usize,
     limits: Limits,
-) -> ShapeRead
+) -> Result<Extent, Refusal>
     requires { Tables text.now shapes.old pool.old top limits.values }
     ensures read { ReadsShape limits text.now shapes.old pool.old shapes.new pool.new top result }
 {
@@ -39,14 +28,10 @@ pub fn read_shape(
         begun: 0,
         top,
     };
-    match forms::read_form(text, shapes, pool, limits.values, limits.nesting, start, 0) {
-        FormRead::Done { to } => match tokens::expect::next_end(text, to.at) {
-            Ending::Whole => ShapeRead::Read {
-                words: 2 * to.begun,
-                top: to.top,
-            },
-            Ending::More { place } => ShapeRead::Refused { number: 7, place },
-        },
-        FormRead::Refused { number, place } => ShapeRead::Refused { number, place },
-    }
+    let to = forms::read_form(text, shapes, pool, limits.values, limits.nesting, start, 0)?;
+    tokens::expect::next_end(text, to.at)?;
+    Ok(Extent {
+        words: 2 * to.begun,
+        top: to.top,
+    })
 }

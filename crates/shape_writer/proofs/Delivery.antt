@@ -4,6 +4,7 @@ use native.Mathlib.Omega.{arith}
 use mathlib.Core.Path.{◌≡◌, refl, sym, ap, subst, ◌∙◌}
 use mathlib.Core.Bool.{Bool, true, false, ◌||◌}
 use mathlib.Core.List.{List, [], ◌∷◌, ◌++◌}
+use Rattle.std.specs.Prelude.{Option, Some, None}
 use borrow.Author.Tests.{lt-ltb, le-ltb}
 use lib.Dec.{ltb}
 use lib.ListN.{length, drop, length-append}
@@ -16,8 +17,6 @@ use Rattle.definitions.specs.Operations.{Judged, passed, stopped, TextOut, to_wr
 use Rattle.text.specs.Writes.{Writes}
 use Rattle.text.specs.WritesLaws.{writes_then}
 use Rattle.shapes.specs.Shapes.{size_at}
-use Rattle.shape_writer.specs.declared.Measured.{Measured}
-use Rattle.shape_writer.specs.declared.Measured.TheVariants.{Over, Fits}
 use Rattle.shapes.specs.Held.{HoldsShape}
 use Rattle.shape_writer.specs.Writing.{LengthOfForm, WritesForm, TellsDeeper, Deliverable, Measures, DeliversAnswer, DeliversOutput}
 use Rattle.shape_writer.proofs.Forms.{holds_size}
@@ -60,18 +59,18 @@ module _ {shapes pool : List ℕ} (l : Limits) where
   forms_told : {n : ℕ} → n ≡ size_at shapes 0 → (s : Shape) → HoldsShape shapes pool 0 s → n / 2 ≡ forms s
   forms_told e s h = omega (arith, e, holds_size h)
 
-  pub over_forms : {n : ℕ} → n ≡ size_at shapes 0 → l.values < n / 2 → Measures shapes pool l Over
+  pub over_forms : {n : ℕ} → n ≡ size_at shapes 0 → l.values < n / 2 → Measures shapes pool l None
   unfolding picked
   over_forms e t s h =
       judged l s (lt-ltb l.values (forms s) (omega (arith, forms_told e s h, t))) refl refl
 
-  pub over_levels : {b : Bool} → TellsDeeper shapes 0 l.nesting b → b ≡ true → Measures shapes pool l Over
+  pub over_levels : {b : Bool} → TellsDeeper shapes 0 l.nesting b → b ≡ true → Measures shapes pool l None
   unfolding picked
   over_levels d e s h =
       judged l s refl (sym (d h.used h.name s h.stands) ∙ e) refl
       ∙ ap (λ (t : Bool). picked s (t || ltb l.bytes (length (write_shape s)))) (or-true (ltb l.values (forms s)))
 
-  pub over_bytes : {n : ℕ} → LengthOfForm shapes pool 0 0 n → l.bytes < n + 1 → Measures shapes pool l Over
+  pub over_bytes : {n : ℕ} → LengthOfForm shapes pool 0 0 n → l.bytes < n + 1 → Measures shapes pool l None
   unfolding picked
   over_bytes m t s h =
       judged l s refl refl (lt-ltb l.bytes (length (write_shape s)) (omega (arith, length_shape s, m s h, t)))
@@ -81,7 +80,7 @@ module _ {shapes pool : List ℕ} (l : Limits) where
       : {k n : ℕ} {b : Bool} → k ≡ size_at shapes 0 → k / 2 ≤ l.values → TellsDeeper shapes 0 l.nesting b → b ≡ false
       → LengthOfForm shapes pool 0 0 n
       → n + 1 ≤ l.bytes
-      → Measures shapes pool l (Fits (n + 1))
+      → Measures shapes pool l (Some (n + 1))
   unfolding picked
   fits e f d g m t s h = (
     judged l s
@@ -102,11 +101,11 @@ ends shapes pool l out f = (
   λ s h. sym (ap (λ (d : Done). d.output) (f s h)),
 )
 
-module _ (shapes pool : List ℕ) (l : Limits) (out : Bytes) {m : Measured} (j : Measures shapes pool l m) where
+module _ (shapes pool : List ℕ) (l : Limits) (out : Bytes) {m : Option ℕ} (j : Measures shapes pool l m) where
   pub delivers_over
-      : {r : Answer} → m ≡ Over → r ≡ record { number = 11; text = 0; place = 0; length = 0; steps = 0; yes = false }
+      : {r : Answer} → m ≡ None → r ≡ refusal 11 0 0
       → DeliversAnswer shapes pool l out r × DeliversOutput shapes pool l out out
-  unfolding finish refusal
+  unfolding finish
   delivers_over {r} e f =
       ends shapes pool l out
       (λ s h.
@@ -114,19 +113,19 @@ module _ (shapes pool : List ℕ) (l : Limits) (out : Bytes) {m : Measured} (j :
       ∙ ap (λ (a : Answer). record { answer = a; output = out }) (sym f))
 
   fitted
-      : {n : ℕ} → m ≡ Fits n → (s : Shape) → HoldsShape shapes pool 0 s
+      : {n : ℕ} → m ≡ Some n → (s : Shape) → HoldsShape shapes pool 0 s
       → (shape_out l s ≡ passed (to_write (write_shape s) 0)) × (n ≡ length (write_shape s))
   fitted e s h = subst (Measures shapes pool l) e j s h
 
   -- the length told is that of the text and its line feed
-  pub fitting : (d : Deliverable shapes pool) {n : ℕ} → m ≡ Fits n → n ≡ length (write d.shape 0) + 1
+  pub fitting : (d : Deliverable shapes pool) {n : ℕ} → m ≡ Some n → n ≡ length (write d.shape 0) + 1
   fitting d e = (fitted e d.shape d.holds).1 ∙ length_shape d.shape
 
   pub delivers_short
-      : {n : ℕ} {r : Answer} → m ≡ Fits n → length out < n
-      → r ≡ record { number = 15; text = 0; place = 0; length = n; steps = 0; yes = false }
+      : {n : ℕ} {r : Answer} → m ≡ Some n → length out < n
+      → r ≡ output_short n
       → DeliversAnswer shapes pool l out r × DeliversOutput shapes pool l out out
-  unfolding finish deliver output_short
+  unfolding finish deliver
   delivers_short {n} e t f =
       ends shapes pool l out
       (λ s h.
@@ -136,12 +135,12 @@ module _ (shapes pool : List ℕ) (l : Limits) (out : Bytes) {m : Measured} (j :
       ∙ ap (λ (a : Answer). record { answer = a; output = out }) (sym f)))
 
   pub delivers_written
-      : {n k i : ℕ} {r : Answer} {o₁ o₂ : Bytes} → m ≡ Fits n → n ≤ length out
+      : {n k i : ℕ} {r : Answer} {o₁ o₂ : Bytes} → m ≡ Some n → n ≤ length out
       → WritesForm shapes pool 0 0 out o₁ 0 k
       → Writes o₁ o₂ k (0x0A ∷ []) i
-      → r ≡ record { number = 0; text = 0; place = 0; length = n; steps = 0; yes = false }
+      → r ≡ written n 0 false
       → DeliversAnswer shapes pool l out r × DeliversOutput shapes pool l out o₂
-  unfolding finish deliver written
+  unfolding finish deliver
   delivers_written {n} {k} {i} {o₂ = o₂} e t p q f =
       ends shapes pool l out
       (λ s h.

@@ -1,5 +1,5 @@
 -- What a writer of shapes asks and answers. Assumes nothing.
-use Rattle.std.specs.Prelude.{ℕ, ◌+◌, ◌^◌, ◌≤◌, ◌<◌, ◌≡◌, Bool, List, ◌++◌, ltb, length}
+use Rattle.std.specs.Prelude.{ℕ, ◌+◌, ◌^◌, ◌≤◌, ◌<◌, ◌≡◌, Bool, Option, Some, None, List, ◌++◌, ltb, length}
 use Rattle.definitions.specs.declared.Limits.{Limits}
 use Rattle.definitions.specs.declared.Answer.{Answer}
 use Rattle.definitions.specs.Bytes.{Bytes, bytes}
@@ -10,8 +10,6 @@ use Rattle.text.specs.Writes.{Writes}
 use Rattle.plain.specs.Parts.{HoldsText}
 use Rattle.shapes.specs.Shapes.{has_bit, Stands}
 use Rattle.shapes.specs.Held.{HoldsShape, HoldsFields}
-use Rattle.shape_writer.specs.declared.Measured.{Measured}
-use Rattle.shape_writer.specs.declared.Measured.TheVariants.{Over, Fits}
 use Rattle.shape_writer.specs.Layout.{word_of, label_text}
 
 -- ---- what a writer asks and answers
@@ -89,10 +87,10 @@ pub record Deliverable (shapes pool : List ℕ) : Type 0 where
   pub holds : HoldsShape shapes pool 0 shape
   pub small : length shapes ≤ 65536
 
--- what judging refusal 11 comes to, and how long the text is
-abbrev pub Measures : (shapes pool : List ℕ) → Limits → Measured → Type 0
-Measures shapes pool l Over = (s : Shape) → HoldsShape shapes pool 0 s → shape_out l s ≡ stopped (refusal 11 0 0)
-Measures shapes pool l (Fits n) =
+-- what judging refusal 11 comes to: nothing where it refuses, else how long the text is
+abbrev pub Measures : (shapes pool : List ℕ) → Limits → Option ℕ → Type 0
+Measures shapes pool l None = (s : Shape) → HoldsShape shapes pool 0 s → shape_out l s ≡ stopped (refusal 11 0 0)
+Measures shapes pool l (Some n) =
     (s : Shape) → HoldsShape shapes pool 0 s
     → (shape_out l s ≡ passed (to_write (write_shape s) 0)) × (n ≡ length (write_shape s))
 

@@ -2,7 +2,7 @@
 // a shape.
 #![tactic(auto)]
 
-ghost use Rattle.std.specs.Prelude.{◌≡◌, false, ◌+◌, ◌^◌, length};
+ghost use Rattle.std.specs.Prelude.{◌+◌, ◌^◌, length};
 ghost use Rattle.shape_writer.specs.Writing.{Printable, WritesForm, LengthOfForm, PrintableFields, WritesFields, LengthOfFields};
 ghost use Rattle.shape_writer.specs.Writing.{Standing, TellsDeeper, Deliverable, Measures, DeliversAnswer, DeliversOutput};
 
@@ -11,14 +11,8 @@ mod parts; // the parts of a shape text
 use definitions::{Answer, Limits};
 use parts::{head_length, label_length, write_head, write_label, write_line};
 use plain::write_bytes;
+use reading::Cause;
 use shapes::Shape;
-
-// What judging a shape for refusal 11 comes to.
-#[derive(Clone, Copy)]
-pub enum Measured {
-    Over,
-    Fits { length: usize },
-}
 
 // Writes the members whose rows stand from a row up to an end, and the bracket that closes their shape.
 #[cycle(write_form_write_inner_write_members)]
@@ -84,7 +78,7 @@ fn write_form(
     let end = row + shapes::size(shapes, row);
     let inner = around + 1;
     let j = write_head(out, at, kinds);
-    if shapes::has(kinds, Shape::LIST) {
+    if kinds.has(Shape::LIST) {
         let next = first + shapes::size(shapes, first);
         let k = write_line(out, j, inner);
         let m = write_form(out, k, shapes, first, pool, inner);
@@ -132,7 +126,7 @@ fn form_length(shapes: &[u64], row: usize, pool: &[u64], around: usize) -> usize
     let end = row + shapes::size(shapes, row);
     let inner = around + 1;
     let head = head_length(kinds);
-    if shapes::has(kinds, Shape::LIST) {
+    if kinds.has(Shape::LIST) {
         let next = first + shapes::size(shapes, first);
         let element = form_length(shapes, first, pool, inner);
         return head + 1 + inner + element + members_length(shapes, next, end, pool, inner);
@@ -164,22 +158,20 @@ fn is_deeper(shapes: &[u64], row: usize, left: usize) -> bool
     false
 }
 
-// Judges refusal 11 for the shape at the first row, and tells how long its text is.
-fn measure(shapes: &[u64], pool: &[u64], limits: Limits) -> Measured
+// Judges refusal 11 for the shape at the first row: how long its text is, or nothing where the shape is refused.
+fn measure(shapes: &[u64], pool: &[u64], limits: Limits) -> Option<usize>
     requires { Deliverable shapes.now pool.now }
     ensures judged { Measures shapes.now pool.now limits result }
 {
-    if limits.values < shapes::size(shapes, 0) / 2 {
-        return Measured::Over;
-    }
-    if is_deeper(shapes, 0, limits.nesting) {
-        return Measured::Over;
+    if limits.values < shapes::size(shapes, 0) / 2 || is_deeper(shapes, 0, limits.nesting) {
+        return None;
     }
     let length = form_length(shapes, 0, pool, 0) + 1;
-    if limits.bytes < length {
-        return Measured::Over;
+    if length <= limits.bytes {
+        Some(length)
+    } else {
+        None
     }
-    Measured::Fits { length }
 }
 
 // The end of an operation that writes the shape at the first row: refusal 11, refusal 15, or its text at the front of the
@@ -189,27 +181,13 @@ pub fn deliver(output: &mut [u8], shapes: &[u64], pool: &[u64], limits: Limits) 
     ensures answered { DeliversAnswer shapes.now pool.now limits output.old result }
     ensures kept { DeliversOutput shapes.now pool.now limits output.old output.new }
 {
-    let Measured::Fits { length } = measure(shapes, pool, limits) else {
-        return answer(11, 0);
+    let Some(length) = measure(shapes, pool, limits) else {
+        return answers::refusal(Cause::ShapeLimit.number(), 0, 0);
     };
     if output.len() < length {
-        return answer(15, length);
+        return answers::output_short(length);
     }
     let end = write_form(output, 0, shapes, 0, pool, 0);
     write_bytes(output, end, b"\n");
-    answer(0, length)
-}
-
-// An answer that tells a number and a length.
-fn answer(number: u64, length: usize) -> Answer
-    ensures set { result ≡ record { number = number; text = 0; place = 0; length = length; steps = 0; yes = false } }
-{
-    Answer {
-        number,
-        text: 0,
-        place: 0,
-        length,
-        steps: 0,
-        yes: false,
-    }
+    answers::written(length, 0)
 }

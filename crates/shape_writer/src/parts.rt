@@ -9,27 +9,14 @@ ghost use Rattle.shape_writer.specs.Writing.{WritesWord, LengthOfWord, Printable
 use plain::write_bytes;
 use shapes::Shape;
 
-// Writes n spaces, four at a time, and answers the place behind them. Most lines have fewer.
+// Writes n spaces, and answers the place behind them.
 fn write_spaces(out: &mut [u8], at: usize, n: usize) -> usize
     requires { at + n ≤ length out.old }
     ensures written { Writes out.old out.new at (replicate n 0x20) result }
 {
-    let mut j = at;
-    let mut left = n;
-    while 4 <= left {
-        j = write_bytes(out, j, b"    ");
-        left -= 4;
-    }
-    if left == 1 {
-        return write_bytes(out, j, b" ");
-    }
-    if left == 2 {
-        return write_bytes(out, j, b"  ");
-    }
-    if left == 3 {
-        return write_bytes(out, j, b"   ");
-    }
-    j
+    let end = at + n;
+    out[at..end].fill(b' ');
+    end
 }
 
 // Writes a line feed and a space for each form around.
@@ -46,13 +33,14 @@ fn write_word(out: &mut [u8], at: usize, kinds: Shape, kind: Shape, word: &[u8])
     requires { at + length (word_of (has_bit kinds.kinds kind.kinds) word.now) ≤ length out.old }
     ensures written { WritesWord kinds.kinds kind.kinds word.now out.old out.new at result }
 {
-    if shapes::has(kinds, kind) {
+    if kinds.has(kind) {
         return write_bytes(out, at, word);
     }
     at
 }
 
-// Writes how the form of a shape with these kinds begins. The compiler makes one or two stores of each word.
+// Writes how the form of a shape with these kinds begins: word by word and not over a table, since the compiler then makes one or two
+// stores of each.
 pub fn write_head(out: &mut [u8], at: usize, kinds: Shape) -> usize
     requires { at + length (head_text kinds.kinds) ≤ length out.old }
     ensures written { Writes out.old out.new at (head_text kinds.kinds) result }
@@ -83,7 +71,7 @@ fn word_length(kinds: Shape, kind: Shape, n: usize) -> usize
     ensures measured { LengthOfWord kinds.kinds kind.kinds n result }
     ensures bounded { result ≤ n }
 {
-    if shapes::has(kinds, kind) { n } else { 0 }
+    if kinds.has(kind) { n } else { 0 }
 }
 
 // How long the beginning of a form is whose shape has these kinds.

@@ -1,5 +1,5 @@
 -- Laws of what a shape table and a pool hold: the parts of a shape, and its members one by one. Assumes nothing.
-use Rattle.std.specs.Prelude.{ℕ, ◌+◌, ◌/◌, ◌%◌, ◌≤◌, ◌<◌, ◌≡◌, refl, Bool, List, length, take, drop, get_or}
+use Rattle.std.specs.Prelude.{ℕ, ◌+◌, ◌/◌, ◌%◌, ◌≤◌, ◌<◌, ◌≡◌, refl, Bool, List, length, take, drop, get_or, Option}
 use Rattle.std.proofs.Common.{sym, ap, ◌∙◌, subst, arith, take-append-drop, length-take-le}
 use Rattle.definitions.specs.Bytes.{Bytes}
 use Rattle.definitions.specs.Shape.{Kind, Numeric, Shape, shape, Element, list_of, Record, rec_of, Fields, no_fields, field, has}
@@ -8,7 +8,6 @@ use Rattle.shapes.specs.Shapes.{kind_bit, kind_bits, has_bit, ShapeRows, size_at
 use Rattle.shapes.specs.ShapesLaws.{has_kind, forms_some, stands_kinds, stands_size, stands_name, stands_within, stands_element}
 use Rattle.shapes.specs.ShapesLaws.{stands_members, SomeFields, some_fields, fields_left, fields_first, fields_rest, fields_end, fields_some}
 use Rattle.shapes.specs.Members.{Listed, SomeListed, Found_at, Names}
-use Rattle.shapes.specs.declared.Member.{Member}
 use Rattle.shapes.specs.Held.{HoldsShape, HoldsFields}
 use Rattle.nodes.specs.StandingLaws.{text_referred}
 
@@ -108,5 +107,5 @@ members_within h = omega (arith, fields_end h.listed.stand)
 
 -- what a search tells of a reference that is read from a row
 pub names_of
-    : {shapes pool : List ℕ} {from end k m : ℕ} (r : Member) → k ≡ m → Names shapes from end pool k r → Names shapes from end pool m r
+    : {shapes pool : List ℕ} {from end k m : ℕ} (r : Option ℕ) → k ≡ m → Names shapes from end pool k r → Names shapes from end pool m r
 names_of {shapes} {pool} {from} {end} r e h = subst (λ (i : ℕ). Names shapes from end pool i r) e h

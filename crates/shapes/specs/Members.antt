@@ -1,12 +1,10 @@
 -- Looking a member of a shape up by its name. Assumes nothing.
-use Rattle.std.specs.Prelude.{ℕ, ◌+◌, ◌/◌, ◌%◌, ◌<◌, ◌≡◌, true, List, length, take}
+use Rattle.std.specs.Prelude.{ℕ, ◌+◌, ◌/◌, ◌%◌, ◌<◌, ◌≡◌, true, List, length, take, Option, Some, None}
 use Rattle.std.proofs.Math.Option.{none, some}
 use Rattle.definitions.specs.Bytes.{Bytes, same}
 use Rattle.definitions.specs.Shape.{Shape, Fields, no_fields, field, find}
 use Rattle.pool.specs.Pool.{text_in}
 use Rattle.shapes.specs.Shapes.{Stands, FieldsStand}
-use Rattle.shapes.specs.declared.Member.{Member}
-use Rattle.shapes.specs.declared.Member.TheVariants.{Found, Missing}
 
 -- the members fs stand in the table from a row up to an end, their names in p, the used part of the pool: a reference has
 -- 16 bits for a name's first word
@@ -40,12 +38,12 @@ pub record Found_at (shapes p : List ℕ) (end : ℕ) (t : Bytes) (fs : Fields) 
   pub stand : FieldsStand shapes p row end (field label shape others)
 
 -- what the answer to a search for the name t tells of the members fs
-abbrev pub Tells : (shapes p : List ℕ) (end : ℕ) (t : Bytes) (fs : Fields) → Member → Type 0
-Tells shapes p end t fs (Found row) = Found_at shapes p end t fs row
-Tells shapes p end t fs Missing = find t fs ≡ none
+abbrev pub Tells : (shapes p : List ℕ) (end : ℕ) (t : Bytes) (fs : Fields) → Option ℕ → Type 0
+Tells shapes p end t fs (Some row) = Found_at shapes p end t fs row
+Tells shapes p end t fs None = find t fs ≡ none
 
 -- the member among those listed that has the name at a reference
-abbrev pub Names : (shapes : List ℕ) (from end : ℕ) (pool : List ℕ) (k : ℕ) → Member → Type 0
+abbrev pub Names : (shapes : List ℕ) (from end : ℕ) (pool : List ℕ) (k : ℕ) → Option ℕ → Type 0
 Names shapes from end pool k r =
     (p : List ℕ) (fs : Fields) → Listed shapes pool from end p fs → Tells shapes p end (text_in pool (k % 65536) (k / 65536)) fs r
 

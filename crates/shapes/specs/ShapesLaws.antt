@@ -566,3 +566,9 @@ stands_members {t} {row} h =
     h.placed
     (members_at_is h)
     (omega (arith, length_shape_rows h.encoded, stands_size h))
+
+-- ---- a test of a kind
+
+-- what it tells of the word that the kinds were read from
+pub bit_tested : (b : ℕ) {i kinds : ℕ} {v : Bool} → kinds ≡ i → v ≡ has_bit kinds b → has_bit i b ≡ v
+bit_tested b e h = ap (λ (k : ℕ). has_bit k b) (sym e) ∙ sym h

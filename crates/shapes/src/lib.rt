@@ -1,14 +1,18 @@
 // The table of a shape: two words a form, in preorder. The functions that read it are total: past its end stands 0.
 #![tactic(auto)]
 
-ghost use Rattle.std.specs.Prelude.{◌≡◌, List, ◌++◌, ◌∷◌, ℕ, ◌+◌, ◌%◌, ◌^◌, ◌≤◌, ◌<◌, eqb, length, get_or, take, drop};
+ghost use Rattle.std.specs.Prelude.{◌≡◌, List, ◌++◌, ◌∷◌, ℕ, ◌+◌, ◌/◌, ◌%◌, ◌^◌, ◌≤◌, ◌<◌, eqb, length, get_or, take, drop};
 ghost use Rattle.std.specs.Int.Bits.{bit_or};
+ghost use Rattle.definitions.specs.Bytes.{order};
 ghost use Rattle.definitions.specs.Shape.{Fields};
+ghost use Rattle.pool.specs.Pool.{text_in, ordering_of};
 ghost use Rattle.shapes.specs.Shapes.{has_bit, head_of, size_at, members_at, FieldsStand};
 ghost use Rattle.shapes.specs.Members.{SomeListed, Names, SomeStand, field_count};
 
+use std::cmp::Ordering;
+
 // The kinds of a shape, a set that is the sum of the kinds' bits.
-#[derive(Clone, Copy)]
+#[derive(Clone, Copy, PartialEq, Eq)]
 pub struct Shape {
     pub kinds: u64,
 }
@@ -30,13 +34,37 @@ impl Shape {
     pub const LIST: Shape = Shape { kinds: 32 };
 
     pub const REC: Shape = Shape { kinds: 64 };
+
+    // Whether it has a kind.
+    #[tactic(auto, unfolding(crate::specs::Shapes::has_bit))]
+    pub fn has(self, kind: Shape) -> bool
+        ensures told { result ≡ has_bit self.kinds kind.kinds }
+    {
+        self.kinds & kind.kinds != 0
+    }
+
+    // The kinds of both.
+    pub fn union(self, others: Shape) -> Shape
+        ensures made { result.kinds ≡ bit_or self.kinds others.kinds }
+    {
+        Shape {
+            kinds: self.kinds | others.kinds,
+        }
+    }
+
+    // Whether its kinds are all in another.
+    pub fn is_within(self, others: Shape) -> bool
+        ensures told { result ≡ eqb (bit_or self.kinds others.kinds) others.kinds }
+    {
+        self.union(others) == others
+    }
 }
 
 // The word at a place.
 fn word(shapes: &[u64], i: usize) -> u64
     ensures read { result ≡ get_or shapes.now i 0 }
 {
-    if i < shapes.len() { shapes[i] } else { 0 }
+    shapes.get(i).copied().unwrap_or(0)
 }
 
 // The kinds of the shape at a row.
@@ -49,6 +77,7 @@ pub fn kinds(shapes: &[u64], row: usize) -> Shape
 }
 
 // How many words the shape at a row takes.
+#[tactic(auto, unfolding(crate::specs::Shapes::size_at))]
 pub fn size(shapes: &[u64], row: usize) -> usize
     ensures read { result ≡ size_at shapes.now row }
 {
@@ -59,6 +88,7 @@ pub fn size(shapes: &[u64], row: usize) -> usize
 pub fn name(shapes: &[u64], row: usize) -> u64
     ensures read { result ≡ get_or shapes.now (row + 1) 0 }
 {
+    // at the largest row no row + 1 fits
     if row < shapes.len() {
         word(shapes, row + 1)
     } else {
@@ -66,36 +96,14 @@ pub fn name(shapes: &[u64], row: usize) -> u64
     }
 }
 
-// Whether a set of kinds has a kind.
-pub fn has(kinds: Shape, kind: Shape) -> bool
-    ensures told { result ≡ has_bit kinds.kinds kind.kinds }
-{
-    kinds.kinds & kind.kinds != 0
-}
-
-// The kinds of both of two sets.
-pub fn union(kinds: Shape, others: Shape) -> Shape
-    ensures made { result.kinds ≡ bit_or kinds.kinds others.kinds }
-{
-    Shape {
-        kinds: kinds.kinds | others.kinds,
-    }
-}
-
-// Whether the kinds of a set are all in another.
-pub fn is_within(kinds: Shape, others: Shape) -> bool
-    ensures told { result ≡ eqb (bit_or kinds.kinds others.kinds) others.kinds }
-{
-    kinds.kinds | others.kinds == others.kinds
-}
-
 // Where the members of the shape at a row begin: behind its element, if it has one.
+#[tactic(auto, using(crate::proofs::Rows::behind_element, crate::proofs::Rows::behind_row))]
 pub fn members(shapes: &[u64], row: usize) -> usize
     requires row_in_bounds { row + 2 ≤ length shapes.now }
     requires within { members_at shapes.now row < 2 ^ 64 }
     ensures found { result ≡ members_at shapes.now row }
 {
-    if has(kinds(shapes, row), Shape::LIST) {
+    if kinds(shapes, row).has(Shape::LIST) {
         row + 2 + size(shapes, row + 2)
     } else {
         row + 2
@@ -103,6 +111,7 @@ pub fn members(shapes: &[u64], row: usize) -> usize
 }
 
 // Puts the first word of a row.
+#[tactic(auto, using(crate::proofs::Rows::head_put))]
 pub fn put_head(shapes: &mut [u64], row: usize, kinds: Shape, size: usize)
     requires row_in_bounds { row < length shapes.old }
     requires fits { head_of kinds.kinds size < 2 ^ 64 }
@@ -112,6 +121,7 @@ pub fn put_head(shapes: &mut [u64], row: usize, kinds: Shape, size: usize)
 }
 
 // Puts the two words of a row.
+#[tactic(auto, using(crate::proofs::Rows::row_put))]
 pub fn put_row(shapes: &mut [u64], row: usize, kinds: Shape, size: usize, name: u64)
     requires row_in_bounds { row + 2 ≤ length shapes.old }
     requires fits { head_of kinds.kinds size < 2 ^ 64 }
@@ -121,29 +131,37 @@ pub fn put_row(shapes: &mut [u64], row: usize, kinds: Shape, size: usize, name: 
     shapes[row + 1] = name;
 }
 
-// Whether there is a member, and at which row.
-#[derive(Clone, Copy)]
-pub enum Member {
-    Found { row: usize },
-    Missing,
+// The texts of two references in byte order.
+pub fn compare_names(pool: &[u64], a: u64, b: u64) -> Ordering
+    ensures compared { ordering_of result
+        ≡ order (text_in pool.now (a % 65536) (a / 65536)) (text_in pool.now (b % 65536) (b / 65536)) }
+{
+    pool::compare(
+        pool,
+        nodes::text_word(a),
+        nodes::text_bytes(a),
+        nodes::text_word(b),
+        nodes::text_bytes(b),
+    )
 }
 
-// The member whose name is at a reference, among those that stand from one row up to another.
-pub fn find_named(shapes: &[u64], from: usize, end: usize, pool: &[u64], k: u64) -> Member
+// The row of the member whose name is at a reference, among those that stand from one row up to another.
+pub fn find_named(shapes: &[u64], from: usize, end: usize, pool: &[u64], k: u64) -> Option<usize>
     requires { SomeListed shapes.now pool.now from end }
     ensures told { Names shapes.now from end pool.now k result }
 {
     let w = nodes::text_word(k);
     let n = pool::held(pool, w, nodes::text_bytes(k));
     let mut row = from;
+    // rows differ in size: no iterator of std's walks them
     while row < end {
         let m = shapes[row + 1];
         if pool::same_held(pool, w, n, nodes::text_word(m), nodes::text_bytes(m)) {
-            return Member::Found { row };
+            return Some(row);
         }
         row += (shapes[row] / 128) as usize;
     }
-    Member::Missing
+    None
 }
 
 // How many members stand from one row up to another.
@@ -153,6 +171,7 @@ pub fn member_count(shapes: &[u64], from: usize, end: usize) -> usize
 {
     let mut row = from;
     let mut count: usize = 0;
+    // rows differ in size: no iterator of std's walks them
     while row < end {
         count += 1;
         row += (shapes[row] / 128) as usize;

@@ -1,33 +1,12 @@
 -- Whether one of some work slices is shorter than published, slice by slice. Assumes nothing.
-use Prim.Native.Nat.{ℕ, ◌≤◌, ◌<◌}
-use mathlib.Core.Path.{◌≡◌, refl}
-use mathlib.Core.Bool.{Bool, true, false, ◌||◌}
-use mathlib.Core.List.{List, [], ◌∷◌}
+use Rattle.std.proofs.Common.{ℕ, ◌≡◌, refl, ap, ◌||◌, List, [], ◌∷◌, length, arith}
+use Rattle.std.specs.List.{zip, list_any}
 use lib.Dec.{ltb}
 use Rattle.definitions.specs.Operations.{slices_short}
-use Rattle.laws.specs.Tests.{lt-ltb, le-ltb}
 
-pub short_first : (a x : ℕ) (ms ns : List ℕ) → x < a → true ≡ slices_short (a ∷ ms) (x ∷ ns)
+pub any_short : (asked lent : List ℕ) → length asked ≡ length lent → list_any (λ p. ltb p.1 p.0) (zip asked lent) ≡ slices_short asked lent
 unfolding slices_short
-short_first a x ms ns h = rw (lt-ltb x a h) refl
-
-pub short_rest : (a x : ℕ) (ms ns : List ℕ) → a ≤ x → slices_short ms ns ≡ slices_short (a ∷ ms) (x ∷ ns)
-unfolding slices_short
-short_rest a x ms ns h = rw (le-ltb x a h) refl
-
-pub short_last : (a x : ℕ) → ltb x a ≡ slices_short (a ∷ []) (x ∷ [])
-unfolding slices_short
-short_last a x = go (ltb x a)
-  where
-    go : (b : Bool) → b ≡ (b || false)
-    go true = refl
-    go false = refl
-
--- one slice alone
-pub one_short : (a x : ℕ) → x < a → slices_short (a ∷ []) (x ∷ []) ≡ true
-unfolding slices_short
-one_short a x h = rw (lt-ltb x a h) refl
-
-pub one_long : (a x : ℕ) → a ≤ x → slices_short (a ∷ []) (x ∷ []) ≡ false
-unfolding slices_short
-one_long a x h = rw (le-ltb x a h) refl
+any_short [] [] e = refl
+any_short [] (n ∷ ns) e = refl
+any_short (m ∷ ms) [] e = absurd (let z : ⊥ = omega (arith, e) in z)
+any_short (m ∷ ms) (n ∷ ns) e = ap (λ b. ltb n m || b) (any_short ms ns (omega (arith, e)))

@@ -1,8 +1,8 @@
 // What goes before the texts of an operation: whether its limits are in range, and its work slices as long as published at them.
 #![tactic(auto)]
 
-ghost use Rattle.std.specs.Prelude.{◌≡◌, [], ◌∷◌, min, max};
-ghost use Rattle.definitions.specs.Limits.{set_of, within, in_range};
+ghost use Rattle.std.specs.Prelude.{◌≡◌, true, false, [], ◌∷◌, min, OnOk};
+ghost use Rattle.definitions.specs.Limits.{set_of, in_range};
 ghost use Rattle.definitions.specs.Operations.{slices_short};
 ghost use Rattle.definitions.specs.Calls.{buffer_published};
 ghost use Rattle.definitions.specs.WorkSlices.{shape_words, name_words, most_values, value_words, text_words, most_reader_forms, reader_texts};
@@ -11,9 +11,10 @@ ghost use Rattle.definitions.specs.WorkSlices.{for_reader_shape, for_reader_docu
 ghost use Rattle.definitions.specs.WorkSlices.{plain_slices, infer_slices, join_slices, check_slices, run_slices};
 ghost use Rattle.slices.specs.Small.{Small};
 ghost use Rattle.slices.specs.Fewer.{with_values};
-ghost use Rattle.slices.specs.Prelude.{Before};
+ghost use Rattle.slices.specs.Prelude.{before, Before};
 
 use definitions::Limits;
+use reading::Cause;
 
 // The largest set, `standard` of the definitions.
 pub const STANDARD: Limits = Limits {
@@ -35,42 +36,20 @@ pub fn set(bytes: u64, values: u64, nesting: u64, steps: u64) -> Limits
     }
 }
 
-// The smaller of two numbers.
-fn least(a: usize, b: usize) -> usize
-    ensures chosen { result ≡ min a b }
-{
-    if a < b { a } else { b }
-}
-
-// The larger of two numbers.
-fn greatest(a: usize, b: usize) -> usize
-    ensures chosen { result ≡ max a b }
-{
-    if a < b { b } else { a }
-}
-
-// Whether a number lies in a range, both ends in.
-fn within(first: usize, last: usize, n: usize) -> bool
-    ensures told { result ≡ within first last n }
-{
-    if n < first {
-        return false;
-    }
-    n <= last
-}
-
 // Whether each limit is in its range.
+#[tactic(auto, unfolding(definitions::specs::Limits::in_range))]
 fn in_range(limits: Limits) -> bool
     ensures told { result ≡ in_range limits }
 {
-    if within(1024, 16384, limits.bytes) {
-        if within(16, 512, limits.values) {
-            if within(4, 32, limits.nesting) {
-                return within(256, 65536, limits.steps);
-            }
+    matches!(
+        limits,
+        Limits {
+            bytes: 1024..=16384,
+            values: 16..=512,
+            nesting: 4..=32,
+            steps: 256..=65536,
         }
-    }
-    false
+    )
 }
 
 // Limits for a text that can begin no more than so many values or forms.
@@ -78,10 +57,8 @@ pub fn fewer(limits: Limits, most: usize) -> Limits
     ensures made { result ≡ with_values limits (min limits.values most) }
 {
     Limits {
-        bytes: limits.bytes,
-        values: least(limits.values, most),
-        nesting: limits.nesting,
-        steps: limits.steps,
+        values: limits.values.min(most),
+        ..limits
     }
 }
 
@@ -90,7 +67,7 @@ pub fn name_words(limits: Limits, bytes: usize) -> usize
     requires { Small limits }
     ensures counted { result ≡ name_words limits bytes }
 {
-    (least(limits.bytes, bytes) + 6) / 8
+    (limits.bytes.min(bytes) + 6) / 8
 }
 
 // The words that the forms of a shape text of so many bytes can take.
@@ -98,7 +75,7 @@ pub fn shape_words(limits: Limits, bytes: usize) -> usize
     requires { Small limits }
     ensures counted { result ≡ shape_words limits bytes }
 {
-    2 * least(limits.values, (least(limits.bytes, bytes) + 6) / 7)
+    2 * limits.values.min((limits.bytes.min(bytes) + 6) / 7)
 }
 
 // The most values that are read of a document of so many bytes.
@@ -106,10 +83,9 @@ fn most_values(limits: Limits, bytes: usize) -> usize
     requires { Small limits }
     ensures counted { result ≡ most_values limits bytes }
 {
-    least(
-        limits.values,
-        (least(limits.bytes, bytes) + limits.nesting) / 2,
-    )
+    limits
+        .values
+        .min((limits.bytes.min(bytes) + limits.nesting) / 2)
 }
 
 // The words that the values of a document of so many bytes can take.
@@ -125,11 +101,7 @@ fn text_words(limits: Limits, bytes: usize) -> usize
     requires { Small limits }
     ensures counted { result ≡ text_words limits bytes }
 {
-    let eighths = least(limits.bytes, bytes) + 8 * most_values(limits, bytes);
-    if eighths < 2 {
-        return 0;
-    }
-    (eighths - 2) / 8
+    (limits.bytes.min(bytes) + 8 * most_values(limits, bytes)).saturating_sub(2) / 8
 }
 
 // The most forms that are read of a reader of so many bytes.
@@ -137,8 +109,8 @@ pub fn most_reader_forms(limits: Limits, bytes: usize) -> usize
     requires { Small limits }
     ensures counted { result ≡ most_reader_forms limits bytes }
 {
-    let written = (least(limits.bytes, bytes) + 2) / 3;
-    least(limits.values, greatest(1, written))
+    let written = (limits.bytes.min(bytes) + 2) / 3;
+    limits.values.min(written.max(1))
 }
 
 // The words that the names and texts of a reader of so many bytes can take.
@@ -146,51 +118,14 @@ fn reader_texts(limits: Limits, bytes: usize) -> usize
     requires { Small limits }
     ensures counted { result ≡ reader_texts limits bytes }
 {
-    (least(limits.bytes, bytes) + 5 * most_reader_forms(limits, bytes) + 6) / 8
+    (limits.bytes.min(bytes) + 5 * most_reader_forms(limits, bytes) + 6) / 8
 }
 
-// Whether one of two slices is shorter than asked for.
-fn two_short(a: usize, x: usize, b: usize, y: usize) -> bool
-    ensures told { result ≡ slices_short (a ∷ b ∷ []) (x ∷ y ∷ []) }
+// Whether one of some slices is shorter than asked for.
+fn one_short<const N: usize>(asked: &[usize; N], lent: &[usize; N]) -> bool
+    ensures told { result ≡ slices_short asked.now lent.now }
 {
-    if x < a {
-        return true;
-    }
-    y < b
-}
-
-// Whether one of three slices is shorter than asked for.
-fn three_short(a: usize, x: usize, b: usize, y: usize, c: usize, z: usize) -> bool
-    ensures told { result ≡ slices_short (a ∷ b ∷ c ∷ []) (x ∷ y ∷ z ∷ []) }
-{
-    if x < a {
-        return true;
-    }
-    two_short(b, y, c, z)
-}
-
-// Whether one of five slices is shorter than asked for.
-fn five_short(
-    a: usize,
-    v: usize,
-    b: usize,
-    w: usize,
-    c: usize,
-    x: usize,
-    d: usize,
-    y: usize,
-    e: usize,
-    z: usize,
-) -> bool
-    ensures told { result ≡ slices_short (a ∷ b ∷ c ∷ d ∷ e ∷ []) (v ∷ w ∷ x ∷ y ∷ z ∷ []) }
-{
-    if v < a {
-        return true;
-    }
-    if w < b {
-        return true;
-    }
-    three_short(c, x, d, y, e, z)
+    asked.iter().zip(lent).any(|(least, n)| *n < *least)
 }
 
 // Whether a slice is short for a document of so many bytes.
@@ -198,8 +133,10 @@ pub fn document_short(limits: Limits, document: usize, nodes: usize, pool: usize
     requires { Small limits }
     ensures told { result ≡ slices_short (for_document limits document) (nodes ∷ pool ∷ []) }
 {
-    let texts = text_words(limits, document);
-    two_short(value_words(limits, document), nodes, texts, pool)
+    one_short(
+        &[value_words(limits, document), text_words(limits, document)],
+        &[nodes, pool],
+    )
 }
 
 // Whether a slice is short for a shape and a document of so many bytes.
@@ -215,14 +152,13 @@ pub fn shape_document_short(
     ensures told { result ≡ slices_short (for_shape_document limits shape document) (shapes ∷ nodes ∷ pool ∷ []) }
 {
     let texts = name_words(limits, shape) + text_words(limits, document);
-    let forms = shape_words(limits, shape);
-    three_short(
-        forms,
-        shapes,
-        value_words(limits, document),
-        nodes,
-        texts,
-        pool,
+    one_short(
+        &[
+            shape_words(limits, shape),
+            value_words(limits, document),
+            texts,
+        ],
+        &[shapes, nodes, pool],
     )
 }
 
@@ -239,13 +175,9 @@ pub fn grown_document_short(
     ensures told { result ≡ slices_short (for_grown_document limits shape document) (shapes ∷ nodes ∷ pool ∷ []) }
 {
     let texts = name_words(limits, shape) + text_words(limits, document);
-    three_short(
-        2 * limits.values,
-        shapes,
-        value_words(limits, document),
-        nodes,
-        texts,
-        pool,
+    one_short(
+        &[2 * limits.values, value_words(limits, document), texts],
+        &[shapes, nodes, pool],
     )
 }
 
@@ -262,14 +194,13 @@ pub fn two_shapes_short(
     ensures told { result ≡ slices_short (for_two_shapes limits first second) (shapes ∷ others ∷ pool ∷ []) }
 {
     let names = name_words(limits, first) + name_words(limits, second);
-    let forms = shape_words(limits, first);
-    three_short(
-        forms,
-        shapes,
-        shape_words(limits, second),
-        others,
-        names,
-        pool,
+    one_short(
+        &[
+            shape_words(limits, first),
+            shape_words(limits, second),
+            names,
+        ],
+        &[shapes, others, pool],
     )
 }
 
@@ -286,13 +217,9 @@ pub fn grown_shapes_short(
     ensures told { result ≡ slices_short (for_grown_shapes limits first second) (shapes ∷ others ∷ pool ∷ []) }
 {
     let names = name_words(limits, first) + name_words(limits, second);
-    three_short(
-        2 * limits.values,
-        shapes,
-        shape_words(limits, second),
-        others,
-        names,
-        pool,
+    one_short(
+        &[2 * limits.values, shape_words(limits, second), names],
+        &[shapes, others, pool],
     )
 }
 
@@ -311,17 +238,15 @@ pub fn reader_shape_short(
     ensures told { result ≡ slices_short (for_reader_shape limits reader shape) (forms ∷ shapes ∷ results ∷ bindings ∷ pool ∷ []) }
 {
     let texts = reader_texts(limits, reader) + name_words(limits, shape);
-    five_short(
-        3 * most_reader_forms(limits, reader),
-        forms,
-        shape_words(limits, shape),
-        shapes,
-        2 * limits.values,
-        results,
-        limits.nesting,
-        bindings,
-        texts,
-        pool,
+    one_short(
+        &[
+            3 * most_reader_forms(limits, reader),
+            shape_words(limits, shape),
+            2 * limits.values,
+            limits.nesting,
+            texts,
+        ],
+        &[forms, shapes, results, bindings, pool],
     )
 }
 
@@ -340,57 +265,69 @@ pub fn reader_document_short(
     ensures told { result ≡ slices_short (for_reader_document limits reader document) (forms ∷ nodes ∷ results ∷ bindings ∷ pool ∷ []) }
 {
     let texts = reader_texts(limits, reader) + text_words(limits, document);
-    five_short(
-        3 * most_reader_forms(limits, reader),
-        forms,
-        value_words(limits, document),
-        nodes,
-        3 * limits.values,
-        results,
-        limits.nesting,
-        bindings,
-        texts,
-        pool,
+    one_short(
+        &[
+            3 * most_reader_forms(limits, reader),
+            value_words(limits, document),
+            3 * limits.values,
+            limits.nesting,
+            texts,
+        ],
+        &[forms, nodes, results, bindings, pool],
     )
 }
 
-// The number of the refusal before a document, or 0: 18, or 1.
-pub fn judge_document(limits: Limits, nodes: usize, pool: usize) -> u64
-    ensures told { Before limits (plain_slices limits) (nodes ∷ pool ∷ []) result }
+// That each limit is in its range, or 18.
+fn judge_limits(limits: Limits) -> Result<(), Cause>
+    ensures told { result ≡ before (in_range limits) false }
+    ensures small { OnOk result (Small limits) }
 {
     if in_range(limits) {
-        if document_short(limits, limits.bytes, nodes, pool) {
-            return 1;
-        }
-        return 0;
+        Ok(())
+    } else {
+        Err(Cause::LimitOutOfRange)
     }
-    18
+}
+
+// That no slice is short, or 1.
+fn judge_work(short: bool) -> Result<(), Cause>
+    ensures told { result ≡ before true short }
+{
+    if short { Err(Cause::TooShort) } else { Ok(()) }
+}
+
+// Whether a document is to be looked at: not at limits out of range, nor with a slice shorter than published.
+pub fn judge_document(limits: Limits, nodes: usize, pool: usize) -> Result<(), Cause>
+    ensures told { Before limits (plain_slices limits) (nodes ∷ pool ∷ []) result }
+{
+    judge_limits(limits)?;
+    judge_work(document_short(limits, limits.bytes, nodes, pool))
 }
 
 // The same before a shape and a document.
-pub fn judge_shape_document(limits: Limits, shapes: usize, nodes: usize, pool: usize) -> u64
+pub fn judge_shape_document(
+    limits: Limits,
+    shapes: usize,
+    nodes: usize,
+    pool: usize,
+) -> Result<(), Cause>
     ensures told { Before limits (infer_slices limits) (shapes ∷ nodes ∷ pool ∷ []) result }
 {
-    if in_range(limits) {
-        if grown_document_short(limits, limits.bytes, limits.bytes, shapes, nodes, pool) {
-            return 1;
-        }
-        return 0;
-    }
-    18
+    judge_limits(limits)?;
+    judge_work(grown_document_short(limits, limits.bytes, limits.bytes, shapes, nodes, pool))
 }
 
 // The same before two shapes.
-pub fn judge_two_shapes(limits: Limits, shapes: usize, others: usize, pool: usize) -> u64
+pub fn judge_two_shapes(
+    limits: Limits,
+    shapes: usize,
+    others: usize,
+    pool: usize,
+) -> Result<(), Cause>
     ensures told { Before limits (join_slices limits) (shapes ∷ others ∷ pool ∷ []) result }
 {
-    if in_range(limits) {
-        if grown_shapes_short(limits, limits.bytes, limits.bytes, shapes, others, pool) {
-            return 1;
-        }
-        return 0;
-    }
-    18
+    judge_limits(limits)?;
+    judge_work(grown_shapes_short(limits, limits.bytes, limits.bytes, shapes, others, pool))
 }
 
 // The same before a reader and a shape.
@@ -401,25 +338,20 @@ pub fn judge_reader_shape(
     results: usize,
     bindings: usize,
     pool: usize,
-) -> u64
+) -> Result<(), Cause>
     ensures told { Before limits (check_slices limits) (forms ∷ shapes ∷ results ∷ bindings ∷ pool ∷ []) result }
 {
-    if in_range(limits) {
-        if reader_shape_short(
-            limits,
-            limits.bytes,
-            limits.bytes,
-            forms,
-            shapes,
-            results,
-            bindings,
-            pool,
-        ) {
-            return 1;
-        }
-        return 0;
-    }
-    18
+    judge_limits(limits)?;
+    judge_work(reader_shape_short(
+        limits,
+        limits.bytes,
+        limits.bytes,
+        forms,
+        shapes,
+        results,
+        bindings,
+        pool,
+    ))
 }
 
 // The same before a reader and a document.
@@ -430,36 +362,26 @@ pub fn judge_reader_document(
     results: usize,
     bindings: usize,
     pool: usize,
-) -> u64
+) -> Result<(), Cause>
     ensures told { Before limits (run_slices limits) (forms ∷ nodes ∷ results ∷ bindings ∷ pool ∷ []) result }
 {
-    if in_range(limits) {
-        if reader_document_short(
-            limits,
-            limits.bytes,
-            limits.bytes,
-            forms,
-            nodes,
-            results,
-            bindings,
-            pool,
-        ) {
-            return 1;
-        }
-        return 0;
-    }
-    18
+    judge_limits(limits)?;
+    judge_work(reader_document_short(
+        limits,
+        limits.bytes,
+        limits.bytes,
+        forms,
+        nodes,
+        results,
+        bindings,
+        pool,
+    ))
 }
 
 // The same before the texts of a C call, whose answer buffer is the one slice that is lent.
-pub fn judge_call(limits: Limits, answer: usize) -> u64
+pub fn judge_call(limits: Limits, answer: usize) -> Result<(), Cause>
     ensures told { Before limits buffer_published (answer ∷ []) result }
 {
-    if in_range(limits) {
-        if answer < 40 { // five words
-            return 1;
-        }
-        return 0;
-    }
-    18
+    judge_limits(limits)?;
+    judge_work(one_short(&[40], &[answer])) // five words
 }

@@ -1,2 +1,3 @@
 -- Lemmas for the programs' proofs.
 pub mod Whole
+pub mod Mapped

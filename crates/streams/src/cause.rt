@@ -16,11 +16,9 @@ pub fn print(stream: &impl Print, error: io::Error) -> io::Result<()> {
 
 // The text up to the number.
 fn words(text: &[u8]) -> &[u8] {
-    match str::from_utf8(text) {
-        Ok(text) => match text.split_once(" (os error ") {
-            Some((words, _)) => words.as_bytes(),
-            None => text.as_bytes(),
-        },
-        Err(_) => b"",
-    }
+    let Ok(text) = str::from_utf8(text) else {
+        return b"";
+    };
+    let words = text.split_once(" (os error ").map(|(words, _)| words);
+    words.unwrap_or(text).as_bytes()
 }

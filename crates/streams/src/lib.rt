@@ -12,12 +12,14 @@ use std::io;
 use std::io::{Print, Read};
 
 // What failed of a program that makes an output of its input.
+#[derive(Drop)]
 pub enum Fault {
     Input(io::Error),
     Output(io::Error),
 }
 
 // Reads until the buffer is full or the input ends, and answers how many bytes it put at the front of the buffer.
+// By hand: std's `read_exact` does not tell how many bytes came before the end.
 pub fn fill<R: Read>(input: &mut R, buffer: &mut [u8]) -> io::Result<usize>
     ensures counted { ReadsAtMost result buffer.new }
     ensures taken { IfOk result (λ n. Consumes (R.remaining input.old) (R.remaining input.new) (take n buffer.new)) }

@@ -20,7 +20,7 @@ use Rattle.pool.specs.LaneLaws.{lane_lt, unpacked_lane, lane_or, lane_and_every,
 use Rattle.pool.specs.LaneLaws.{mark_true, byte_rule}
 use Rattle.text.specs.Bare.{Bare}
 use Rattle.text.proofs.Escaped.{itself}
-use Rattle.text.proofs.Odd.{plain_bits, plains, lane_plains}
+use Rattle.text.specs.TextParts.{plain_bits, PlainBits}
 
 -- ---- a byte
 
@@ -58,23 +58,20 @@ all_itself (b ∷ s) h (suc n) = ap₂ ◌++◌ (h 0 (omega arith)) (all_itself 
 
 -- ---- a word
 
-module _ (x : ℕ) (hx : x < 2 ^ 64) where
-  abbrev pub told : ℕ
-  told = bit_and (bit_or (plains x hx) x) (every 0x80)
-
-  lane_told : (j : ℕ) → j < 8 → lane told j ≡ bare_byte (lane x j)
+module _ {x y : ℕ} (p : PlainBits x y) where
+  lane_told : (j : ℕ) → j < 8 → lane (bit_and (bit_or y x) (every 0x80)) j ≡ bare_byte (lane x j)
   unfolding bare_byte
   lane_told j h =
-      lane_and_every (bit_or (plains x hx) x) 0x80 j (omega arith) h
-      ∙ ap (λ (b : ℕ). bit_and b 0x80) (lane_or (plains x hx) x j ∙ ap (λ (b : ℕ). bit_or b (lane x j)) (lane_plains x hx j h))
+      lane_and_every (bit_or y x) 0x80 j (omega arith) h
+      ∙ ap (λ (b : ℕ). bit_and b 0x80) (lane_or y x j ∙ ap (λ (b : ℕ). bit_or b (lane x j)) (p.each j h))
 
-  pub told_bare : told ≡ every 0x80 → Bare x
+  pub told_bare : bit_and (bit_or y x) (every 0x80) ≡ every 0x80 → Bare x
   told_bare e =
       all_itself (unpacked x)
       (λ j h.
       let l : j < 8 = omega (arith, length_unpacked x) in
       ap escaped (unpacked_lane x j l)
-      ∙ bare_itself (lane x j) (lane_lt x j) (sym (lane_told j l) ∙ ap (λ (y : ℕ). lane y j) e ∙ lane_every 0x80 j (omega arith) l)
+      ∙ bare_itself (lane x j) (lane_lt x j) (sym (lane_told j l) ∙ ap (λ (z : ℕ). lane z j) e ∙ lane_every 0x80 j (omega arith) l)
       ∙ ap (λ (b : ℕ). b ∷ []) (sym (unpacked_lane x j l)))
 
 -- the first n bytes, where those behind them are changed

@@ -16,8 +16,7 @@ use Rattle.laws.specs.Ranges.{look_hit, in_between, out_between, between_out, ne
 use Rattle.laws.proofs.StringRows.{Heads, head_c2, head_e0, head_e1, head_ed, head_ee, head_f0, head_f1, head_f4, hit_heads, heads_look, heads_above}
 use Rattle.text.specs.TextRun.{text_run}
 use Rattle.text.specs.TextParts.{Breaks, WideRead, ReadsWide}
-use Rattle.text.specs.declared.wide.Wide.{Wide}
-use Rattle.text.specs.declared.wide.Wide.TheVariants.{Whole, Cut}
+use Rattle.std.specs.Prelude.{Result, Ok, Err}
 use Rattle.text.proofs.Tables.{misses_look}
 use Rattle.text.proofs.Places.{get_or_within, byte_within, more_at, wrong_at, part_snoc, part_cons, part_none}
 use Rattle.text.proofs.Escaped.{escaped_none, one_high, itself_snoc, itself_cons}
@@ -185,14 +184,14 @@ module _ (doc : Bytes) (at : ℕ) (l : at < length doc) (o : between 0x20 0x7F (
         → text_run Inside.chars acc (drop at doc) ≡ text_run (Inside.tail lo hi n) (get_or doc at 256 ∷ acc) (drop (at + 1) doc)
     head_run acc = more_at Inside.chars acc doc at l (step_first acc (heads_of e))
 
-    pub head_wide : (r : Wide) → ReadsWide doc (Inside.tail lo hi n) (at + 1) r → ReadsWide doc Inside.chars at r
-    head_wide (Cut place) b =
+    pub head_wide : (r : Result ℕ ℕ) → ReadsWide doc (Inside.tail lo hi n) (at + 1) r → ReadsWide doc Inside.chars at r
+    head_wide (Err place) b =
         record {
           run = λ acc. head_run acc ∙ b.run (get_or doc at 256 ∷ acc);
           from = let k = b.from in omega arith;
           within = b.within;
         }
-    head_wide (Whole next) w =
+    head_wide (Ok next) w =
         record {
           run = λ acc.
               head_run acc
@@ -209,7 +208,7 @@ module _ (doc : Bytes) (at : ℕ) (l : at < length doc) (o : between 0x20 0x7F (
         ahead : at < next
         ahead = let k = w.ahead in omega arith
 
--- ---- the answers of `head_of`
+-- ---- the answers of `tails_of`
 
 pub head_none : (b : ℕ) → (b < 0xC2) ⊎ (0xF4 < b) → look head_table b ≡ none
 unfolding head_table

@@ -1,9 +1,10 @@
 -- Four hexadecimal digits, one after the other: what `read_digits` keeps. Assumes nothing.
-use Prim.Native.Nat.{ℕ, zero, suc, ◌+◌, ◌*◌, ◌≤◌, ◌<◌}
+use Prim.Native.Nat.{ℕ, zero, suc, ◌+◌, ◌-◌, ◌*◌, ◌≤◌, ◌<◌}
 use mathlib.Core.Path.{◌≡◌, refl, sym, ap, ap₂, ◌∙◌, subst}
 use mathlib.Core.Logic.{◌⊎◌, inl, inr}
 use mathlib.Core.Bool.{Bool, true, false, not, ◌&&◌, true≢false, false≢true}
 use mathlib.Core.Option.{Option, none, some}
+use Rattle.std.specs.Prelude.{Some, None}
 use lib.Dec.{leb, ltb, eqb}
 use lib.ListN.{length, drop, get_or}
 use native.Mathlib.Numerals.{add-one}
@@ -41,7 +42,7 @@ pub fits_low_second : (c d : ℕ) → leb 0xC d ≡ fits_as true 1 c d
 unfolding fits_as digit_fits
 fits_low_second c d = refl
 
-pub fits_first : (c d : ℕ) → true ≡ fits_as false 0 c d
+fits_first : (c d : ℕ) → true ≡ fits_as false 0 c d
 unfolding fits_as digit_fits
 fits_first c d = refl
 
@@ -65,36 +66,48 @@ unfolding fits_as
 fits_later true n c d h = sym (through.fits_later (some 0) n c d h)
 fits_later false n c d h = sym (through.fits_later none n c d h)
 
+-- no low surrogate by itself: of its digits only the second is judged
+pub fits_alone : (n c d : ℕ) → (n ≡ 1 → ⊥) → true ≡ fits_as false n c d
+fits_alone zero c d h = fits_first c d
+fits_alone (suc zero) c d h = absurd (h refl)
+fits_alone (suc (suc n)) c d h = fits_later false (suc (suc n)) c d (omega arith)
+
 pub fits_at : (low b : Bool) (n k c d : ℕ) {x : Bool} → low ≡ b → n ≡ k → x ≡ fits_as b k c d → x ≡ fits_as low n c d
 fits_at low b n k c d e f h = h ∙ ap₂ (λ (t : Bool) (m : ℕ). fits_as t m c d) (sym e) (sym f)
 
 -- ---- a step
 
-step_wrong
-    : (high : Option ℕ) (n c b : ℕ) (acc : Bytes) → 15 < hex_value b → text_step (Inside.digits high n c) acc b ≡ wrong
+step_wrong : (high : Option ℕ) (n c b : ℕ) (acc : Bytes) → hex_value b ≡ None → text_step (Inside.digits high n c) acc b ≡ wrong
 unfolding text_step
 step_wrong high n c b acc h = go (hex_of b)
   where
     go : Hex b → text_step (Inside.digits high n c) acc b ≡ wrong
     go (no_digit e f) = rw (e, text_step)
-    go (digit k e f l m) = absurd (let z : ⊥ = omega arith in z)
+    go (digit k e f l m) = absurd (cc)
 
 step_digit
-    : (high : Option ℕ) (n c b : ℕ) (acc : Bytes) → hex_value b ≤ 15
-    → text_step (Inside.digits high n c) acc b ≡ digit_step high n c (hex_value b) acc
+    : (high : Option ℕ) (n c b : ℕ) {d : ℕ} (acc : Bytes) → hex_value b ≡ Some d
+    → text_step (Inside.digits high n c) acc b ≡ digit_step high n c d acc
 unfolding text_step
-step_digit high n c b acc h = go (hex_of b)
+step_digit high n c b {d} acc h = go (hex_of b)
   where
-    go : Hex b → text_step (Inside.digits high n c) acc b ≡ digit_step high n c (hex_value b) acc
-    go (no_digit e f) = absurd (let z : ⊥ = omega arith in z)
-    go (digit k e f l m) = rw (e, text_step) (ap (λ (d : ℕ). digit_step high n c d acc) (sym f))
+    go : Hex b → text_step (Inside.digits high n c) acc b ≡ digit_step high n c d acc
+    go (no_digit e f) = absurd (cc)
+    go (digit k e f l m) = rw (e, text_step) (ap (λ (x : ℕ). digit_step high n c x acc) (let z : b - k ≡ d = cc in z))
 
-digit_below : (b : ℕ) → hex_value b ≤ 15 → b < 256
-digit_below b h = go (hex_of b)
+record Digit (b d : ℕ) : Type 0 where
+  small : d < 16
+  byte : b < 256
+
+digit_of : (b : ℕ) {d : ℕ} → hex_value b ≡ Some d → Digit b d
+digit_of b {d} h = go (hex_of b)
   where
-    go : Hex b → b < 256
-    go (no_digit e f) = absurd (let z : ⊥ = omega arith in z)
-    go (digit k e f l m) = m
+    go : Hex b → Digit b d
+    go (no_digit e f) = absurd (cc)
+    go (digit k e f l m) = let z : b - k ≡ d = cc in record { small = omega arith; byte = m }
+
+pub digit_small : (b : ℕ) {d : ℕ} → hex_value b ≡ Some d → d < 16
+digit_small b h = (digit_of b h).small
 
 -- behind the fourth digit a text always goes on
 onward_unicode
@@ -163,18 +176,15 @@ unfolding digits_run
 run_behind high n c acc s h = let e : ltb n 4 ≡ false = gt_leb (let k : 4 < suc n = omega arith in k) in rw (e, digits_run)
 
 run_next
-    : (high : Option ℕ) (n c : ℕ) (acc s : Bytes) (k : ℕ) → n < 4
-    → hex_value (get_or s k 256) ≤ 15
-    → digit_fits high n c (hex_value (get_or s k 256)) ≡ true
-    → digits_run high n c acc (drop k s) ≡ digits_run high (suc n) (c * 16 + hex_value (get_or s k 256)) acc (drop (k + 1) s)
+    : (high : Option ℕ) (n c : ℕ) (acc s : Bytes) (k : ℕ) {d : ℕ} → n < 4
+    → hex_value (get_or s k 256) ≡ Some d
+    → digit_fits high n c d ≡ true
+    → digits_run high n c acc (drop k s) ≡ digits_run high (suc n) (c * 16 + d) acc (drop (k + 1) s)
 unfolding digit_step
-run_next high n c acc s k h l f = run_inside high n c acc (drop k s) h ∙ go (lt_or_le n 3)
+run_next high n c acc s k {d} h l f = run_inside high n c acc (drop k s) h ∙ go (lt_or_le n 3)
   where
-    d : ℕ
-    d = hex_value (get_or s k 256)
-
     within : k < length s
-    within = byte_within s k (digit_below (get_or s k 256) l)
+    within = byte_within s k (digit_of (get_or s k 256) l).byte
 
     step : text_step (Inside.digits high n c) acc (get_or s k 256) ≡ digit_step high n c d acc
     step = step_digit high n c (get_or s k 256) acc l
@@ -210,21 +220,20 @@ digits_start doc at low h =
       range = refl;
     }
 
-module _ (doc : Bytes) (at : ℕ) (low : Bool) (n c : ℕ) (h : DigitsSoFar doc at low n c) (l : n < 4) (d : ℕ)
-    (e : d ≡ hex_value (get_or doc (at + n) 256)) where
-  pub digits_next : d ≤ 15 → fits_as low n c d ≡ true → DigitsSoFar doc at low (n + 1) (c * 16 + d)
-  digits_next m f =
+module _ (doc : Bytes) (at : ℕ) (low : Bool) (n c : ℕ) (h : DigitsSoFar doc at low n c) (l : n < 4) where
+  pub digits_next
+      : {d : ℕ} → hex_value (get_or doc (at + n) 256) ≡ Some d → fits_as low n c d ≡ true → DigitsSoFar doc at low (n + 1) (c * 16 + d)
+  digits_next {d} e f =
       record {
         run = λ high g acc.
             h.run high g acc
-            ∙ run_next high n c acc doc (at + n) l (omega arith)
-            (fits_high high low g n c (hex_value (get_or doc (at + n) 256)) ∙ ap (fits_as low n c) (sym e) ∙ f)
-            ∙ ap (λ (k : ℕ). digits_run high (suc n) (c * 16 + hex_value (get_or doc (at + n) 256)) acc (drop k doc)) (add_assoc at n 1)
-            ∙ ap (λ (k : ℕ). digits_run high k (c * 16 + hex_value (get_or doc (at + n) 256)) acc (drop (at + (n + 1)) doc)) (sym (add-one n))
-            ∙ ap (λ (x : ℕ). digits_run high (n + 1) (c * 16 + x) acc (drop (at + (n + 1)) doc)) (sym e);
+            ∙ run_next high n c acc doc (at + n) l e (fits_high high low g n c d ∙ f)
+            ∙ ap (λ (k : ℕ). digits_run high (suc n) (c * 16 + d) acc (drop k doc)) (add_assoc at n 1)
+            ∙ ap (λ (k : ℕ). digits_run high k (c * 16 + d) acc (drop (at + (n + 1)) doc)) (sym (add-one n));
         few = omega arith;
-        within = let k = byte_within doc (at + n) (digit_below (get_or doc (at + n) 256) (omega arith)) in omega arith;
-        range = subst (λ (k : ℕ). SoFar low k (c * 16 + d)) (sym (add-one n)) (so_far_next low n c d h.range l (omega arith) f);
+        within = let k = byte_within doc (at + n) (digit_of (get_or doc (at + n) 256) e).byte in omega arith;
+        range = subst (λ (k : ℕ). SoFar low k (c * 16 + d)) (sym (add-one n))
+            (so_far_next low n c d h.range l (digit_of (get_or doc (at + n) 256) e).small f);
       }
 
   breaks
@@ -241,21 +250,21 @@ module _ (doc : Bytes) (at : ℕ) (low : Bool) (n c : ℕ) (h : DigitsSoFar doc 
       }
 
   -- no digit
-  pub digits_wrong : 15 < d → (high : Option ℕ) → found high ≡ low → Breaks doc (Inside.digits high 0 0) at (at + n)
-  digits_wrong m = breaks (λ high g acc. step_wrong high n c (get_or doc (at + n) 256) acc (omega arith))
+  pub digits_wrong
+      : hex_value (get_or doc (at + n) 256) ≡ None → (high : Option ℕ) → found high ≡ low → Breaks doc (Inside.digits high 0 0) at (at + n)
+  digits_wrong e = breaks (λ high g acc. step_wrong high n c (get_or doc (at + n) 256) acc e)
 
   -- a digit that does not fit
   pub digits_unfit
-      : d ≤ 15 → fits_as low n c d ≡ false → (high : Option ℕ) → found high ≡ low → Breaks doc (Inside.digits high 0 0) at (at + n)
+      : {d : ℕ} → hex_value (get_or doc (at + n) 256) ≡ Some d → fits_as low n c d ≡ false
+      → (high : Option ℕ) → found high ≡ low → Breaks doc (Inside.digits high 0 0) at (at + n)
   unfolding digit_step
-  digits_unfit m f = breaks go
+  digits_unfit {d} e f = breaks go
     where
       go : (high : Option ℕ) → found high ≡ low → (acc : Bytes) → text_step (Inside.digits high n c) acc (get_or doc (at + n) 256) ≡ wrong
       go high g acc =
-          let k
-          : digit_fits high n c (hex_value (get_or doc (at + n) 256)) ≡ false =
-          fits_high high low g n c (hex_value (get_or doc (at + n) 256)) ∙ ap (fits_as low n c) (sym e) ∙ f in
-          step_digit high n c (get_or doc (at + n) 256) acc (omega arith) ∙ rw (k, digit_step)
+          let k : digit_fits high n c d ≡ false = fits_high high low g n c d ∙ f in
+          step_digit high n c (get_or doc (at + n) 256) acc e ∙ rw (k, digit_step)
 
 -- all four
 pub digits_done

@@ -13,7 +13,8 @@ use Rattle.pool.specs.PoolLaws.{words_mono}
 use Rattle.text.specs.TextRun.{text_run}
 use Rattle.text.specs.TextRead.{ReadsText}
 use Rattle.text.specs.TextParts.{Stands, FrontStands, Keeps, Puts, ReadOn, PieceRead, Stood, Reading}
-use Rattle.text.specs.declared.TextRead.{TextRead}
+use Rattle.std.specs.Prelude.{Result}
+use Rattle.text.specs.declared.Decoded.{Decoded}
 use Rattle.text.proofs.Places.{part_none}
 use Rattle.text.proofs.Puts.{keeps_none, puts_none, puts_then, puts_same}
 use Rattle.text.proofs.Reading.{read_on, piece_read, reading_start, reading_next}
@@ -173,5 +174,5 @@ reading_rest {p' = p'} {w = w} s room =
     )
 
 pub reads_behind
-    : {doc : Bytes} {at : ℕ} {p p' p'' : List ℕ} {w : ℕ} {r : TextRead} → Keeps p p' w → ReadsText doc at p' p'' w r → ReadsText doc at p p'' w r
+    : {doc : Bytes} {at : ℕ} {p p' p'' : List ℕ} {w : ℕ} {r : Result Decoded ℕ} → Keeps p p' w → ReadsText doc at p' p'' w r → ReadsText doc at p p'' w r
 reads_behind k h = record { answer = h.answer; kept = h.kept ∙ k.kept; front = h.front ∙ k.front }

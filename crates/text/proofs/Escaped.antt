@@ -4,6 +4,7 @@ use mathlib.Core.Path.{◌≡◌, refl, sym, ap, ◌∙◌}
 use mathlib.Core.Logic.{◌⊎◌, inl, inr}
 use mathlib.Core.Bool.{true, false}
 use mathlib.Core.Option.{Option, none, some}
+use Rattle.std.specs.Prelude.{Some, None}
 use mathlib.Core.List.{[], ◌∷◌, ◌++◌, append_assoc, append-nil}
 use lib.Dec.{ltb}
 use lib.ListN.{length, get_or, length-append}
@@ -69,63 +70,61 @@ length_plain t = ap suc (length-append (escaped_all t) (0x22 ∷ [])) ∙ omega 
 
 -- ---- short escapes
 
-pub short_misses : (b : ℕ) → Misses short_escapes b → 0 ≡ short_form b
+pub short_misses : (b : ℕ) → Misses short_escapes b → None ≡ short_form b
 unfolding short_form
 short_misses b h = rw (misses_look short_escapes b h, short_form)
 
 -- an escape of two characters
-record Two (e : Bytes) : Type 0 where
-  both : e ≡ 0x5C ∷ get_or e 1 0 ∷ []
-  some_byte : 0 < get_or e 1 0
+Two : Bytes → Type 0
+Two e = e ≡ 0x5C ∷ get_or e 1 0 ∷ []
 
 hit_two : {b : ℕ} {e : Bytes} → Hit short_escapes b e → Two e
-unfolding short_escapes bytes
-hit_two (here i) = record { both = refl; some_byte = omega arith }
-hit_two (there _ (here i)) = record { both = refl; some_byte = omega arith }
-hit_two (there _ (there _ (here i))) = record { both = refl; some_byte = omega arith }
-hit_two (there _ (there _ (there _ (here i)))) = record { both = refl; some_byte = omega arith }
-hit_two (there _ (there _ (there _ (there _ (here i))))) = record { both = refl; some_byte = omega arith }
-hit_two (there _ (there _ (there _ (there _ (there _ (here i)))))) = record { both = refl; some_byte = omega arith }
-hit_two (there _ (there _ (there _ (there _ (there _ (there _ (here i))))))) = record { both = refl; some_byte = omega arith }
+unfolding short_escapes bytes Two
+hit_two (here i) = refl
+hit_two (there _ (here i)) = refl
+hit_two (there _ (there _ (here i))) = refl
+hit_two (there _ (there _ (there _ (here i)))) = refl
+hit_two (there _ (there _ (there _ (there _ (here i))))) = refl
+hit_two (there _ (there _ (there _ (there _ (there _ (here i)))))) = refl
+hit_two (there _ (there _ (there _ (there _ (there _ (there _ (here i))))))) = refl
 hit_two {b = b} {e = e} (there _ (there _ (there _ (there _ (there _ (there _ (there _ x98))))))) = elim x98 [ ]
 
 data Short (b : ℕ) : Type 0 where
-  is_short : escaped b ≡ 0x5C ∷ short_form b ∷ [] → 0 < short_form b → Short b
-  not_short : look short_escapes b ≡ none → short_form b ≡ 0 → Short b
+  is_short : (c : ℕ) → short_form b ≡ Some c → escaped b ≡ 0x5C ∷ c ∷ [] → Short b
+  not_short : short_form b ≡ None → look short_escapes b ≡ none → Short b
 
 short_of : (b : ℕ) → Short b
-unfolding short_form escaped
+unfolding short_form escaped Two
 short_of b = go (look short_escapes b) refl
   where
     go : (o : Option Bytes) → look short_escapes b ≡ o → Short b
-    go none f = not_short f (rw (f, short_form))
-    go (some e) f =
-        let t = hit_two (look_hit short_escapes b e f) in
-        is_short (rw (f, escaped, short_form) t.both) (rw (f, short_form) t.some_byte)
+    go none f = not_short (rw (f, short_form)) f
+    go (some e) f = is_short (get_or e 1 0) (rw (f, short_form)) (rw (f, escaped) (hit_two (look_hit short_escapes b e f)))
 
-pub escaped_short : (b c : ℕ) → c ≡ short_form b → (c ≡ 0 → ⊥) → escaped b ≡ 0x5C ∷ c ∷ []
-escaped_short b c e h = go (short_of b)
+pub escaped_short : (b c : ℕ) → short_form b ≡ Some c → escaped b ≡ 0x5C ∷ c ∷ []
+escaped_short b c e = go (short_of b)
   where
     go : Short b → escaped b ≡ 0x5C ∷ c ∷ []
-    go (is_short f l) = f ∙ ap (λ (x : ℕ). 0x5C ∷ x ∷ []) (sym e)
-    go (not_short f z) = absurd (h (e ∙ z))
+    go (is_short d f h) = h ∙ ap (λ (x : ℕ). 0x5C ∷ x ∷ []) (let z : d ≡ c = cc in z)
+    go (not_short f h) = absurd (cc)
 
-pub escaped_hex
-    : (b c : ℕ) → c ≡ short_form b → c ≡ 0 → b < 0x20 → escaped b ≡ hex_escape b
+no_short : (b : ℕ) → short_form b ≡ None → look short_escapes b ≡ none
+no_short b e = go (short_of b)
+  where
+    go : Short b → look short_escapes b ≡ none
+    go (is_short d f h) = absurd (cc)
+    go (not_short f h) = h
+
+pub escaped_hex : (b : ℕ) → short_form b ≡ None → b < 0x20 → escaped b ≡ hex_escape b
 unfolding escaped hex_escape
-escaped_hex b c e h l = go (short_of b)
-  where
-    go : Short b → escaped b ≡ hex_escape b
-    go (is_short f m) = absurd (let z : ⊥ = omega arith in z)
-    go (not_short f z) = let t : ltb b 0x20 ≡ true = le-leb l in rw (f, t, escaped)
+escaped_hex b e l = let f = no_short b e in let t : ltb b 0x20 ≡ true = le-leb l in rw (f, t, escaped)
 
-pub escaped_itself : (b c : ℕ) → c ≡ short_form b → c ≡ 0 → 0x20 ≤ b → escaped b ≡ b ∷ []
+pub escaped_itself : (b : ℕ) → short_form b ≡ None → 0x20 ≤ b → escaped b ≡ b ∷ []
 unfolding escaped
-escaped_itself b c e h l = go (short_of b)
-  where
-    go : Short b → escaped b ≡ b ∷ []
-    go (is_short f m) = absurd (let z : ⊥ = omega arith in z)
-    go (not_short f z) = let t : ltb b 0x20 ≡ false = gt_leb (let k : 0x20 < suc b = omega arith in k) in rw (f, t, escaped)
+escaped_itself b e l =
+    let f = no_short b e in
+    let t : ltb b 0x20 ≡ false = gt_leb (let k : 0x20 < suc b = omega arith in k) in
+    rw (f, t, escaped)
 
 pub length_hex_escape : (b : ℕ) → length (hex_escape b) ≡ 6
 unfolding hex_escape bytes

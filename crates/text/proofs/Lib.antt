@@ -8,6 +8,7 @@ pub mod Puts
 pub mod Reading
 pub mod Stands
 pub mod Odd
+pub mod Passed
 pub mod PutWords
 pub mod EightBytes
 pub mod Writing

@@ -8,7 +8,7 @@ use Rattle.definitions.specs.Bytes.{between}
 use Rattle.pool.specs.Lanes.{lane, every, mark, Marks, agree}
 use Rattle.pool.specs.LaneLaws.{lane_lt, lane_and, lane_or, lane_not, lane_and_every, lane_xor_every, lane_add_every, add_every_fits}
 use Rattle.pool.specs.LaneLaws.{none_marked, first_marked, byte_rule}
-use Rattle.text.specs.TextParts.{plain_ascii, FrontStands}
+use Rattle.text.specs.TextParts.{plain_ascii, plain_bits, PlainBits, FrontStands}
 use Rattle.text.proofs.Stands.{front_plain}
 
 -- ---- a byte
@@ -18,10 +18,6 @@ low b = bit_and b 0x7F
 
 abbrev apart : (c b : ℕ) → ℕ
 apart c b = bit_xor (low b) c + 0x7F
-
--- its highest bit tells of a byte below 80 whether it is from 20 on, and neither a quote nor a backslash
-abbrev pub plain_bits : ℕ → ℕ
-plain_bits b = bit_and (bit_and (low b + 0x60) (apart 0x22 b)) (apart 0x5C b)
 
 abbrev odd_byte : ℕ → ℕ
 odd_byte b = bit_and (bit_or (255 - plain_bits b) b) 0x80
@@ -66,7 +62,7 @@ module _ (x : ℕ) (hx : x < 2 ^ 64) where
     lane_apart j h =
         lane_add_every (bit_xor lows (every c)) 0x7F (omega arith) apart_room j h ∙ ap (λ (b : ℕ). b + 0x7F) (lane_differs j h)
 
-  abbrev pub plains : ℕ
+  abbrev plains : ℕ
   plains = bit_and (bit_and (lows + every 0x60) (bit_xor lows (every 0x22) + every 0x7F)) (bit_xor lows (every 0x5C) + every 0x7F)
 
   plains_lt : plains < 2 ^ 64
@@ -75,7 +71,7 @@ module _ (x : ℕ) (hx : x < 2 ^ 64) where
       (and_lt 64 (lows + every 0x60) (bit_xor lows (every 0x22) + every 0x7F) above_fits (apart_fits 0x22 (omega arith)))
       (apart_fits 0x5C (omega arith))
 
-  pub lane_plains : (j : ℕ) → j < 8 → lane plains j ≡ plain_bits (lane x j)
+  lane_plains : (j : ℕ) → j < 8 → lane plains j ≡ plain_bits (lane x j)
   lane_plains j h =
       lane_and (bit_and (lows + every 0x60) (bit_xor lows (every 0x22) + every 0x7F)) (bit_xor lows (every 0x5C) + every 0x7F) j
       ∙ ap₂ bit_and
@@ -83,16 +79,19 @@ module _ (x : ℕ) (hx : x < 2 ^ 64) where
       ∙ ap₂ bit_and (lane_above j h) (lane_apart 0x22 (omega arith) j h))
       (lane_apart 0x5C (omega arith) j h)
 
-  pub odd_marks : Marks plain_ascii x (bit_and (bit_or (2 ^ 64 - 1 - plains) x) (every 0x80))
-  odd_marks =
-      record {
-        each = λ j h.
-            lane_and_every (bit_or (2 ^ 64 - 1 - plains) x) 0x80 j (omega arith) h
-            ∙ ap (λ (b : ℕ). bit_and b 0x80)
-            (lane_or (2 ^ 64 - 1 - plains) x j
-            ∙ ap (λ (b : ℕ). bit_or b (lane x j)) (lane_not plains j plains_lt h ∙ ap (λ (b : ℕ). 255 - b) (lane_plains j h)))
-            ∙ odd_rule (lane x j) (lane_lt x j);
-      }
+  pub plains_told : PlainBits x plains
+  plains_told = record { each = lane_plains; small = plains_lt }
+
+pub odd_marks : {x y : ℕ} → PlainBits x y → Marks plain_ascii x (bit_and (bit_or (2 ^ 64 - 1 - y) x) (every 0x80))
+odd_marks {x} {y} p =
+    record {
+      each = λ j h.
+          lane_and_every (bit_or (2 ^ 64 - 1 - y) x) 0x80 j (omega arith) h
+          ∙ ap (λ (b : ℕ). bit_and b 0x80)
+          (lane_or (2 ^ 64 - 1 - y) x j
+          ∙ ap (λ (b : ℕ). bit_or b (lane x j)) (lane_not y j p.small h ∙ ap (λ (b : ℕ). 255 - b) (p.each j h)))
+          ∙ odd_rule (lane x j) (lane_lt x j);
+    }
 
 -- ---- the bytes before the first mark
 

@@ -1,11 +1,12 @@
 -- The bytes of a text of the pool, word after word: what is written or counted of them, and what is left. Assumes nothing.
-use Prim.Native.Nat.{ℕ, ◌+◌, ◌-◌, ◌≤◌, ◌<◌}
-use mathlib.Core.Path.{◌≡◌, refl, sym, ap, ◌∙◌}
+use Prim.Native.Nat.{ℕ, ◌+◌, ◌-◌, ◌*◌, ◌/◌, ◌%◌, ◌≤◌, ◌<◌}
+use mathlib.Core.Path.{◌≡◌, refl, sym, ap, ◌∙◌, subst₂}
 use mathlib.Core.List.{List, [], ◌++◌, append_assoc, append-nil}
+use native.Mathlib.Nat.{add-zero}
 use native.Mathlib.Numerals.{add-one}
 use native.Mathlib.Omega.{arith}
-use lib.ListN.{length, get_or, take, drop, length-append}
-use lib.Seq.{drop-cons, length-take-le, take_all, take-append-le, take-append-add}
+use lib.ListN.{length, get_or, take, drop, length-append, length-drop}
+use lib.Seq.{drop-cons, get_or-drop, get_or-take, length-take-le, take_all, take-append-le, take-append-add}
 use Rattle.definitions.specs.Bytes.{Bytes}
 use Rattle.definitions.specs.Plain.{escaped_all}
 use Rattle.pool.specs.Pool.{unpacked, pool_bytes, words, text_in}
@@ -75,6 +76,39 @@ module _ (p : List ℕ) (k left : ℕ) (room : k + words left ≤ length p) wher
 pub escaped_end : (p : List ℕ) (k left : ℕ) → left ≡ 0 → escaped_all (text_in p k left) ≡ []
 escaped_end p k left e = ap (λ (n : ℕ). escaped_all (text_in p k n)) e ∙ ap escaped_all (text_in_zero p k) ∙ escaped_none
 
+-- ---- the words that a text fills
+
+-- word i of those
+pub record Filled (p : List ℕ) (w n i : ℕ) : Type 0 where
+  pub same : get_or (take (w + n / 8 - w) (drop w p)) i 0 ≡ get_or p (w + i) 0
+  pub full : 8 ≤ n - 8 * i
+  pub next : w + i + 1 ≡ w + (i + 1)
+  pub rest : n - 8 * i - 8 ≡ n - 8 * (i + 1)
+
+length_filled : (p : List ℕ) (w n : ℕ) → w + words n ≤ length p → length (take (w + n / 8 - w) (drop w p)) ≡ n / 8
+unfolding words
+length_filled p w n h = length-take-le (w + n / 8 - w) (drop w p) (omega (arith, length-drop w p)) ∙ omega arith
+
+pub filled : (p : List ℕ) (w n i : ℕ) → w + words n ≤ length p → i < length (take (w + n / 8 - w) (drop w p)) → Filled p w n i
+filled p w n i h l =
+    let e = length_filled p w n h in
+    record {
+      same = get_or-take (w + n / 8 - w) (drop w p) i 0 (omega arith) ∙ get_or-drop w p i 0;
+      full = omega arith;
+      next = omega arith;
+      rest = omega arith;
+    }
+
+-- behind the last of them
+pub record Past (w n i : ℕ) : Type 0 where
+  pub word : w + i ≡ w + n / 8
+  pub left : n - 8 * i ≡ n % 8
+
+pub past
+    : (p : List ℕ) (w n i : ℕ) → w + words n ≤ length p → length (take (w + n / 8 - w) (drop w p)) ≤ i
+    → i ≤ length (take (w + n / 8 - w) (drop w p)) → Past w n i
+past p w n i h l m = let e = length_filled p w n h in record { word = omega arith; left = omega arith }
+
 -- ---- counted
 
 -- written counts the quotes and the bytes before word k, from which on left bytes are to come
@@ -82,8 +116,13 @@ pub record Counted (p : List ℕ) (w n written k left : ℕ) : Type 0 where
   pub room : k + words left ≤ length p
   pub sum : written + length (escaped_all (text_in p k left)) ≡ 2 + length (escaped_all (text_in p w n))
 
-pub counted_start : (p : List ℕ) (w n : ℕ) → w + words n ≤ length p → Counted p w n 2 w n
-counted_start p w n h = record { room = h; sum = refl }
+-- the same under other names
+pub counted_as
+    : {p : List ℕ} {w n written k k' left left' : ℕ} → Counted p w n written k left → k ≡ k' → left ≡ left' → Counted p w n written k' left'
+counted_as {p} {w} {n} {written} s e f = subst₂ (λ (k left : ℕ). Counted p w n written k left) e f s
+
+pub counted_start : (p : List ℕ) (w n : ℕ) → w + words n ≤ length p → Counted p w n 2 (w + 0) (n - 8 * 0)
+counted_start p w n h = counted_as (record { room = h; sum = refl }) (sym (add-zero w)) (let e : n ≡ n - 8 * 0 = omega arith in e)
 
 module _ {p : List ℕ} {w n written k left : ℕ} (s : Counted p w n written k left) where
   pub counted_word
@@ -111,8 +150,18 @@ pub record Onward (p : List ℕ) (w n : ℕ) (o o' : Bytes) (at j k left : ℕ) 
   pub writes : Writes o o' at done j
   pub room : k + words left ≤ length p
 
+-- the same under other names
+pub onward_as
+    : {p : List ℕ} {w n : ℕ} {o o' : Bytes} {at j k k' left left' : ℕ} → Onward p w n o o' at j k left → k ≡ k' → left ≡ left'
+    → Onward p w n o o' at j k' left'
+onward_as {p} {w} {n} {o} {o'} {at} {j} s e f = subst₂ (λ (k left : ℕ). Onward p w n o o' at j k left) e f s
+
 pub onward_start : (p : List ℕ) (w n : ℕ) (o : Bytes) (at : ℕ) → w + words n ≤ length p → Onward p w n o o at at w n
 onward_start p w n o at h = record { done = []; parts = refl; writes = writes_none o at; room = h }
+
+pub onward_first
+    : (p : List ℕ) (w n : ℕ) (o : Bytes) (at : ℕ) → w + words n ≤ length p → Onward p w n o o at at (w + 0) (n - 8 * 0)
+onward_first p w n o at h = onward_as (onward_start p w n o at h) (sym (add-zero w)) (let e : n ≡ n - 8 * 0 = omega arith in e)
 
 module _ {p : List ℕ} {w n : ℕ} {o o' : Bytes} {at j k left : ℕ} (s : Onward p w n o o' at j k left)
     (fits : at + length (escaped_all (text_in p w n)) ≤ length o) where

@@ -2,16 +2,16 @@
 use Prim.Native.Nat.{ℕ, ◌+◌, ◌-◌, ◌*◌, ◌/◌, ◌%◌, ◌≤◌, ◌<◌}
 use mathlib.Core.Path.{◌≡◌, refl, sym, ap, ap₂, ◌∙◌, subst}
 use mathlib.Core.List.{List, [], ◌∷◌, ◌++◌, append_assoc, append-nil}
-use lib.ListN.{length, take, drop, get_or, replicate, length-append, length-drop}
-use lib.Seq.{length-take-le, take-take, take-add, drop-drop}
+use lib.ListN.{length, take, drop, get_or, replicate, length-append}
+use lib.Seq.{length-take-le, take-take, take-add, take-suc, take_all, drop-drop}
+use native.Mathlib.Numerals.{add-one}
 use native.Mathlib.Nat.{add-zero}
 use native.Mathlib.Omega.{arith}
 use Rattle.definitions.specs.Bytes.{Bytes}
 use Rattle.pool.specs.Pool.{words, pool_bytes, text_in, Put}
-use Rattle.pool.specs.PoolLaws.{words_next, words_mono, words_room, words_bytes, text_in_front, text_in_zero, text_in_put, text_in_put_padded, put_take}
+use Rattle.pool.specs.PoolLaws.{words_next, words_mono, words_room, text_in_front, text_in_zero, text_in_put, text_in_put_padded, put_take}
 use Rattle.text.specs.TextRead.{Padded}
 use Rattle.text.specs.TextParts.{Keeps, Puts}
-use Rattle.text.proofs.Places.{get_or_within, part_none, part_snoc}
 
 -- ---- Keeps
 
@@ -114,46 +114,20 @@ pub room_behind : (w n j : ℕ) {l : ℕ} → n % 8 ≡ 0 → w + words (n + j) 
 unfolding words
 room_behind w n j z h = omega arith
 
--- ---- a part of a slice, byte by byte
+-- ---- bytes put one by one
 
--- the bytes from one place up to place i are put
-pub record Copied (src : Bytes) (from to : ℕ) (p₀ : List ℕ) (w n : ℕ) (p : List ℕ) (i : ℕ) : Type 0 where
-  pub puts : Puts p₀ p w n (take (i - from) (drop from src))
-  pub start : from ≤ i
-  pub stop : i ≤ to
+module _ (s : Bytes) {p₀ p : List ℕ} {w n i : ℕ} (h : Puts p₀ p w n (take i s)) (room : w + words (n + length s) ≤ length p₀) where
+  pub next_room : i < length s → (8 * w + n + i) / 8 < length p
+  next_room l =
+      let k = h.keeps.kept in
+      let o : words (n + i + 1) ≤ words (n + length s) = words_mono (omega arith) in
+      omega (arith, words_room w (n + i) (length p) (omega arith))
 
-pub copied_start : (src : Bytes) (from to : ℕ) (p : List ℕ) (w n : ℕ) → from ≤ to → Copied src from to p w n p from
-copied_start src from to p w n h = record { puts = puts_same (puts_none p w n) (part_none src from); start = omega arith; stop = h }
+  pub puts_next : {p' : List ℕ} → i < length s → Put p p' (8 * w + n + i) (get_or s i 0) → Puts p₀ p' w n (take (i + 1) s)
+  puts_next l q =
+      puts_same
+      (puts_then h (ap (λ (k : ℕ). n + k) (sym (length-take-le i s (omega arith)))) (puts_one w (n + i) q (omega arith) (next_room l)))
+      (sym (take-suc s i 0 l) ∙ ap (λ (k : ℕ). take k s) (sym (add-one i)))
 
-module _ (src : Bytes) (from to : ℕ) (p₀ : List ℕ) (w n : ℕ) (p : List ℕ) (i : ℕ) (h : Copied src from to p₀ w n p i)
-    (room : w + words (n + (to - from)) ≤ length p₀) where
-  -- the place lies within the pool
-  pub copied_place : 8 * w + n + (to - from) ≤ 8 * length p₀
-  copied_place = omega (arith, words_bytes w (n + (to - from)) (length p₀) room)
-
-  pub copied_room : i < to → (8 * w + n + (i - from)) / 8 < length p
-  copied_room l =
-      let k = h.puts.keeps.kept in
-      let s = h.start in
-      let o : words (n + (i - from) + 1) ≤ words (n + (to - from)) = words_mono (omega arith) in
-      omega (arith, words_room w (n + (i - from)) (length p) (omega arith))
-
-  pub copied_next
-      : (p' : List ℕ) (b : ℕ) → i < to → to ≤ length src → b ≡ get_or src i 0 → Put p p' (8 * w + n + (i - from)) b
-      → Copied src from to p₀ w n p' (i + 1)
-  copied_next p' b l t e q =
-      let s = h.start in
-      let size : length (take (i - from) (drop from src)) ≡ i - from = length-take-le (i - from) (drop from src) (omega (arith, length-drop from src)) in
-      record {
-        puts = puts_same
-            (puts_then h.puts (ap (λ (k : ℕ). n + k) (sym size)) (puts_one w (n + (i - from)) q (omega arith) (copied_room l)))
-            (ap (λ (x : ℕ). take (i - from) (drop from src) ++ (x ∷ [])) (e ∙ get_or_within src i 0 256 (omega arith))
-            ∙ sym (part_snoc src from i s (omega arith)));
-        start = omega arith;
-        stop = omega arith;
-      }
-
-  pub copied_done : to ≤ i → Puts p₀ p w n (take (to - from) (drop from src))
-  copied_done l =
-      let t = h.stop in
-      puts_same h.puts (ap (λ (k : ℕ). take (k - from) (drop from src)) (let e : i ≡ to = omega arith in e))
+  pub puts_all : length s ≤ i → Puts p₀ p w n s
+  puts_all l = puts_same h (take_all i s l)

@@ -2,7 +2,7 @@
 use Prim.Native.Nat.{ℕ, ◌+◌, ◌-◌, ◌*◌, ◌/◌, ◌≤◌, ◌<◌}
 use mathlib.Core.Path.{◌≡◌, refl, sym, ap, ◌∙◌, subst}
 use mathlib.Core.List.{List, [], ◌∷◌, ◌++◌, append-nil, reverse, reverse_aux, reverse_aux-append, reverse-reverse}
-use mathlib.Core.Option.{none}
+use mathlib.Core.Option.{none, some}
 use mathlib.Core.Bool.{true}
 use lib.ListN.{length, take, drop, get_or, length-append, length-take, length-drop}
 use lib.Seq.{length-take-le}
@@ -17,9 +17,9 @@ use Rattle.pool.specs.Pool.{words, text_in, Put}
 use Rattle.pool.specs.PoolLaws.{words_mono, words_room, text_in_zero, length_text_in}
 use Rattle.text.specs.TextRun.{ended, text_run}
 use Rattle.text.specs.TextRead.{Padded, ReadsText}
-use Rattle.text.specs.TextParts.{plain_ascii, escape_value, Breaks, CodeRead, WideRead, Puts, ReadOn, PieceRead, PieceBroken, Reading}
-use Rattle.text.specs.declared.TextRead.TheVariants.{Closed, Broken}
-use Rattle.text.proofs.Tables.{Escape, no_escape, by_number, by_letter, escape_of, Itself, plain_ascii_itself}
+use Rattle.text.specs.TextParts.{plain_ascii, Breaks, CodeRead, WideRead, Puts, ReadOn, PieceRead, PieceBroken, Reading}
+use Rattle.std.specs.Prelude.{Ok, Err}
+use Rattle.text.proofs.Tables.{letter_of, Itself, plain_ascii_itself}
 use Rattle.text.proofs.Places.{get_or_within, byte_within, more_at, wrong_at, closed_at, end_at}
 use Rattle.text.proofs.Surrogates.{breaks_behind}
 use Rattle.text.proofs.Escaped.{escaped_append, escaped_none, escaped_one, one_plain, length_plain, length_encode, cost_encode}
@@ -103,8 +103,8 @@ room_one doc i p w n h l = words_room w n (length p) (room_for doc i p w n 1 h (
 pub front_fits : (s r : Bytes) → take (length s) r ≡ s → length s ≤ length r
 front_fits s r e = omega (arith, ap length e, length-take (length s) r)
 
-pub front_part : (s r : Bytes) (k : ℕ) → k ≡ length s → take (length s) r ≡ s → take (k - 0) (drop 0 r) ≡ s
-front_part s r k h e = ap (λ (x : ℕ). take x r) (let z : k - 0 ≡ length s = omega arith in z) ∙ e
+pub front_part : (s r : Bytes) (k : ℕ) → k ≡ length s → take (length s) r ≡ s → take k r ≡ s
+front_part s r k h e = ap (λ (x : ℕ). take x r) h ∙ e
 
 -- two bytes that mean the byte c
 pub record LetterRead (doc : Bytes) (i c : ℕ) : Type 0 where
@@ -120,51 +120,30 @@ module _ (doc : Bytes) (i : ℕ) (l : i < length doc) (e : get_or doc i 0 ≡ 0x
       more_at Inside.chars acc doc i l (ap (text_step Inside.chars acc) (get_or_within doc i 256 0 l ∙ e))
 
   -- no escape
-  pub escape_wrong : (c : ℕ) → c ≡ escape_value (get_or doc (i + 1) 256) → c ≡ 256 → Breaks doc Inside.chars i (i + 1)
+  pub escape_wrong : look escape_table (get_or doc (i + 1) 256) ≡ none → Breaks doc Inside.chars i (i + 1)
   unfolding text_step escape_step
-  escape_wrong c f z = go (escape_of (get_or doc (i + 1) 256))
-    where
-      go : Escape (get_or doc (i + 1) 256) → Breaks doc Inside.chars i (i + 1)
-      go (no_escape k v) =
-          record {
-            run = λ acc. backslash acc ∙ wrong_at Inside.escape acc doc (i + 1) (rw (k, text_step, escape_step));
-            from = omega arith;
-            within = omega arith;
-          }
-      go (by_number k v q) = absurd (let y : ⊥ = omega arith in y)
-      go (by_letter d k v q r s) = absurd (let y : ⊥ = omega arith in y)
+  escape_wrong k =
+      record {
+        run = λ acc. backslash acc ∙ wrong_at Inside.escape acc doc (i + 1) (rw (k, text_step, escape_step));
+        from = omega arith;
+        within = omega arith;
+      }
 
   -- an escape of two characters
-  pub escape_letter
-      : (c : ℕ) → c ≡ escape_value (get_or doc (i + 1) 256) → (c ≡ 257 → ⊥) → (c ≡ 256 → ⊥) → LetterRead doc i c
+  pub escape_letter : (c : ℕ) → look escape_table (get_or doc (i + 1) 256) ≡ some (some c) → LetterRead doc i c
   unfolding text_step escape_step
-  escape_letter c f y z = go (escape_of (get_or doc (i + 1) 256))
-    where
-      go : Escape (get_or doc (i + 1) 256) → LetterRead doc i c
-      go (no_escape k v) = absurd (z (f ∙ v))
-      go (by_number k v q) = absurd (y (f ∙ v))
-      go (by_letter d k v q r s) =
-          let g : c ≡ d = f ∙ v in
-          let w = byte_within doc (i + 1) q in
-          record {
-            run = λ acc.
-                backslash acc
-                ∙ more_at Inside.escape acc doc (i + 1) w (rw (k, text_step, escape_step))
-                ∙ ap (λ (x : ℕ). text_run Inside.chars (d ∷ acc) (drop x doc)) (add_assoc i 1 1)
-                ∙ ap (λ (x : ℕ). text_run Inside.chars (x ∷ acc) (drop (i + 2) doc)) (sym g);
-            byte = omega arith;
-            within = omega arith;
-            short = subst (λ (x : ℕ). length (escaped x) ≤ 2) (sym g) s;
-          }
-
-  -- an escape by digits
-  pub escape_u : (c : ℕ) → c ≡ escape_value (get_or doc (i + 1) 256) → c ≡ 257 → get_or doc (i + 1) 256 ≡ 0x75
-  escape_u c f z = go (escape_of (get_or doc (i + 1) 256))
-    where
-      go : Escape (get_or doc (i + 1) 256) → get_or doc (i + 1) 256 ≡ 0x75
-      go (no_escape k v) = absurd (let y : ⊥ = omega arith in y)
-      go (by_number k v q) = q
-      go (by_letter d k v q r s) = absurd (let y : ⊥ = omega arith in y)
+  escape_letter c k =
+      let t = letter_of (get_or doc (i + 1) 256) c k in
+      let w = byte_within doc (i + 1) t.byte in
+      record {
+        run = λ acc.
+            backslash acc
+            ∙ more_at Inside.escape acc doc (i + 1) w (rw (k, text_step, escape_step))
+            ∙ ap (λ (x : ℕ). text_run Inside.chars (c ∷ acc) (drop x doc)) (add_assoc i 1 1);
+        byte = t.meant;
+        within = omega arith;
+        short = t.short;
+      }
 
   module _ (f : get_or doc (i + 1) 256 ≡ 0x75) where
     pub named_within : i + 2 ≤ length doc
@@ -259,7 +238,7 @@ module _ {doc : Bytes} {at : ℕ} {p₀ p : List ℕ} {w i n m : ℕ} (h : Readi
       let o : words n ≤ words (length doc - at) = words_mono (omega arith) in
       omega arith
 
-  pub reading_closed : i < length doc → get_or doc i 0 ≡ 0x22 → ReadsText doc at p₀ p w (Closed (i + 1) n m)
+  pub reading_closed : i < length doc → get_or doc i 0 ≡ 0x22 → ReadsText doc at p₀ p w (Ok (record { end = i + 1; length = n; written = m }))
   unfolding text_step char_step is
   reading_closed l e =
       record {
@@ -280,7 +259,7 @@ module _ {doc : Bytes} {at : ℕ} {p₀ p : List ℕ} {w i n m : ℕ} (h : Readi
         front = h.keeps.front;
       }
 
-  pub reading_end : length doc ≤ i → ReadsText doc at p₀ p w (Broken i)
+  pub reading_end : length doc ≤ i → ReadsText doc at p₀ p w (Err i)
   reading_end l =
       record {
         answer = record {
@@ -292,7 +271,7 @@ module _ {doc : Bytes} {at : ℕ} {p₀ p : List ℕ} {w i n m : ℕ} (h : Readi
         front = h.keeps.front;
       }
 
-  pub reading_broken : {p' : List ℕ} {place : ℕ} → PieceBroken doc i p p' w place → ReadsText doc at p₀ p' w (Broken place)
+  pub reading_broken : {p' : List ℕ} {place : ℕ} → PieceBroken doc i p p' w place → ReadsText doc at p₀ p' w (Err place)
   reading_broken b =
       let k = keeps_then h.keeps b.keeps in
       record {

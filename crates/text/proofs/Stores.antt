@@ -4,14 +4,17 @@ use mathlib.Core.Path.{◌≡◌, refl, sym, ap, ◌∙◌, subst, subst₂}
 use mathlib.Core.List.{[], ◌++◌, append_assoc, append-nil}
 use native.Mathlib.Decide.{dec_lt}
 use native.Mathlib.Omega.{arith}
-use lib.ListN.{length, get_or, take, drop, set, length-append, length-drop, drop_of_length-le, get_or-append}
+use lib.ListN.{length, get_or, take, drop, length-append, length-drop, drop_of_length-le, get_or-append}
+use Rattle.std.proofs.lemmas.List.{take_all}
+use Rattle.std.proofs.lemmas.Slice.{put_mid-paste}
 use lib.Pow.{shr-shr}
+use borrow.Rule.Slice.PartMut.{put_mid}
 use lib.Seq.{get_or-drop, get_or-take, get_or-append-add, ext_get_or, length-take-le}
 use Rattle.definitions.specs.Bytes.{Bytes}
 use Rattle.pool.specs.Pool.{unpacked}
 use Rattle.pool.specs.PoolLaws.{length_unpacked, get_or_unpacked}
 use Rattle.text.specs.Writes.{Writes}
-use Rattle.text.specs.WritesLaws.{writes_none, writes_byte, writes_before, writes_length, writes_as, writes_same}
+use Rattle.text.specs.WritesLaws.{writes_none, writes_before, writes_length, writes_as, writes_same}
 
 -- ---- the last bytes of a word
 
@@ -24,6 +27,23 @@ get_or_last x n i h l =
     get_or-drop (8 - n) (unpacked x) i 0
     ∙ get_or_unpacked x (8 - n + i) (omega arith)
     ∙ ap (λ (k : ℕ). x / 2 ^ k % 256) (let e : 56 - 8 * (8 - n + i) ≡ 8 * (n - 1 - i) = omega arith in e)
+
+-- the last n put in place of as many bytes
+pub writes_last
+    : (o : Bytes) (at n x : ℕ) {w s : Bytes} → n ≤ 8 → w ≡ unpacked x → s ≡ take (8 - (8 - n)) (drop (8 - n) w)
+    → Writes o (put_mid at (at + n - at) o s) at (drop (8 - n) (unpacked x)) (at + n)
+writes_last o at n x {w} {s} h e f =
+    record {
+      bytes = put_mid-paste at (at + n - at) o s (drop (8 - n) (unpacked x)) n last (omega arith) (sym (length_last x n h))
+          ∙ ap (λ (t : Bytes). take at o ++ t ++ drop (at + n) o) (take_all n (drop (8 - n) (unpacked x)) (omega (arith, length_last x n h)));
+      end = ap (λ (k : ℕ). at + k) (sym (length_last x n h));
+    }
+  where
+    last : s ≡ drop (8 - n) (unpacked x)
+    last =
+        f
+        ∙ ap (λ (t : Bytes). take (8 - (8 - n)) (drop (8 - n) t)) e
+        ∙ take_all (8 - (8 - n)) (drop (8 - n) (unpacked x)) (omega (arith, length_last x n h))
 
 -- the last n are those of the word without its last k, and these k
 last_split
@@ -105,15 +125,6 @@ stored_more {at = at} {x} {n} {m} {end} {y} {r} k s l u room w =
       writes = writes_before (omega (arith, s.place, s.writes.end)) s.writes (writes_same (drop (8 - k) (unpacked y)) end w refl e);
       place = omega (arith, s.place);
     }
-
--- one byte more
-pub stored_byte
-    : {o o₁ : Bytes} {at x n m end y : ℕ} → Stored o o₁ at x n m end y → 1 ≤ m → m ≤ n → n ≤ 8 → at + n ≤ length o
-    → Stored o (set o₁ (end - 1) (y % 256)) at x n (m - 1) (end - 1) (y / 2 ^ 8)
-unfolding unpacked
-stored_byte {o} {o₁} {at} {end = end} {y} s l u v room =
-    let p = s.place in
-    stored_more 1 s l (omega arith) room (writes_byte o₁ (end - 1) (y % 256) (omega (arith, stored_length s room)))
 
 -- the same under other names
 pub stored_as

@@ -13,8 +13,8 @@ use Rattle.laws.specs.Rfc3629.{In}
 use Rattle.laws.specs.Ranges.{in_between, out_between, eq_is, ne_is}
 use Rattle.text.specs.TextRun.{text_run}
 use Rattle.text.specs.TextParts.{onward, Breaks, DigitsRead, CodeRead, ReadsCode}
+use Rattle.std.specs.Prelude.{Result, Ok, Err}
 use Rattle.text.specs.declared.unicode.Code.{Code}
-use Rattle.text.specs.declared.unicode.Code.TheVariants.{Read, Wrong}
 use Rattle.text.proofs.Places.{byte_within, more_at, wrong_at}
 
 -- ---- breaking off later
@@ -119,6 +119,6 @@ module _ (doc : Bytes) (at v next : ℕ) (d : DigitsRead doc at false v next) wh
     high_breaks place b =
         breaks_behind doc (Inside.digits none 0 0) (Inside.pair v) at next place (let k = d.behind in omega arith) high_open b
 
-    pub high_code : (r : Code) → ReadsCode doc (Inside.pair v) next r → ReadsCode doc (Inside.digits none 0 0) at r
-    high_code (Read c end) h = high_read c end h
-    high_code (Wrong place) b = high_breaks place b
+    pub high_code : (r : Result Code ℕ) → ReadsCode doc (Inside.pair v) next r → ReadsCode doc (Inside.digits none 0 0) at r
+    high_code (Ok c) h = high_read c.value c.next h
+    high_code (Err place) b = high_breaks place b

@@ -6,6 +6,7 @@ use mathlib.Core.Logic.{◌⊎◌, inl, inr}
 use mathlib.Core.Bool.{Bool, true, false, not, ◌&&◌}
 use mathlib.Core.List.{List, [], ◌∷◌, ◌++◌}
 use mathlib.Core.Option.{Option, none, some}
+use Rattle.std.specs.Prelude.{Some, None}
 use lib.Dec.{eqb}
 use lib.ListN.{length, take}
 use lib.Seq.{take-append_seam}
@@ -19,7 +20,7 @@ use Rattle.laws.specs.Rfc8259 as Rfc
 use Rattle.laws.specs.Bools.{clash, and_left, and_right, not_true}
 use Rattle.laws.proofs.StringRows.{Escapes, short_escape, hex_escape, hit_escapes, hit_hexdig}
 use Rattle.laws.proofs.StringSound.{hexdig_under}
-use Rattle.text.specs.TextParts.{plain_ascii, hex_value, escape_value}
+use Rattle.text.specs.TextParts.{plain_ascii, hex_value}
 
 -- ---- look
 
@@ -35,27 +36,27 @@ misses_look (row lo hi a ∷ rows) b h = rw (out_between h.0, look) (misses_look
 
 -- ---- hexadecimal digits
 
-hex_hits : (b k : ℕ) → Hits hex_table b k → b - k ≡ hex_value b
+hex_hits : (b k : ℕ) → Hits hex_table b k → Some (b - k) ≡ hex_value b
 unfolding hex_value
 hex_hits b k h = rw (hits_look hex_table b k h, hex_value)
 
-pub hex_misses : (b : ℕ) → Misses hex_table b → 16 ≡ hex_value b
+hex_misses : (b : ℕ) → Misses hex_table b → None ≡ hex_value b
 unfolding hex_value
 hex_misses b h = rw (misses_look hex_table b h, hex_value)
 
-pub hex_0 : (b : ℕ) → 48 ≤ b → b ≤ 57 → b - 48 ≡ hex_value b
+pub hex_0 : (b : ℕ) → 48 ≤ b → b ≤ 57 → Some (b - 48) ≡ hex_value b
 unfolding hex_table
 hex_0 b l h = hex_hits b 48 (inl (omega arith, refl))
 
-pub hex_upper_a : (b : ℕ) → 65 ≤ b → b ≤ 70 → b - 55 ≡ hex_value b
+pub hex_upper_a : (b : ℕ) → 65 ≤ b → b ≤ 70 → Some (b - 55) ≡ hex_value b
 unfolding hex_table
 hex_upper_a b l h = hex_hits b 55 (inr (omega arith, inl (omega arith, refl)))
 
-pub hex_a : (b : ℕ) → 97 ≤ b → b ≤ 102 → b - 87 ≡ hex_value b
+pub hex_a : (b : ℕ) → 97 ≤ b → b ≤ 102 → Some (b - 87) ≡ hex_value b
 unfolding hex_table
 hex_a b l h = hex_hits b 87 (inr (omega arith, inr (omega arith, inl (omega arith, refl))))
 
-pub hex_none : (b : ℕ) → (b < 48) ⊎ ((57 < b) × (b < 65)) ⊎ ((70 < b) × (b < 97)) ⊎ (102 < b) → 16 ≡ hex_value b
+pub hex_none : (b : ℕ) → (b < 48) ⊎ ((57 < b) × (b < 65)) ⊎ ((70 < b) × (b < 97)) ⊎ (102 < b) → None ≡ hex_value b
 unfolding hex_table
 hex_none b (inl h) = hex_misses b (omega arith, (omega arith, (omega arith, tt)))
 hex_none b (inr (inl h)) = hex_misses b (omega arith, (omega arith, (omega arith, tt)))
@@ -64,8 +65,8 @@ hex_none b (inr (inr (inr h))) = hex_misses b (omega arith, (omega arith, (omega
 
 -- what stands in the table for a byte by its value
 pub data Hex (b : ℕ) : Type 0 where
-  no_digit : look hex_table b ≡ none → hex_value b ≡ 16 → Hex b
-  digit : (k : ℕ) → look hex_table b ≡ some k → hex_value b ≡ b - k → b - k < 16 → b < 256 → Hex b
+  no_digit : look hex_table b ≡ none → hex_value b ≡ None → Hex b
+  digit : (k : ℕ) → look hex_table b ≡ some k → hex_value b ≡ Some (b - k) → b - k < 16 → b < 256 → Hex b
 
 hexdig_below : {b d : ℕ} → Rfc.HEXDIG b d → b < 256
 hexdig_below (Rfc.hex_digit i) = omega arith
@@ -84,26 +85,15 @@ hex_of b = go (look hex_table b) refl
 
 -- ---- escapes
 
-pub escape_misses : (b : ℕ) → Misses escape_table b → 256 ≡ escape_value b
-unfolding escape_value
-escape_misses b h = rw (misses_look escape_table b h, escape_value)
-
--- a value at a byte that is written out
-pub value_at : (f : ℕ → ℕ) (b k v : ℕ) → b ≡ k → v ≡ f k → v ≡ f b
+-- a function at a byte that is written out
+pub value_at : {A : Type 0} (f : ℕ → A) (b k : ℕ) (v : A) → b ≡ k → v ≡ f k → v ≡ f b
 value_at f b k v e h = h ∙ ap f (sym e)
 
--- what a byte behind a backslash does, by its value
-pub data Escape (b : ℕ) : Type 0 where
-  no_escape : look escape_table b ≡ none → escape_value b ≡ 256 → Escape b
-  by_number : look escape_table b ≡ some none → escape_value b ≡ 257 → b ≡ 0x75 → Escape b
-  by_letter
-      : (c : ℕ) → look escape_table b ≡ some (some c) → escape_value b ≡ c → b < 256 → c < 256 → length (escaped c) ≤ 2
-      → Escape b
-
-record Letter (b c : ℕ) : Type 0 where
-  byte : b < 256
-  meant : c < 256
-  short : length (escaped c) ≤ 2
+-- a byte behind a backslash that means the byte c
+pub record Letter (b c : ℕ) : Type 0 where
+  pub byte : b < 256
+  pub meant : c < 256
+  pub short : length (escaped c) ≤ 2
 
 letter : {b c : ℕ} → Rfc.escaped_char b c → Letter b c
 unfolding escaped look short_escapes between bytes
@@ -116,22 +106,18 @@ letter Rfc.escaped_char.line_feed = record { byte = omega arith; meant = omega a
 letter Rfc.escaped_char.carriage_return = record { byte = omega arith; meant = omega arith; short = omega arith }
 letter Rfc.escaped_char.tab = record { byte = omega arith; meant = omega arith; short = omega arith }
 
-escape_letter : {b c : ℕ} → Escapes b (some c) → Letter b c
-escape_letter (short_escape x) = letter x
+short_hit : {b c : ℕ} → Escapes b (some c) → Letter b c
+short_hit (short_escape x) = letter x
 
-escape_u : {b : ℕ} → Escapes b none → b ≡ 0x75
-escape_u hex_escape = refl
+pub letter_of : (b c : ℕ) → look escape_table b ≡ some (some c) → Letter b c
+letter_of b c e = short_hit (hit_escapes (look_hit escape_table b (some c) e))
 
-pub escape_of : (b : ℕ) → Escape b
-unfolding escape_value
-escape_of b = go (look escape_table b) refl
-  where
-    go : (o : Option (Option ℕ)) → look escape_table b ≡ o → Escape b
-    go none e = no_escape e (rw (e, escape_value))
-    go (some none) e = by_number e (rw (e, escape_value)) (escape_u (hit_escapes (look_hit escape_table b none e)))
-    go (some (some c)) e =
-        let l = escape_letter (hit_escapes (look_hit escape_table b (some c) e)) in
-        by_letter c e (rw (e, escape_value)) l.byte l.meant l.short
+-- the byte behind a backslash that digits follow
+digits_hit : {b : ℕ} → Escapes b none → b ≡ 0x75
+digits_hit hex_escape = refl
+
+pub digits_of : (b : ℕ) → look escape_table b ≡ some none → b ≡ 0x75
+digits_of b e = digits_hit (hit_escapes (look_hit escape_table b none e))
 
 -- ---- bytes that stand for themselves
 
@@ -145,16 +131,21 @@ plain_ascii_low b h = plain_ascii_out b (omega arith)
 pub plain_ascii_high : (b : ℕ) → 0x7F < b → false ≡ plain_ascii b
 plain_ascii_high b h = plain_ascii_out b (omega arith)
 
-pub plain_ascii_last : (b : ℕ) → 0x20 ≤ b → b ≤ 0x7F → (b ≡ 0x22 → ⊥) → not (eqb b 0x5C) ≡ plain_ascii b
+pub plain_ascii_in : (b : ℕ) → 0x20 ≤ b → b ≤ 0x7F → (b ≡ 0x22 → ⊥) → (b ≡ 0x5C → ⊥) → true ≡ plain_ascii b
 unfolding plain_ascii
-plain_ascii_last b l h q =
+plain_ascii_in b l h q s =
     let i : between 0x20 0x7F b ≡ true = in_between (record { from = l; to = h }) in
     let e : eqb b 0x22 ≡ false = ne_eqb q in
-    rw (i, e, plain_ascii)
+    let f : eqb b 0x5C ≡ false = ne_eqb s in
+    rw (i, e, f, plain_ascii)
 
-pub plain_ascii_quote : false ≡ plain_ascii 0x22
+pub plain_ascii_quote : (b : ℕ) → b ≡ 0x22 → false ≡ plain_ascii b
 unfolding plain_ascii between
-plain_ascii_quote = refl
+plain_ascii_quote b e = rw e
+
+pub plain_ascii_backslash : (b : ℕ) → b ≡ 0x5C → false ≡ plain_ascii b
+unfolding plain_ascii between
+plain_ascii_backslash b e = rw e
 
 -- what a byte that stands for itself is
 pub record Itself (b : ℕ) : Type 0 where

@@ -1,22 +1,22 @@
 -- What the parts of reading a text answer: each says how `text_run` goes over its bytes. Assumes nothing.
-use Rattle.std.specs.Prelude.{ℕ, ◌+◌, ◌-◌, ◌/◌, ◌%◌, ◌≤◌, ◌<◌, ◌≡◌, Bool, true, false, not, ◌&&◌, eqb, length, take, drop, get_or}
+use Rattle.std.specs.Prelude.{ℕ, ◌+◌, ◌-◌, ◌/◌, ◌%◌, ◌≤◌, ◌<◌, ◌≡◌, Bool, true, false, not, ◌&&◌, eqb, length, take, drop, get_or, Result, Ok, Err, Some, None}
+use Rattle.std.specs.Prelude as std
+use Rattle.std.specs.Prelude.{◌^◌, bit_and, bit_xor}
 use mathlib.Core.List.{List, [], ◌∷◌, ◌++◌, reverse, reverse_aux}
 use Rattle.std.proofs.Math.Option.{Option, none, some}
 use Rattle.definitions.specs.Bytes.{Bytes, bytes, between, look, found}
 use Rattle.definitions.specs.Utf8.{Tails, tails, encode}
-use Rattle.definitions.specs.Text.{Inside, TextMove, wrong, more, closed, escape_table, hex_table, digit_fits, unicode}
+use Rattle.definitions.specs.Text.{Inside, TextMove, wrong, more, closed, hex_table, digit_fits, unicode}
 use Rattle.definitions.specs.Plain.{short_escapes, hex_digit, escaped_all}
+use Rattle.pool.specs.Lanes.{lane}
 use Rattle.pool.specs.Pool.{unpacked, words, text_in}
 use Rattle.text.specs.TextRun.{TextEnd, broke, text_run}
 use Rattle.text.specs.TextRead.{Padded}
 use Rattle.text.specs.declared.unicode.Code.{Code}
-use Rattle.text.specs.declared.unicode.Code.TheVariants.{Read, Wrong}
-use Rattle.text.specs.declared.wide.Head.{Head}
-use Rattle.text.specs.declared.wide.Head.TheVariants as HeadIs
-use Rattle.text.specs.declared.wide.Wide.{Wide}
-use Rattle.text.specs.declared.wide.Wide.TheVariants.{Whole, Cut}
+use Rattle.text.specs.declared.wide.Tails as wide
 use Rattle.text.specs.declared.pieces.Piece.{Piece}
-use Rattle.text.specs.declared.pieces.Piece.TheVariants.{Went, Stopped}
+use Rattle.text.specs.declared.pieces.Escape.{Escape}
+use Rattle.text.specs.declared.pieces.Escape.TheVariants as EscapeIs
 
 -- ---- bytes
 
@@ -24,17 +24,28 @@ use Rattle.text.specs.declared.pieces.Piece.TheVariants.{Went, Stopped}
 unfoldable pub plain_ascii : ℕ → Bool
 plain_ascii b = between 0x20 0x7F b && not (eqb b 0x22) && not (eqb b 0x5C)
 
--- the value of a hexadecimal digit; of anything else, 16
-unfoldable pub hex_value : ℕ → ℕ
-hex_value b = elim (look hex_table b) [ none ↦ 16 | some k ↦ b - k ]
+-- its highest bit tells of a byte below 80 whether it is from 20 on, and neither a quote nor a backslash
+abbrev pub plain_bits : ℕ → ℕ
+plain_bits b = bit_and (bit_and (bit_and b 0x7F + 0x60) (bit_xor (bit_and b 0x7F) 0x22 + 0x7F)) (bit_xor (bit_and b 0x7F) 0x5C + 0x7F)
 
--- what the byte behind a backslash means: a byte; 257 for `u`; 256 for nothing
-unfoldable pub escape_value : ℕ → ℕ
-escape_value b = elim (look escape_table b) [ none ↦ 256 | some e ↦ elim e [ none ↦ 257 | some c ↦ c ] ]
+-- the same of each byte of a word
+pub record PlainBits (x y : ℕ) : Type 0 where
+  pub each : (j : ℕ) → j < 8 → lane y j ≡ plain_bits (lane x j)
+  pub small : y < 2 ^ 64
 
--- the byte behind the backslash where b is written as an escape of two characters, else 0
-unfoldable pub short_form : ℕ → ℕ
-short_form b = elim (look short_escapes b) [ none ↦ 0 | some e ↦ get_or e 1 0 ]
+-- the value of a hexadecimal digit
+unfoldable pub hex_value : ℕ → std.Option ℕ
+hex_value b = elim (look hex_table b) [ none ↦ None | some k ↦ Some (b - k) ]
+
+-- what an escape means
+unfoldable pub escape_as : std.Option Escape → Option (Option ℕ)
+escape_as (Some (EscapeIs.Byte c)) = some (some c)
+escape_as (Some EscapeIs.Digits) = some none
+escape_as None = none
+
+-- the byte behind the backslash where b is written as an escape of two characters
+unfoldable pub short_form : ℕ → std.Option ℕ
+short_form b = elim (look short_escapes b) [ none ↦ None | some e ↦ Some (get_or e 1 0) ]
 
 -- "`\u00` and two lower-case hexadecimal digits"
 unfoldable pub hex_escape : ℕ → Bytes
@@ -45,9 +56,9 @@ unfoldable pub fits_as : Bool → (n c d : ℕ) → Bool
 fits_as false n c d = digit_fits none n c d
 fits_as true n c d = digit_fits (some 0) n c d
 
-unfoldable pub head_as : Head → Option Tails
-head_as (HeadIs.Tails lo hi n) = some (tails lo hi n)
-head_as HeadIs.Not = none
+unfoldable pub tails_as : std.Option wide.Tails → Option Tails
+tails_as (Some t) = some (tails t.0 t.1 t.2)
+tails_as None = none
 
 -- ---- reading on
 
@@ -75,6 +86,11 @@ pub record FrontStands (x m : ℕ) : Type 0 where
   pub within : m ≤ 8
   pub stands : Stands (take m (unpacked x))
 
+-- a character of several bytes that a word begins with has k bytes
+abbrev pub WideFront : ℕ → std.Option ℕ → Type 0
+WideFront x (Some k) = FrontStands x k × (2 ≤ k) × (k ≤ 4)
+WideFront x None = Unit {0}
+
 -- ---- escapes by digits
 
 -- four digits of value v
@@ -87,9 +103,9 @@ pub record DigitsRead (doc : Bytes) (at : ℕ) (low : Bool) (v next : ℕ) : Typ
   pub small : v < 0x10000
   pub paired : low ≡ true → (0xDC00 ≤ v) × (v ≤ 0xDFFF)
 
-abbrev pub ReadsDigits : Bytes → ℕ → Bool → Code → Type 0
-ReadsDigits doc at low (Read v next) = DigitsRead doc at low v next
-ReadsDigits doc at low (Wrong place) = (high : Option ℕ) → found high ≡ low → Breaks doc (Inside.digits high 0 0) at place
+abbrev pub ReadsDigits : Bytes → ℕ → Bool → Result Code ℕ → Type 0
+ReadsDigits doc at low (Ok c) = DigitsRead doc at low c.value c.next
+ReadsDigits doc at low (Err place) = (high : Option ℕ) → found high ≡ low → Breaks doc (Inside.digits high 0 0) at place
 
 -- a character c by its number
 pub record CodeRead (doc : Bytes) (i : Inside) (at c next : ℕ) : Type 0 where
@@ -99,9 +115,9 @@ pub record CodeRead (doc : Bytes) (i : Inside) (at c next : ℕ) : Type 0 where
   pub within : next ≤ length doc
   pub valid : c < 0x110000
 
-abbrev pub ReadsCode : Bytes → Inside → ℕ → Code → Type 0
-ReadsCode doc i at (Read c next) = CodeRead doc i at c next
-ReadsCode doc i at (Wrong place) = Breaks doc i at place
+abbrev pub ReadsCode : Bytes → Inside → ℕ → Result Code ℕ → Type 0
+ReadsCode doc i at (Ok c) = CodeRead doc i at c.value c.next
+ReadsCode doc i at (Err place) = Breaks doc i at place
 
 -- ---- characters of several bytes
 
@@ -114,9 +130,9 @@ pub record WideRead (doc : Bytes) (i : Inside) (at next : ℕ) : Type 0 where
   pub ahead : at < next
   pub within : next ≤ length doc
 
-abbrev pub ReadsWide : Bytes → Inside → ℕ → Wide → Type 0
-ReadsWide doc i at (Whole next) = WideRead doc i at next
-ReadsWide doc i at (Cut place) = Breaks doc i at place
+abbrev pub ReadsWide : Bytes → Inside → ℕ → Result ℕ ℕ → Type 0
+ReadsWide doc i at (Ok next) = WideRead doc i at next
+ReadsWide doc i at (Err place) = Breaks doc i at place
 
 -- ---- the pool
 
@@ -152,9 +168,9 @@ pub record PieceBroken (doc : Bytes) (i : ℕ) (p p' : List ℕ) (w place : ℕ)
   pub breaks : Breaks doc Inside.chars i place
   pub keeps : Keeps p p' w
 
-abbrev pub ReadsPiece : Bytes → ℕ → List ℕ → List ℕ → ℕ → ℕ → Piece → Type 0
-ReadsPiece doc i p p' w n (Went next m cost) = PieceRead doc i p p' w n next m cost
-ReadsPiece doc i p p' w n (Stopped place) = PieceBroken doc i p p' w place
+abbrev pub ReadsPiece : Bytes → ℕ → List ℕ → List ℕ → ℕ → ℕ → Result Piece ℕ → Type 0
+ReadsPiece doc i p p' w n (Ok piece) = PieceRead doc i p p' w n piece.next piece.length piece.cost
+ReadsPiece doc i p p' w n (Err place) = PieceBroken doc i p p' w place
 
 -- the bytes from place i up to place next stand for themselves, and are put behind the text of n bytes
 pub record Stood (doc : Bytes) (i : ℕ) (p p' : List ℕ) (w n next : ℕ) : Type 0 where

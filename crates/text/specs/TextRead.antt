@@ -1,12 +1,11 @@
 -- What `read_text` answers: how `text_run` ends behind the opening quote, with the text in the pool. Assumes nothing.
-use Rattle.std.specs.Prelude.{ℕ, ◌+◌, ◌-◌, ◌*◌, ◌≤◌, ◌<◌, ◌≡◌, List, [], ◌++◌, length, take, drop, replicate}
+use Rattle.std.specs.Prelude.{ℕ, ◌+◌, ◌-◌, ◌*◌, ◌≤◌, ◌<◌, ◌≡◌, List, [], ◌++◌, length, take, drop, replicate, Result, Ok, Err}
 use Rattle.definitions.specs.Bytes.{Bytes}
 use Rattle.definitions.specs.Text.{Inside}
 use Rattle.definitions.specs.Plain.{plain_text}
 use Rattle.pool.specs.Pool.{words, text_in}
 use Rattle.text.specs.TextRun.{ended, broke, text_run}
-use Rattle.text.specs.declared.TextRead.{TextRead}
-use Rattle.text.specs.declared.TextRead.TheVariants.{Closed, Broken}
+use Rattle.text.specs.declared.Decoded.{Decoded}
 
 -- zeros fill the last word of the text of n bytes at word w
 unfoldable pub Padded : List ℕ → (w n : ℕ) → Type 0
@@ -29,12 +28,12 @@ pub record TextBroken (doc : Bytes) (at place : ℕ) : Type 0 where
   pub from : at ≤ place
   pub within : place ≤ length doc
 
-abbrev pub TextAnswer : Bytes → ℕ → List ℕ → ℕ → TextRead → Type 0
-TextAnswer doc at p w (Closed end n m) = TextClosed doc at p w end n m
-TextAnswer doc at p w (Broken place) = TextBroken doc at place
+abbrev pub TextAnswer : Bytes → ℕ → List ℕ → ℕ → Result Decoded ℕ → Type 0
+TextAnswer doc at p w (Ok d) = TextClosed doc at p w d.end d.length d.written
+TextAnswer doc at p w (Err place) = TextBroken doc at place
 
 -- the answer r for the text behind place at, and the pool p' that was p
-pub record ReadsText (doc : Bytes) (at : ℕ) (p p' : List ℕ) (w : ℕ) (r : TextRead) : Type 0 where
+pub record ReadsText (doc : Bytes) (at : ℕ) (p p' : List ℕ) (w : ℕ) (r : Result Decoded ℕ) : Type 0 where
   pub answer : TextAnswer doc at p' w r
   pub kept : length p' ≡ length p
   pub front : take w p' ≡ take w p

@@ -4,15 +4,13 @@ ghost use Rattle.definitions.specs.Plain.{escaped_all};
 ghost use Rattle.pool.specs.Pool.{unpacked};
 ghost use Rattle.text.specs.Bare.{Bare};
 
-// Whether all eight are: from 80 on, or from 20 on and neither a quote nor a backslash. Of a byte below 80 a sum reaches 80 where it is.
+use super::eight::plain_bits;
+
+// Whether all eight are: from 80 on, or from 20 on and neither a quote nor a backslash.
 pub fn is_bare(x: u64) -> bool
     ensures told { result ≡ true → Bare x }
 {
-    let v = x & 0x7F7F7F7F7F7F7F7F;
-    let above = v + 0x6060606060606060;
-    let quotes = (v ^ 0x2222222222222222) + 0x7F7F7F7F7F7F7F7F;
-    let slashes = (v ^ 0x5C5C5C5C5C5C5C5C) + 0x7F7F7F7F7F7F7F7F;
-    ((above & quotes & slashes) | x) & 0x8080808080808080 == 0x8080808080808080
+    (plain_bits(x) | x) & 0x8080808080808080 == 0x8080808080808080
 }
 
 // Whether the first n are: the others are made so.

@@ -3,20 +3,27 @@ ghost use Rattle.std.specs.Prelude.{◌≡◌, ◌++◌, ◌+◌, ◌-◌, ◌/�
 ghost use Rattle.std.specs.Int.Count.{count_leading_zeros};
 ghost use Rattle.pool.specs.Pool.{unpacked, words};
 ghost use Rattle.pool.specs.Lanes.{Marks};
-ghost use Rattle.text.specs.TextParts.{plain_ascii, Puts, Stood};
+ghost use Rattle.text.specs.TextParts.{plain_ascii, PlainBits, Puts, Stood};
 
 use super::wide::past_wides;
 
-// The highest bit of each byte that is not plain ASCII. A byte is below 0x20 where 0x60 more leaves its highest bit clear, and a
-// quote or a backslash where 0x7F more does, once it is taken from it by `^`.
-fn odd(x: u64) -> u64
-    ensures marked { Marks plain_ascii x result }
+// A word whose bytes have their highest bit clear where a byte of x is below 0x20, a quote or a backslash, but for those from 0x80 on: it is below
+// 0x20 where 0x60 more leaves that bit clear, and a quote or a backslash where 0x7F more does, once it is taken from it by `^`.
+pub fn plain_bits(x: u64) -> u64
+    ensures told { PlainBits x result }
 {
     let v = x & 0x7F7F7F7F7F7F7F7F;
     let above = v + 0x6060606060606060;
     let quotes = (v ^ 0x2222222222222222) + 0x7F7F7F7F7F7F7F7F;
     let backslashes = (v ^ 0x5C5C5C5C5C5C5C5C) + 0x7F7F7F7F7F7F7F7F;
-    (!(above & quotes & backslashes) | x) & 0x8080808080808080
+    above & quotes & backslashes
+}
+
+// The highest bit of each byte that is not plain ASCII.
+fn odd(x: u64) -> u64
+    ensures marked { Marks plain_ascii x result }
+{
+    (!plain_bits(x) | x) & 0x8080808080808080
 }
 
 // The first byte of a word that has a mark.
@@ -49,6 +56,7 @@ pub fn put_standing(doc: &[u8], at: usize, pool: &mut [u64], w: usize) -> usize
 {
     let mut i = at;
     let mut k = w;
+    // tuned, eight bytes at a time: the loop stays by hand
     while 8 <= doc.len() - i {
         let x = pool::word_at(doc, i);
         let marks = odd(x);
@@ -75,6 +83,7 @@ pub fn put_run(doc: &[u8], at: usize, pool: &mut [u64], w: usize, n: usize) -> u
         return put_standing(doc, at, pool, w + n / 8);
     }
     let mut i = at;
+    // tuned, eight bytes at a time: the loop stays by hand
     while 8 <= doc.len() - i {
         let x = pool::word_at(doc, i);
         let marks = odd(x);

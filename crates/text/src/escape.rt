@@ -8,31 +8,22 @@ ghost use Rattle.text.specs.Writes.{Writes};
 pub fn is_plain_ascii(b: u8) -> bool
     ensures judged { result ≡ plain_ascii b }
 {
-    if b < b' ' {
-        return false;
-    }
-    if 0x7F < b {
-        return false;
-    }
-    if b == 0x22 {
-        return false;
-    }
-    b != 0x5C
+    matches!(b, 0x20..=0x21 | 0x23..=0x5B | 0x5D..=0x7F)
 }
 
-// The byte behind the backslash where b is written as an escape of two characters, else 0.
-fn short_form(b: u8) -> u8
+// The byte behind the backslash where b is written as an escape of two characters.
+fn short_form(b: u8) -> Option<u8>
     ensures found { result ≡ short_form b }
 {
     match b {
-        0x22 => 0x22,
-        0x5C => 0x5C,
-        0x08 => 0x62,
-        0x0C => 0x66,
-        0x0A => 0x6E,
-        0x0D => 0x72,
-        0x09 => 0x74,
-        _ => 0,
+        0x22 => Some(0x22),
+        0x5C => Some(0x5C),
+        0x08 => Some(0x62),
+        0x0C => Some(0x66),
+        0x0A => Some(0x6E),
+        0x0D => Some(0x72),
+        0x09 => Some(0x74),
+        _ => None,
     }
 }
 
@@ -40,13 +31,7 @@ fn short_form(b: u8) -> u8
 fn needs_no_escape(b: u8) -> bool
     ensures told { result ≡ true → escaped b ≡ b ∷ [] }
 {
-    if b < 0x20 {
-        return false;
-    }
-    if b == 0x22 {
-        return false;
-    }
-    b != 0x5C
+    b' ' <= b && b != b'"' && b != b'\\'
 }
 
 // How many bytes b is written in.
@@ -56,10 +41,11 @@ pub fn cost(b: u8) -> usize
     if needs_no_escape(b) {
         return 1;
     }
-    if short_form(b) != 0 {
-        return 2;
+    match short_form(b) {
+        Some(_) => 2,
+        None if b < 0x20 => 6,
+        None => 1,
     }
-    if b < 0x20 { 6 } else { 1 }
 }
 
 // A lower-case hexadecimal digit.
@@ -89,8 +75,7 @@ fn write_escape(out: &mut [u8], at: usize, b: u8) -> usize
     requires { at + length (escaped b) ≤ length out.old }
     ensures written { Writes out.old out.new at (escaped b) result }
 {
-    let c = short_form(b);
-    if c != 0 {
+    if let Some(c) = short_form(b) {
         out[at] = 0x5C;
         out[at + 1] = c;
         return at + 2;

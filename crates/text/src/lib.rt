@@ -17,25 +17,22 @@ mod store; // bytes of a word, stored
 mod bare; // words that are written as they are
 mod write; // what stands between the quotes, written and measured
 
-use pieces::Piece;
-
-// How reading a text ends.
+// A text that was read: the place behind its closing quote, how many bytes it decodes to, and how long it is in plain JSON.
 #[derive(Clone, Copy)]
-pub enum TextRead {
-    // behind the closing quote, with so many bytes decoded, and as long in plain JSON
-    Closed {
-        end: usize,
-        length: usize,
-        written: usize,
-    },
-    // at the byte, or the end, that no text has there
-    Broken {
-        place: usize,
-    },
+pub struct Decoded {
+    pub end: usize,
+    pub length: usize,
+    pub written: usize,
 }
 
 // Reads on from a place up to which all bytes behind place at are plain ASCII, and in the pool from word w on.
-fn read_rest(doc: &[u8], at: usize, from: usize, pool: &mut [u64], w: usize) -> TextRead
+fn read_rest(
+    doc: &[u8],
+    at: usize,
+    from: usize,
+    pool: &mut [u64],
+    w: usize,
+) -> Result<Decoded, usize>
     requires { Reading doc.now at pool.old w from (from - at) (from - at + 2) pool.old × (w + words (length doc.now - at) ≤ length pool.old) }
     ensures read { ReadsText doc.now at pool.old pool.new w result }
 {
@@ -44,28 +41,22 @@ fn read_rest(doc: &[u8], at: usize, from: usize, pool: &mut [u64], w: usize) -> 
     let mut written = n + 2;
     while i < doc.len() {
         if doc[i] == b'"' {
-            return TextRead::Closed {
+            return Ok(Decoded {
                 end: i + 1,
                 length: n,
                 written,
-            };
+            });
         }
-        match pieces::read_piece(doc, i, pool, w, n) {
-            Piece::Went { next, length, cost } => {
-                i = eight::put_run(doc, next, pool, w, length);
-                n = length + (i - next);
-                written += cost + (i - next);
-            }
-            Piece::Stopped { place } => {
-                return TextRead::Broken { place };
-            }
-        }
+        let piece = pieces::read_piece(doc, i, pool, w, n)?;
+        i = eight::put_run(doc, piece.next, pool, w, piece.length);
+        n = piece.length + (i - piece.next);
+        written += piece.cost + (i - piece.next);
     }
-    TextRead::Broken { place: i }
+    Err(i)
 }
 
-// Reads a text from behind its opening quote; what it decodes to goes into the pool from word w on.
-pub fn read_text(doc: &[u8], at: usize, pool: &mut [u64], w: usize) -> TextRead
+// Reads a text from behind its opening quote; what it decodes to goes into the pool from word w on. An error is the place at which no text goes on.
+pub fn read_text(doc: &[u8], at: usize, pool: &mut [u64], w: usize) -> Result<Decoded, usize>
     requires { (at ≤ length doc.now) × (w + words (length doc.now - at) ≤ length pool.old) }
     ensures read { ReadsText doc.now at pool.old pool.new w result }
 {
@@ -73,11 +64,11 @@ pub fn read_text(doc: &[u8], at: usize, pool: &mut [u64], w: usize) -> TextRead
     if i < doc.len() {
         // most texts close behind their plain bytes
         if doc[i] == b'"' {
-            return TextRead::Closed {
+            return Ok(Decoded {
                 end: i + 1,
                 length: i - at,
                 written: i - at + 2,
-            };
+            });
         }
         // called at two places, so that the compiler keeps it a call, and puts the few lines here into their callers
         return read_rest(doc, at, i, pool, w);
@@ -91,17 +82,15 @@ pub fn text_length(pool: &[u64], w: usize, n: usize) -> usize
     ensures counted { result ≡ length (plain_text (text_in pool.now w n)) }
 {
     let mut written: usize = 2;
-    let mut k = w;
-    let mut left = n;
-    while 8 <= left {
-        written += write::whole_length(pool[k]);
-        k += 1;
-        left -= 8;
+    let full = w + n / 8;
+    for &x in &pool[w..full] {
+        written += write::whole_length(x);
     }
+    let left = n % 8;
     if left == 0 {
         return written;
     }
-    written + write::front_length(pool[k], left)
+    written + write::front_length(pool[full], left)
 }
 
 // Writes a text of the pool as plain JSON, and answers the place behind it.

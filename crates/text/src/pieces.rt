@@ -1,61 +1,51 @@
 // What stands in a text, piece by piece: a plain ASCII byte, an escape, a character of several bytes; put into the pool.
-ghost use Rattle.std.specs.Prelude.{◌≡◌, false, ◌+◌, ◌-◌, ◌≤◌, ◌<◌, length, take, drop, get_or};
-ghost use Rattle.definitions.specs.Bytes.{between};
+ghost use Rattle.std.specs.Prelude.{◌≡◌, false, ◌+◌, ◌-◌, ◌≤◌, ◌<◌, length, get_or};
+ghost use Rattle.definitions.specs.Bytes.{between, look};
+ghost use Rattle.definitions.specs.Text.{escape_table};
 ghost use Rattle.definitions.specs.Utf8.{encode};
 ghost use Rattle.definitions.specs.Plain.{escaped_all};
 ghost use Rattle.pool.specs.Pool.{words};
-ghost use Rattle.text.specs.TextParts.{escape_value, Puts, ReadsPiece, Room};
+ghost use Rattle.text.specs.TextParts.{escape_as, Puts, ReadsPiece, Room};
 
 use super::eight::put_part;
 use super::escape::{cost, is_plain_ascii};
-use super::unicode::{Code, encoded, encoded_length, peek, read_unicode};
-use super::wide::{Wide, past_wides, wide_end};
+use super::unicode::{encoded, encoded_length, peek, read_unicode};
+use super::wide::{past_wides, wide_end};
 
-// A piece of a text: the place behind it, the bytes that the text has with it, and what it adds to plain JSON; or where it breaks off.
+// A piece of a text: the place behind it, the bytes that the text has with it, and what it adds to plain JSON.
 #[derive(Clone, Copy)]
-pub enum Piece {
-    Went {
-        next: usize,
-        length: usize,
-        cost: usize,
-    },
-    Stopped {
-        place: usize,
-    },
+pub struct Piece {
+    pub next: usize,
+    pub length: usize,
+    pub cost: usize,
 }
 
-// Puts the bytes from one place of src up to another behind the n bytes at word w.
-fn copy(src: &[u8], from: usize, to: usize, pool: &mut [u64], w: usize, n: usize)
-    requires { (from ≤ to) × (to ≤ length src.now) × (w + words (n + (to - from)) ≤ length pool.old) }
-    ensures put { Puts pool.old pool.new w n (take (to - from) (drop from src.now)) }
+// Puts bytes behind the n bytes at word w.
+fn put_bytes(bytes: &[u8], pool: &mut [u64], w: usize, n: usize)
+    requires { w + words (n + length bytes.now) ≤ length pool.old }
+    ensures put { Puts pool.old pool.new w n bytes.now }
 {
-    let mut i = from;
-    while i < to {
-        pool::put_byte(pool, 8 * w + n + (i - from), src[i]);
-        i += 1;
+    for (i, &b) in bytes.iter().enumerate() {
+        pool::put_byte(pool, 8 * w + n + i, b);
     }
 }
 
 // A character of several bytes, byte by byte.
-fn read_wide(doc: &[u8], i: usize, pool: &mut [u64], w: usize, n: usize) -> Piece
+fn read_wide(doc: &[u8], i: usize, pool: &mut [u64], w: usize, n: usize) -> Result<Piece, usize>
     requires { Room doc.now i pool.old w n × (between 0x20 0x7F (get_or doc.now i 0) ≡ false) }
     ensures read { ReadsPiece doc.now i pool.old pool.new w n result }
 {
-    match wide_end(doc, i) {
-        Wide::Whole { next } => {
-            copy(doc, i, next, pool, w, n);
-            Piece::Went {
-                next,
-                length: n + (next - i),
-                cost: next - i,
-            }
-        }
-        Wide::Cut { place } => Piece::Stopped { place },
-    }
+    let next = wide_end(doc, i)?;
+    put_bytes(&doc[i..next], pool, w, n);
+    Ok(Piece {
+        next,
+        length: n + (next - i),
+        cost: next - i,
+    })
 }
 
 // Characters of several bytes: as many as the word there has whole. Where it has none, or the document's last seven bytes stand there, one.
-fn read_wides(doc: &[u8], i: usize, pool: &mut [u64], w: usize, n: usize) -> Piece
+fn read_wides(doc: &[u8], i: usize, pool: &mut [u64], w: usize, n: usize) -> Result<Piece, usize>
     requires { Room doc.now i pool.old w n × (between 0x20 0x7F (get_or doc.now i 0) ≡ false) }
     ensures read { ReadsPiece doc.now i pool.old pool.new w n result }
 {
@@ -68,28 +58,35 @@ fn read_wides(doc: &[u8], i: usize, pool: &mut [u64], w: usize, n: usize) -> Pie
         return read_wide(doc, i, pool, w, n);
     }
     put_part(pool, w, n, pool::front(x, m), m);
-    Piece::Went {
+    Ok(Piece {
         next: i + m,
         length: n + m,
         cost: m,
-    }
+    })
 }
 
-// What the byte behind a backslash means: a byte; 257 for `u`; 256 for nothing.
-fn escape_value(b: usize) -> usize
-    ensures valued { result ≡ escape_value b }
+// What an escape means: a byte, or for `u` the character whose digits follow.
+#[derive(Clone, Copy)]
+enum Escape {
+    Byte(u8),
+    Digits,
+}
+
+// What the byte behind a backslash makes of it.
+fn escape_of(b: usize) -> Option<Escape>
+    ensures told { escape_as result ≡ look escape_table b }
 {
     match b {
-        0x22 => 0x22,
-        0x5C => 0x5C,
-        0x2F => 0x2F,
-        0x62 => 0x08,
-        0x66 => 0x0C,
-        0x6E => 0x0A,
-        0x72 => 0x0D,
-        0x74 => 0x09,
-        0x75 => 257,
-        _ => 256,
+        0x22 => Some(Escape::Byte(0x22)),
+        0x5C => Some(Escape::Byte(0x5C)),
+        0x2F => Some(Escape::Byte(0x2F)),
+        0x62 => Some(Escape::Byte(0x08)),
+        0x66 => Some(Escape::Byte(0x0C)),
+        0x6E => Some(Escape::Byte(0x0A)),
+        0x72 => Some(Escape::Byte(0x0D)),
+        0x74 => Some(Escape::Byte(0x09)),
+        0x75 => Some(Escape::Digits),
+        _ => None,
     }
 }
 
@@ -105,48 +102,48 @@ fn character_cost(c: usize) -> usize
 }
 
 // A character by its number, or a pair of surrogates, from the backslash of `\u` on.
-fn read_named(doc: &[u8], i: usize, pool: &mut [u64], w: usize, n: usize) -> Piece
+fn read_named(doc: &[u8], i: usize, pool: &mut [u64], w: usize, n: usize) -> Result<Piece, usize>
     requires { Room doc.now i pool.old w n × (get_or doc.now i 0 ≡ 0x5C) × (get_or doc.now (i + 1) 256 ≡ 0x75) }
     ensures read { ReadsPiece doc.now i pool.old pool.new w n result }
 {
-    match read_unicode(doc, i + 2) {
-        Code::Read { value, next } => {
-            let k = encoded_length(value);
-            let bytes = encoded(value);
-            copy(&bytes, 0, k, pool, w, n);
-            Piece::Went {
-                next,
-                length: n + k,
-                cost: character_cost(value),
-            }
-        }
-        Code::Wrong { place } => Piece::Stopped { place },
-    }
+    let code = read_unicode(doc, i + 2)?;
+    let k = encoded_length(code.value);
+    let bytes = encoded(code.value);
+    put_bytes(&bytes[..k], pool, w, n);
+    Ok(Piece {
+        next: code.next,
+        length: n + k,
+        cost: character_cost(code.value),
+    })
 }
 
 // An escape, from its backslash on.
-fn read_escape(doc: &[u8], i: usize, pool: &mut [u64], w: usize, n: usize) -> Piece
+fn read_escape(doc: &[u8], i: usize, pool: &mut [u64], w: usize, n: usize) -> Result<Piece, usize>
     requires { Room doc.now i pool.old w n × (get_or doc.now i 0 ≡ 0x5C) }
     ensures read { ReadsPiece doc.now i pool.old pool.new w n result }
 {
-    let c = escape_value(peek(doc, i + 1));
-    if c == 257 {
-        return read_named(doc, i, pool, w, n);
-    }
-    if c == 256 {
-        return Piece::Stopped { place: i + 1 };
-    }
-    let b = c as u8;
-    pool::put_byte(pool, 8 * w + n, b);
-    Piece::Went {
-        next: i + 2,
-        length: n + 1,
-        cost: cost(b),
+    match escape_of(peek(doc, i + 1)) {
+        Some(Escape::Byte(b)) => {
+            pool::put_byte(pool, 8 * w + n, b);
+            Ok(Piece {
+                next: i + 2,
+                length: n + 1,
+                cost: cost(b),
+            })
+        }
+        Some(Escape::Digits) => read_named(doc, i, pool, w, n),
+        None => Err(i + 1),
     }
 }
 
 // What stands at place i, where the closing quote does not.
-pub fn read_piece(doc: &[u8], i: usize, pool: &mut [u64], w: usize, n: usize) -> Piece
+pub fn read_piece(
+    doc: &[u8],
+    i: usize,
+    pool: &mut [u64],
+    w: usize,
+    n: usize,
+) -> Result<Piece, usize>
     requires { Room doc.now i pool.old w n × (get_or doc.now i 0 ≡ 0x22 → ⊥) }
     ensures read { ReadsPiece doc.now i pool.old pool.new w n result }
 {
@@ -156,11 +153,11 @@ pub fn read_piece(doc: &[u8], i: usize, pool: &mut [u64], w: usize, n: usize) ->
     }
     if is_plain_ascii(b) {
         pool::put_byte(pool, 8 * w + n, b);
-        return Piece::Went {
+        return Ok(Piece {
             next: i + 1,
             length: n + 1,
             cost: 1,
-        };
+        });
     }
     read_wides(doc, i, pool, w, n)
 }

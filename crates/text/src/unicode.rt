@@ -5,128 +5,92 @@ ghost use Rattle.definitions.specs.Text.{Inside};
 ghost use Rattle.definitions.specs.Utf8.{encode};
 ghost use Rattle.text.specs.TextParts.{hex_value, fits_as, ReadsDigits, ReadsCode};
 
-// A number that digits name, and the place behind them; or where they break off.
+// A number that digits name, and the place behind them.
 #[derive(Clone, Copy)]
-pub enum Code {
-    Read { value: usize, next: usize },
-    Wrong { place: usize },
+pub struct Code {
+    pub value: usize,
+    pub next: usize,
 }
 
-// The byte at place i; past the end, 256.
+// The byte at place i; past the end 256, which is no byte, so that one test finds a wrong byte and none: an Option is no plainer here.
 pub fn peek(doc: &[u8], i: usize) -> usize
     ensures read { result ≡ get_or doc.now i 256 }
 {
     if i < doc.len() { doc[i] as usize } else { 256 }
 }
 
-// The value of a hexadecimal digit; of anything else, 16.
-fn hex_value(b: usize) -> usize
+// The value of a hexadecimal digit.
+fn hex_value(b: usize) -> Option<usize>
     ensures valued { result ≡ hex_value b }
 {
-    if b < 48 {
-        return 16;
+    match b {
+        0x30..=0x39 => Some(b - 48),
+        0x41..=0x46 => Some(b - 55),
+        0x61..=0x66 => Some(b - 87),
+        _ => None,
     }
-    if b <= 57 {
-        return b - 48;
-    }
-    if b < 65 {
-        return 16;
-    }
-    if b <= 70 {
-        return b - 55;
-    }
-    if b < 97 {
-        return 16;
-    }
-    if b <= 102 {
-        return b - 87;
-    }
-    16
 }
 
 // Whether digit d may come behind n digits of value c: no low surrogate by itself, and behind a high one nothing else.
 fn digit_fits(low: bool, n: usize, c: usize, d: usize) -> bool
     ensures judged { result ≡ fits_as low n c d }
 {
-    if n == 0 {
-        if low {
-            return d == 0xD;
-        }
-        return true;
+    match (low, n) {
+        (true, 0) => d == 0xD,
+        (true, 1) => 0xC <= d,
+        (false, 1) => c != 0xD || d < 0xC,
+        _ => true,
     }
-    if n == 1 {
-        if low {
-            return 0xC <= d;
-        }
-        if c == 0xD {
-            return d < 0xC;
-        }
-        return true;
-    }
-    true
 }
 
 // Four digits from place at on, of a low surrogate behind a high one or not.
-fn read_digits(doc: &[u8], at: usize, low: bool) -> Code
+fn read_digits(doc: &[u8], at: usize, low: bool) -> Result<Code, usize>
     requires { at ≤ length doc.now }
     ensures read { ReadsDigits doc.now at low result }
 {
-    let mut n: usize = 0;
     let mut c: usize = 0;
-    while n < 4 {
-        let d = hex_value(peek(doc, at + n));
-        if 15 < d {
-            return Code::Wrong { place: at + n };
+    for n in 0..4 {
+        let Some(d) = hex_value(peek(doc, at + n)) else {
+            return Err(at + n);
+        };
+        if !digit_fits(low, n, c, d) {
+            return Err(at + n);
         }
-        if digit_fits(low, n, c, d) {
-            c = c * 16 + d;
-            n += 1;
-        } else {
-            return Code::Wrong { place: at + n };
-        }
+        c = c * 16 + d;
     }
-    Code::Read {
+    Ok(Code {
         value: c,
         next: at + 4,
-    }
+    })
 }
 
 // The low surrogate's escape, which must come at place at, behind a high one.
-fn read_low(doc: &[u8], at: usize, high: usize) -> Code
+fn read_low(doc: &[u8], at: usize, high: usize) -> Result<Code, usize>
     requires { (at ≤ length doc.now) × (0xD800 ≤ high) × (high ≤ 0xDBFF) }
     ensures read { ReadsCode doc.now (Inside.pair high) at result }
 {
     if peek(doc, at) != 0x5C {
-        return Code::Wrong { place: at };
+        return Err(at);
     }
     if peek(doc, at + 1) != 0x75 {
-        return Code::Wrong { place: at + 1 };
+        return Err(at + 1);
     }
-    match read_digits(doc, at + 2, true) {
-        Code::Read { value, next } => Code::Read {
-            value: 0x10000 + (high - 0xD800) * 0x400 + (value - 0xDC00),
-            next,
-        },
-        Code::Wrong { place } => Code::Wrong { place },
-    }
+    let low = read_digits(doc, at + 2, true)?;
+    Ok(Code {
+        value: 0x10000 + (high - 0xD800) * 0x400 + (low.value - 0xDC00),
+        next: low.next,
+    })
 }
 
 // The character that an escape names, or a pair of escapes, from behind its `\u` on.
-pub fn read_unicode(doc: &[u8], at: usize) -> Code
+pub fn read_unicode(doc: &[u8], at: usize) -> Result<Code, usize>
     requires { at ≤ length doc.now }
     ensures read { ReadsCode doc.now (Inside.digits none 0 0) at result }
 {
-    match read_digits(doc, at, false) {
-        Code::Read { value, next } => {
-            if value < 0xD800 {
-                return Code::Read { value, next };
-            }
-            if 0xDBFF < value {
-                return Code::Read { value, next };
-            }
-            read_low(doc, next, value)
-        }
-        Code::Wrong { place } => Code::Wrong { place },
+    let code = read_digits(doc, at, false)?;
+    match code.value {
+        0xD800..=0xDBFF => read_low(doc, code.next, code.value),
+        _ => Ok(code),
     }
 }
 
@@ -134,13 +98,12 @@ pub fn read_unicode(doc: &[u8], at: usize) -> Code
 pub fn encoded_length(c: usize) -> usize
     ensures counted { result ≡ length (encode c) }
 {
-    if c < 0x80 {
-        return 1;
+    match c {
+        0..=0x7F => 1,
+        0x80..=0x7FF => 2,
+        0x800..=0xFFFF => 3,
+        _ => 4,
     }
-    if c < 0x800 {
-        return 2;
-    }
-    if c < 0x10000 { 3 } else { 4 }
 }
 
 // The bytes of a character, with zeros behind them.

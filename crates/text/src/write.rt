@@ -6,20 +6,16 @@ ghost use Rattle.text.specs.Writes.{Writes};
 
 use super::bare::{is_bare, starts_bare};
 use super::escape::{cost, write_byte};
-use super::store::{store_eight, store_front};
+use super::store::{store, store_front};
 
 // How long the first n bytes of a word are in plain JSON.
 fn word_length(word: u64, n: usize) -> usize
     requires { (n ≤ 8) × (length (escaped_all (take n (unpacked word))) < 2 ^ 64) }
     ensures counted { result ≡ length (escaped_all (take n (unpacked word))) }
 {
-    let mut x = word;
     let mut written: usize = 0;
-    let mut i: usize = 0;
-    while i < n {
-        written += cost((x >> 56) as u8);
-        x = x << 8;
-        i += 1;
+    for &b in &word.to_be_bytes()[..n] {
+        written += cost(b);
     }
     written
 }
@@ -51,13 +47,9 @@ fn write_word(out: &mut [u8], at: usize, word: u64, n: usize) -> usize
     requires { (n ≤ 8) × (at + length (escaped_all (take n (unpacked word))) ≤ length out.old) }
     ensures written { Writes out.old out.new at (escaped_all (take n (unpacked word))) result }
 {
-    let mut x = word;
     let mut j = at;
-    let mut i: usize = 0;
-    while i < n {
-        j = write_byte(out, j, (x >> 56) as u8);
-        x = x << 8;
-        i += 1;
+    for &b in &word.to_be_bytes()[..n] {
+        j = write_byte(out, j, b);
     }
     j
 }
@@ -68,7 +60,7 @@ fn write_whole(out: &mut [u8], at: usize, x: u64) -> usize
     ensures written { Writes out.old out.new at (escaped_all (unpacked x)) result }
 {
     if is_bare(x) {
-        return store_eight(out, at, x);
+        return store::<8>(out, at, x);
     }
     write_word(out, at, x, 8)
 }
@@ -79,17 +71,15 @@ fn write_mixed(out: &mut [u8], at: usize, pool: &[u64], w: usize, n: usize) -> u
     ensures written { Writes out.old out.new at (escaped_all (text_in pool.now w n)) result }
 {
     let mut j = at;
-    let mut k = w;
-    let mut left = n;
-    while 8 <= left {
-        j = write_whole(out, j, pool[k]);
-        k += 1;
-        left -= 8;
+    let full = w + n / 8;
+    for &x in &pool[w..full] {
+        j = write_whole(out, j, x);
     }
+    let left = n % 8;
     if left == 0 {
         return j;
     }
-    write_word(out, j, pool[k], left)
+    write_word(out, j, pool[full], left)
 }
 
 // Writes the last bytes of a text, which do not fill a word.
@@ -115,12 +105,13 @@ pub fn write_inside(out: &mut [u8], at: usize, pool: &[u64], w: usize, n: usize)
     let mut j = at;
     let mut k = w;
     let mut left = n;
+    // tuned, eight bytes at a time: the loop stays by hand
     while 8 <= left {
         let x = pool[k];
         if !is_bare(x) {
             return write_mixed(out, j, pool, k, left);
         }
-        j = store_eight(out, j, x);
+        j = store::<8>(out, j, x);
         k += 1;
         left -= 8;
     }

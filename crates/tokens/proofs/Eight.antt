@@ -1,7 +1,7 @@
 -- Eight bytes of a text, told by their number. Assumes nothing.
 use Prim.Native.Nat.{ℕ, suc, ◌+◌, ◌*◌, ◌%◌, ◌^◌, ◌≤◌, ◌<◌}
 use mathlib.Core.Path.{◌≡◌, refl, sym, ap, ap₂, ◌∙◌, subst}
-use mathlib.Core.Bool.{Bool, false}
+use mathlib.Core.Bool.{Bool}
 use mathlib.Core.List.{[], ◌∷◌, ◌++◌}
 use native.Mathlib.Omega.{arith}
 use lib.Arith.{digits_div, digits_mod, mod-mul}
@@ -9,7 +9,6 @@ use lib.ListN.{length, drop, get_or}
 use lib.Pow.{pow-add, pow_pos}
 use Rattle.definitions.specs.Bytes.{Bytes}
 use Rattle.definitions.specs.Tokens.{word}
-use Rattle.laws.specs.Bools.{clash}
 use Rattle.laws.specs.TokenGrammar.{WordByte}
 use Rattle.tokens.specs.TokenRead.{BorderAnswer, Found}
 use Rattle.tokens.specs.Standing.{StandsAt, low_value, EightTold, WordStands}
@@ -95,6 +94,3 @@ module _ {text : Bytes} where
             subst (λ (y : ℕ). Found text at (word w) at (at + y)) (sym k)
             (word_stands x ends (t.is w f (ap (λ (y : ℕ). r % y) (sym s) ∙ e ∙ v)) (stands_byte (omega (arith, k)) refl));
       }
-
-pub no_word_told : {text : Bytes} {at n size value : ℕ} → WordStands text at value size n false
-no_word_told = record { found = λ w f x k s v j. clash j refl }

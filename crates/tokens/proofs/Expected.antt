@@ -1,20 +1,17 @@
 -- Answers for a token of one sort that must come, and for the limits. Assumes nothing.
-use Prim.Native.Nat.{ℕ, suc, ◌+◌, ◌≤◌, ◌<◌}
-use mathlib.Core.Path.{◌≡◌, refl, sym, subst, ◌∙◌}
-use mathlib.Core.Bool.{Bool, true, false}
+use Prim.Native.Nat.{ℕ, ◌<◌}
+use mathlib.Core.Path.{◌≡◌, refl, sym, ap, ◌∙◌, subst}
 use native.Mathlib.Decide.{dec_lt}
 use native.Mathlib.Omega.{arith}
-use borrow.Author.Tests.{lt-ltb, le-ltb, eqb-true, eqb-false}
-use lib.Dec.{ltb, eqb}
 use lib.ListN.{length, get_or}
-use Rattle.definitions.specs.declared.Limits.{Limits}
-use Rattle.definitions.specs.Limits.{over}
+use Rattle.std.specs.Prelude.{Result, Ok, Err}
 use Rattle.definitions.specs.Bytes.{Bytes}
-use Rattle.laws.specs.Bools.{clash}
-use Rattle.definitions.specs.Tokens.{opening, closing}
-use Rattle.tokens.specs.TokenRead.{Skips, Found}
-use Rattle.tokens.specs.Expecting.{Sort, Lacks, another, none_left, MoreAt, JudgesFull}
-use Rattle.tokens.proofs.Borders.{first_is, first_other}
+use mathlib.Core.List.{◌∷◌}
+use Rattle.definitions.specs.Tokens.{at_place}
+use Rattle.reading.specs.declared.Cause.TheVariants.{FormSyntax}
+use Rattle.reading.specs.declared.Refusal.{Refusal}
+use Rattle.tokens.specs.TokenRead.{Skips}
+use Rattle.tokens.specs.Expecting.{Sort, an_opening, a_closing, a_text, Lacks, another, none_left, Misses, MoreAt, StandsNext, ExpectsOpening, ExpectsClosing}
 use Rattle.tokens.proofs.Lexing.{ByteOf, standing, found_end, found_opening, found_closing}
 
 -- ---- what stands there
@@ -30,45 +27,33 @@ lacks {text} {at} {r} k s h = pick (dec_lt r (length text))
         another x.token x.others x.run (λ e. h l (subst (λ (j : Sort). ByteOf j (get_or text r 0)) e x.byte))
     pick (no l) = none_left (found_end s (omega arith)) (omega (arith, s.within))
 
--- b is the byte that stands there; at the end, 256
-module _ {text : Bytes} {at r b : ℕ} (s : Skips text at r) (e : b ≡ get_or text r 256) where
-  pub first_opening : b ≡ 0x28 → Found text at opening r (r + 1)
-  first_opening i = let (l, q) = first_is text r (omega arith) (sym e ∙ i) in found_opening s l q
+-- the refusal there
+pub misses_at
+    : {k : Sort} {text : Bytes} {at place : ℕ} {r : Refusal} → Lacks k text at place → r.place ≡ place → r.cause ≡ FormSyntax → Misses k text at r
+misses_at {k} {text} {at} l e f = record { lacks = subst (Lacks k text at) (sym e) l; cause = f }
 
-  pub first_closing : b ≡ 0x29 → Found text at closing r (r + 1)
-  first_closing i = let (l, q) = first_is text r (omega arith) (sym e ∙ i) in found_closing s l q
+pub misses
+    : {text : Bytes} {at place : ℕ} {r : Refusal} (k : Sort) → Skips text at place
+    → (place < length text → ByteOf k (get_or text place 0) → ⊥) → r.place ≡ place → r.cause ≡ FormSyntax → Misses k text at r
+misses k s h = misses_at (lacks k s h)
 
-  pub first_quote : b ≡ 0x22 → (r < length text) × (get_or text r 0 ≡ 0x22)
-  first_quote i = first_is text r (omega arith) (sym e ∙ i)
+-- the one byte that a token of a sort begins with
+module _ {text : Bytes} {at : ℕ} where
+  pub next_opening : (r : Result ℕ Refusal) → StandsNext text at 0x28 r → ExpectsOpening text at r
+  next_opening (Ok place) s = let (k, l, e) = s.answer in record { answer = found_opening k l e }
+  next_opening (Err r) s = let (k, n, e) = s.answer in record { answer = misses an_opening k n refl e }
 
-  -- no token of a sort that begins with another
-  pub lacks_first : (k : Sort) (x : ℕ) → ((y : ℕ) → ByteOf k y → y ≡ x) → (b ≡ x → ⊥) → Lacks k text at r
-  lacks_first k x f n = lacks k s (λ l i. first_other text r (λ q. n (e ∙ q)) l (f (get_or text r 0) i))
+  pub next_closing : (r : Result ℕ Refusal) → StandsNext text at 0x29 r → ExpectsClosing text at r
+  next_closing (Ok place) s = let (k, l, e) = s.answer in record { answer = found_closing k l e }
+  next_closing (Err r) s = let (k, n, e) = s.answer in record { answer = misses a_closing k n refl e }
+
+  pub no_text_next : {r : Refusal} → StandsNext text at 0x22 (Err r) → Misses a_text text at r
+  no_text_next s = let (k, n, e) = s.answer in misses a_text k n refl e
 
 -- any token
-pub more_at : {text : Bytes} {at r : ℕ} → Skips text at r → r < length text → MoreAt text at r
-more_at s l = let x = standing s l in record { token = x.token; others = x.others; run = x.run }
-
--- ---- limits
-
-module _ (l : Limits) (d left : ℕ) {values : ℕ} (n : ℕ) (most : l.values ≡ values) (nests : d + left ≡ l.nesting) where
-  -- below the limit of values the nesting decides
-  full_nesting : n < values → eqb left 0 ≡ over l (suc n) (suc d)
-  full_nesting h = rw (le-ltb l.values (suc n) (omega (arith, most))) (pick (eqb left 0) refl)
-    where
-      pick : (t : Bool) → eqb left 0 ≡ t → t ≡ ltb l.nesting (suc d)
-      pick true e = sym (lt-ltb l.nesting (suc d) (omega (arith, eqb-true left 0 e, nests)))
-      pick false e = sym (le-ltb l.nesting (suc d) (let k : left ≡ 0 → ⊥ = eqb-false left 0 e in omega (arith, nests)))
-
-  full_values : values ≤ n → true ≡ over l (suc n) (suc d)
-  full_values h = rw (lt-ltb l.values (suc n) (omega (arith, most)))
-
-pub judges_nesting : {values left begun : ℕ} → begun < values → JudgesFull values left begun (eqb left 0)
-judges_nesting {left} {begun} h =
-    record {
-      judged = λ l d m k. full_nesting l d left begun m k h;
-      within = λ e. (h, let k : left ≡ 0 → ⊥ = eqb-false left 0 e in omega arith);
-    }
-
-pub judges_values : {values begun : ℕ} (left : ℕ) → values ≤ begun → JudgesFull values left begun true
-judges_values {begun} left h = record { judged = λ l d m k. full_values l d left begun m k h; within = λ e. clash refl e }
+pub more_at
+    : {text : Bytes} {at place : ℕ} {r : Refusal} → Skips text at place → place < length text → r.place ≡ place → r.cause ≡ FormSyntax
+    → MoreAt text at r
+more_at {text} {at} s l e f =
+    let x = standing s l in
+    record { token = x.token; others = x.others; run = x.run ∙ ap (λ (p : ℕ). at_place p x.token ∷ x.others) (sym e); cause = f }

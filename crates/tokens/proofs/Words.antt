@@ -9,6 +9,7 @@ use native.Mathlib.Omega.{arith}
 use lib.ListN.{length, take, drop, get_or, length-drop}
 use lib.Pow.{pow-lt, pow-add}
 use lib.Seq.{length-take-le, take-suc, get_or-drop}
+use Rattle.std.proofs.lemmas.List.{get_or-take}
 use Rattle.definitions.specs.Bytes.{Bytes, same}
 use Rattle.laws.specs.Bools.{and_two}
 use Rattle.laws.specs.Names.{same_eq}
@@ -86,6 +87,20 @@ joins_on {text} {at} {i} {x} s h b =
         ∙ take-suc (drop at text) i 0 (omega (arith, length-drop at text))
         ∙ ap (λ (k : ℕ). take i (drop at text) ++ k ∷ []) (get_or-drop at text i 0)
 
+module _ (text : Bytes) (at end : ℕ) (ordered : at ≤ end) (within : end ≤ length text) where
+  pub length_in : length (take (end - at) (drop at text)) ≡ end - at
+  length_in = length-take-le (end - at) (drop at text) (omega (arith, length-drop at text))
+
+  -- the next byte between two places
+  pub joins_in
+      : {i x : ℕ} → ((k : ℕ) → get_or text k 0 < 256) → Joins text at i x → i < length (take (end - at) (drop at text))
+      → Joins text at (i + 1) (x * 256 + get_or (take (end - at) (drop at text)) i 0)
+  joins_in {i} {x} b s h =
+      let l : i < end - at = omega (arith, length_in) in
+      let e : get_or (take (end - at) (drop at text)) i 0 ≡ get_or text (at + i) 0 =
+      get_or-take (end - at) (drop at text) i 0 l ∙ get_or-drop at text i 0 in
+      subst (λ (k : ℕ). Joins text at (i + 1) (x * 256 + k)) (sym e) (joins_on s (omega (arith, length_in)) (b (at + i)))
+
 pow_le : (i j : ℕ) → i ≤ j → 2 ^ i ≤ 2 ^ j
 pow_le i j h = pick (dec_lt i j)
   where
@@ -102,7 +117,7 @@ joins_small {i} n s h = let k : 2 ^ (8 * i) ≤ 2 ^ (8 * n) = pow_le (8 * i) (8 
 module _ (text : Bytes) (at end : ℕ) (ordered : at ≤ end) (within : end ≤ length text) where
   length_word_in : length (word_in text at end) ≡ end - at
   unfolding word_in
-  length_word_in = length-take-le (end - at) (drop at text) (omega (arith, length-drop at text))
+  length_word_in = length_in text at end ordered within
 
   -- of a long word
   pub long_told : 7 < end - at → WordTold (word_in text at end) 8

@@ -1,20 +1,16 @@
 -- What the functions answer that expect a token of one sort. Assumes nothing.
-use Rattle.std.specs.Prelude.{ℕ, suc, ◌+◌, ◌*◌, ◌≤◌, ◌<◌, ◌≡◌, Bool, false, List, [], ◌∷◌, length, take}
+use Rattle.std.specs.Prelude.{ℕ, suc, ◌+◌, ◌*◌, ◌≤◌, ◌<◌, ◌≡◌, Bool, false, Result, Ok, Err, List, [], ◌∷◌, length, take, get_or}
 use Rattle.definitions.specs.declared.Limits.{Limits}
 use Rattle.definitions.specs.Limits.{over}
 use Rattle.definitions.specs.Bytes.{Bytes}
 use Rattle.definitions.specs.Tokens.{Token, opening, closing, quoted, word, broken, at_place, Placed}
-use Rattle.tokens.specs.TokenRead.{tokens_from, Found, FoundText, word_in}
+use Rattle.tokens.specs.TokenRead.{tokens_from, Skips, Found, FoundText, word_in}
+use Rattle.reading.specs.declared.Cause.TheVariants.{FormSyntax}
+use Rattle.reading.specs.declared.Refusal.{Refusal}
 use Rattle.tokens.specs.declared.expect.Bracket.{Bracket}
 use Rattle.tokens.specs.declared.expect.Bracket.TheVariants as BracketIs
-use Rattle.tokens.specs.declared.expect.Brackets.{Brackets}
-use Rattle.tokens.specs.declared.expect.Brackets.TheVariants as BracketsAre
-use Rattle.tokens.specs.declared.expect.Spelled.{Spelled}
-use Rattle.tokens.specs.declared.expect.Spelled.TheVariants as SpelledIs
-use Rattle.tokens.specs.declared.expect.Quotation.{Quotation}
-use Rattle.tokens.specs.declared.expect.Quotation.TheVariants as QuotationIs
-use Rattle.tokens.specs.declared.expect.Ending.{Ending}
-use Rattle.tokens.specs.declared.expect.Ending.TheVariants as EndingIs
+use Rattle.tokens.specs.declared.expect.Span.{Span}
+use Rattle.tokens.specs.declared.expect.Quoted.{Quoted}
 
 -- ---- what stands there
 
@@ -47,57 +43,73 @@ pub record TextPlaced (text : Bytes) (pool : List ℕ) (at top : ℕ) : Type 0 w
   pub texts : 8 * top + length text ≤ 8 * length pool + at + 1
   pub small : 8 * top + length text < 524288 + at
 
+-- ---- bytes
+
+-- a byte behind white space, or the place where white space ends before another or before the end
+abbrev pub NextAnswer : Bytes → (at b : ℕ) → Result ℕ Refusal → Type 0
+NextAnswer text at b (Ok place) = Skips text at place × (place < length text) × (get_or text place 0 ≡ b)
+NextAnswer text at b (Err r) = Skips text at r.place × (r.place < length text → get_or text r.place 0 ≡ b → ⊥) × (r.cause ≡ FormSyntax)
+
+pub record StandsNext (text : Bytes) (at b : ℕ) (r : Result ℕ Refusal) : Type 0 where
+  pub answer : NextAnswer text at b r
+
 -- ---- brackets
 
-abbrev pub BracketAnswer : Sort → Token → Bytes → ℕ → Bracket → Type 0
-BracketAnswer k t text at (BracketIs.At place) = Found text at t place (place + 1)
-BracketAnswer k t text at (BracketIs.Missing place) = Lacks k text at place
+-- no token of this sort comes, which refuses the form at the place of what stands there instead
+pub record Misses (k : Sort) (text : Bytes) (at : ℕ) (r : Refusal) : Type 0 where
+  pub lacks : Lacks k text at r.place
+  pub cause : r.cause ≡ FormSyntax
 
-pub record ExpectsOpening (text : Bytes) (at : ℕ) (r : Bracket) : Type 0 where
+abbrev pub BracketAnswer : Sort → Token → Bytes → ℕ → Result ℕ Refusal → Type 0
+BracketAnswer k t text at (Ok place) = Found text at t place (place + 1)
+BracketAnswer k t text at (Err r) = Misses k text at r
+
+pub record ExpectsOpening (text : Bytes) (at : ℕ) (r : Result ℕ Refusal) : Type 0 where
   pub answer : BracketAnswer an_opening opening text at r
 
-pub record ExpectsClosing (text : Bytes) (at : ℕ) (r : Bracket) : Type 0 where
+pub record ExpectsClosing (text : Bytes) (at : ℕ) (r : Result ℕ Refusal) : Type 0 where
   pub answer : BracketAnswer a_closing closing text at r
 
-abbrev pub BracketsAnswer : Bytes → ℕ → Brackets → Type 0
-BracketsAnswer text at (BracketsAre.Opening place) = Found text at opening place (place + 1)
-BracketsAnswer text at (BracketsAre.Closing place) = Found text at closing place (place + 1)
-BracketsAnswer text at (BracketsAre.Missing place) = Lacks an_opening text at place × Lacks a_closing text at place
+abbrev pub BracketsAnswer : Bytes → ℕ → Result Bracket Refusal → Type 0
+BracketsAnswer text at (Ok (BracketIs.Opening place)) = Found text at opening place (place + 1)
+BracketsAnswer text at (Ok (BracketIs.Closing place)) = Found text at closing place (place + 1)
+BracketsAnswer text at (Err r) = Misses an_opening text at r × Misses a_closing text at r
 
 -- a bracket of either sort
-pub record ExpectsBracket (text : Bytes) (at : ℕ) (r : Brackets) : Type 0 where
+pub record ExpectsBracket (text : Bytes) (at : ℕ) (r : Result Bracket Refusal) : Type 0 where
   pub answer : BracketsAnswer text at r
 
 -- ---- words and texts
 
-abbrev pub WordAnswer : Bytes → ℕ → Spelled → Type 0
-WordAnswer text at (SpelledIs.At place end) = Found text at (word (word_in text place end)) place end
-WordAnswer text at (SpelledIs.Missing place) = Lacks a_word text at place
+abbrev pub WordAnswer : Bytes → ℕ → Result Span Refusal → Type 0
+WordAnswer text at (Ok s) = Found text at (word (word_in text s.place s.end)) s.place s.end
+WordAnswer text at (Err r) = Misses a_word text at r
 
-pub record ExpectsWord (text : Bytes) (at : ℕ) (r : Spelled) : Type 0 where
+pub record ExpectsWord (text : Bytes) (at : ℕ) (r : Result Span Refusal) : Type 0 where
   pub answer : WordAnswer text at r
 
-abbrev pub QuotedAnswer : Bytes → ℕ → List ℕ → ℕ → Quotation → Type 0
-QuotedAnswer text at p w (QuotationIs.At place end n) = FoundText text at p w place end n
-QuotedAnswer text at p w (QuotationIs.Missing place) = Lacks a_text text at place
+abbrev pub QuotedAnswer : Bytes → ℕ → List ℕ → ℕ → Result Quoted Refusal → Type 0
+QuotedAnswer text at p w (Ok q) = FoundText text at p w q.place q.end q.bytes
+QuotedAnswer text at p w (Err r) = Misses a_text text at r
 
-pub record ExpectsText (text : Bytes) (at : ℕ) (p p' : List ℕ) (w : ℕ) (r : Quotation) : Type 0 where
+pub record ExpectsText (text : Bytes) (at : ℕ) (p p' : List ℕ) (w : ℕ) (r : Result Quoted Refusal) : Type 0 where
   pub answer : QuotedAnswer text at p' w r
   pub kept : Kept p p' w
 
 -- ---- the end
 
--- a token comes at a place
-pub record MoreAt (text : Bytes) (at place : ℕ) : Type 0 where
+-- a token comes at a place, which refuses the form
+pub record MoreAt (text : Bytes) (at : ℕ) (r : Refusal) : Type 0 where
   pub token : Token
   pub others : List Placed
-  pub run : tokens_from text at ≡ at_place place token ∷ others
+  pub run : tokens_from text at ≡ at_place r.place token ∷ others
+  pub cause : r.cause ≡ FormSyntax
 
-abbrev pub EndAnswer : Bytes → ℕ → Ending → Type 0
-EndAnswer text at EndingIs.Whole = tokens_from text at ≡ []
-EndAnswer text at (EndingIs.More place) = MoreAt text at place
+abbrev pub EndAnswer : Bytes → ℕ → Result (Unit {0}) Refusal → Type 0
+EndAnswer text at (Ok u) = tokens_from text at ≡ []
+EndAnswer text at (Err r) = MoreAt text at r
 
-pub record ExpectsEnd (text : Bytes) (at : ℕ) (r : Ending) : Type 0 where
+pub record ExpectsEnd (text : Bytes) (at : ℕ) (r : Result (Unit {0}) Refusal) : Type 0 where
   pub answer : EndAnswer text at r
 
 -- ---- limits

@@ -10,8 +10,18 @@ use Rattle.definitions.specs.Bytes.{Bytes}
 use Rattle.definitions.specs.Outcome.{Outcome, refused}
 use Rattle.definitions.specs.Tokens.{Token, opening, closing, quoted, word, broken, at_place, Placed, Step, misplaced, go, opens, want_open}
 use Rattle.definitions.specs.Tokens.{want_close, want_text, want_word, judge_step, or_end, read_tokens}
+use Rattle.reading.specs.declared.Cause.{Cause}
+use Rattle.reading.specs.declared.Cause.TheVariants.{FormSyntax}
+use Rattle.reading.specs.declared.Refusal.{Refusal}
+use Rattle.reading.specs.Refusals.{number_of, refused_as}
 use Rattle.tokens.specs.TokenRead.{tokens_from, Found}
-use Rattle.tokens.specs.Expecting.{Sort, an_opening, a_closing, a_text, a_word, sort, Lacks, another, none_left, TextPlaced, MoreAt}
+use Rattle.tokens.specs.Expecting.{Sort, an_opening, a_closing, a_text, a_word, sort, Lacks, another, none_left, Misses, TextPlaced, MoreAt}
+
+-- ---- refusals
+
+-- one for what may not stand there
+pub as_misplaced : {A : Type 0} {r : Refusal} {place : ℕ} → r.place ≡ place → r.cause ≡ FormSyntax → refused 7 place ≡ refused_as {A = A} r
+as_misplaced {r} e f = ap (refused 7) (sym e) ∙ ap (λ (c : Cause). refused (number_of c) r.place) (sym f)
 
 -- ---- one token
 
@@ -74,24 +84,35 @@ module _ {Q A : Type 0} (step : Q → Placed → Step Q) (whole : Q → Option A
   unfolding judge_step
   misplaced_found q f e = found_step q f ∙ rw e
 
-  -- none of the one sort that may
-  pub lacking
+  lacking_at
       : (q : Q) (k : Sort) {place : ℕ} → Lacks k text at place → whole q ≡ none
       → ((t : Token) (p : ℕ) → (sort t ≡ k → ⊥) → step q (at_place p t) ≡ misplaced) → reads step whole l text n q at ≡ refused 7 place
-  lacking q k {place} (another t ts e h) w m = misplaced_next step whole l n text at q place t ts e (m t place h)
-  lacking q k (none_left e i) w m = none_there step whole l n text at q e i w
+  lacking_at q k {place} (another t ts e h) w m = misplaced_next step whole l n text at q place t ts e (m t place h)
+  lacking_at q k (none_left e i) w m = none_there step whole l n text at q e i w
 
-  -- neither bracket, where both may
-  pub lacking_both
+  -- none of the one sort that may
+  pub lacking
+      : (q : Q) (k : Sort) {r : Refusal} → Misses k text at r → whole q ≡ none
+      → ((t : Token) (p : ℕ) → (sort t ≡ k → ⊥) → step q (at_place p t) ≡ misplaced) → reads step whole l text n q at ≡ refused_as r
+  lacking q k {r} x w m = lacking_at q k x.lacks w m ∙ as_misplaced refl x.cause
+
+  lacking_both_at
       : (q : Q) {place : ℕ} → Lacks an_opening text at place → Lacks a_closing text at place → whole q ≡ none
       → ((t : Token) (p : ℕ) → (sort t ≡ an_opening → ⊥) → (sort t ≡ a_closing → ⊥) → step q (at_place p t) ≡ misplaced)
       → reads step whole l text n q at ≡ refused 7 place
   unfolding at_place
-  lacking_both q {place} (another t ts e h) (another u us f i) w m =
+  lacking_both_at q {place} (another t ts e h) (another u us f i) w m =
       let same : t ≡ u = ap (λ (x : Placed). x.token) (head-eq_of_cons-eq (sym e ∙ f)) in
       misplaced_next step whole l n text at q place t ts e (m t place h (λ j. i (ap sort (sym same) ∙ j)))
-  lacking_both q (another t ts e h) (none_left f i) w m = absurd (nil≢cons (sym f ∙ e))
-  lacking_both q (none_left e i) k w m = none_there step whole l n text at q e i w
+  lacking_both_at q (another t ts e h) (none_left f i) w m = absurd (nil≢cons (sym f ∙ e))
+  lacking_both_at q (none_left e i) k w m = none_there step whole l n text at q e i w
+
+  -- neither bracket, where both may
+  pub lacking_both
+      : (q : Q) {r : Refusal} → Misses an_opening text at r → Misses a_closing text at r → whole q ≡ none
+      → ((t : Token) (p : ℕ) → (sort t ≡ an_opening → ⊥) → (sort t ≡ a_closing → ⊥) → step q (at_place p t) ≡ misplaced)
+      → reads step whole l text n q at ≡ refused_as r
+  lacking_both q {r} x y w m = lacking_both_at q x.lacks y.lacks w m ∙ as_misplaced refl x.cause
 
   -- another token than of one sort, which does the same in two states
   pub same_lacking
@@ -110,8 +131,9 @@ module _ {Q A : Type 0} (step : Q → Placed → Step Q) (whole : Q → Option A
 
   -- any, behind the whole text
   pub more_text
-      : (q : Q) {place : ℕ} → MoreAt text at place → ((t : Placed) → step q t ≡ misplaced) → reads step whole l text n q at ≡ refused 7 place
-  more_text q {place} x m = misplaced_next step whole l n text at q place x.token x.others x.run (m (at_place place x.token))
+      : (q : Q) {r : Refusal} → MoreAt text at r → ((t : Placed) → step q t ≡ misplaced) → reads step whole l text n q at ≡ refused_as r
+  more_text q {r} x m =
+      misplaced_next step whole l n text at q r.place x.token x.others x.run (m (at_place r.place x.token)) ∙ as_misplaced refl x.cause
 
 -- ---- tokens of another sort
 

@@ -1,139 +1,128 @@
-// A token of one sort that must come, or the place of what stands there instead.
-ghost use Rattle.std.specs.Prelude.{◌+◌, ◌-◌, ◌≤◌, length};
+// A token of one sort that must come, or the refusal at the place of what stands there instead.
+ghost use Rattle.std.specs.Prelude.{◌≡◌, ◌+◌, ◌-◌, ◌≤◌, length};
 ghost use Rattle.pool.specs.Pool.{words};
-ghost use Rattle.tokens.specs.Expecting.{ExpectsOpening, ExpectsClosing, ExpectsBracket, ExpectsWord, ExpectsText, ExpectsEnd, JudgesFull};
+ghost use Rattle.reading.specs.declared.Cause.TheVariants as cause;
+ghost use Rattle.tokens.specs.Expecting.{StandsNext, ExpectsOpening, ExpectsClosing, ExpectsBracket, ExpectsWord, ExpectsText, ExpectsEnd, JudgesFull};
 
-use crate::{first_byte, skip_space, word_end};
-use text::TextRead;
+use crate::{skip_space, word_end};
+use reading::{Cause, Refusal};
 
-#[derive(Clone, Copy)]
-pub enum Bracket {
-    At { place: usize },
-    Missing { place: usize },
+// What no right text has at a place.
+pub fn misplaced(place: usize) -> Refusal
+    ensures cause { result.cause ≡ cause.FormSyntax }
+    ensures place { result.place ≡ place }
+{
+    Refusal {
+        cause: Cause::FormSyntax,
+        place,
+    }
+}
+
+// The byte b behind white space.
+fn next_byte(text: &[u8], at: usize, b: u8) -> Result<usize, Refusal>
+    requires { at ≤ length text.now }
+    ensures stands { StandsNext text.now at b result }
+{
+    let place = skip_space(text, at);
+    if text.get(place) == Some(&b) {
+        Ok(place)
+    } else {
+        Err(misplaced(place))
+    }
 }
 
 // An opening bracket.
-pub fn next_opening(text: &[u8], at: usize) -> Bracket
+#[tactic(auto, using(crate::proofs::Expected::next_opening))]
+pub fn next_opening(text: &[u8], at: usize) -> Result<usize, Refusal>
     requires { at ≤ length text.now }
     ensures read { ExpectsOpening text.now at result }
 {
-    let place = skip_space(text, at);
-    if first_byte(text, place) == 0x28 {
-        Bracket::At { place }
-    } else {
-        Bracket::Missing { place }
-    }
+    next_byte(text, at, b'(')
 }
 
 // A closing bracket.
-pub fn next_closing(text: &[u8], at: usize) -> Bracket
+#[tactic(auto, using(crate::proofs::Expected::next_closing))]
+pub fn next_closing(text: &[u8], at: usize) -> Result<usize, Refusal>
     requires { at ≤ length text.now }
     ensures read { ExpectsClosing text.now at result }
 {
-    let place = skip_space(text, at);
-    if first_byte(text, place) == 0x29 {
-        Bracket::At { place }
-    } else {
-        Bracket::Missing { place }
-    }
+    next_byte(text, at, b')')
 }
 
 #[derive(Clone, Copy)]
-pub enum Brackets {
+pub enum Bracket {
     Opening { place: usize },
     Closing { place: usize },
-    Missing { place: usize },
 }
 
 // A bracket of either sort.
-pub fn next_bracket(text: &[u8], at: usize) -> Brackets
+pub fn next_bracket(text: &[u8], at: usize) -> Result<Bracket, Refusal>
     requires { at ≤ length text.now }
     ensures read { ExpectsBracket text.now at result }
 {
     let place = skip_space(text, at);
-    let b = first_byte(text, place);
-    if b == 0x28 {
-        return Brackets::Opening { place };
+    match text.get(place) {
+        Some(b'(') => Ok(Bracket::Opening { place }),
+        Some(b')') => Ok(Bracket::Closing { place }),
+        _ => Err(misplaced(place)),
     }
-    if b == 0x29 {
-        return Brackets::Closing { place };
-    }
-    Brackets::Missing { place }
 }
 
+// A word or number, up to an end.
 #[derive(Clone, Copy)]
-pub enum Spelled {
-    // up to an end
-    At { place: usize, end: usize },
-    Missing { place: usize },
+pub struct Span {
+    pub place: usize,
+    pub end: usize,
 }
 
 // A word or number.
-pub fn next_word(text: &[u8], at: usize) -> Spelled
+pub fn next_word(text: &[u8], at: usize) -> Result<Span, Refusal>
     requires { at ≤ length text.now }
     ensures read { ExpectsWord text.now at result }
 {
     let place = skip_space(text, at);
     let end = word_end(text, place);
     if place < end {
-        Spelled::At { place, end }
+        Ok(Span { place, end })
     } else {
-        Spelled::Missing { place }
+        Err(misplaced(place))
     }
 }
 
+// A JSON text up to an end, of so many bytes decoded.
 #[derive(Clone, Copy)]
-pub enum Quotation {
-    // up to an end, of so many bytes decoded
-    At {
-        place: usize,
-        end: usize,
-        bytes: usize,
-    },
-    Missing {
-        place: usize,
-    },
+pub struct Quoted {
+    pub place: usize,
+    pub end: usize,
+    pub bytes: usize,
 }
 
 // A JSON text, which is decoded into the pool from word w on.
-pub fn next_text(text: &[u8], at: usize, pool: &mut [u64], w: usize) -> Quotation
+pub fn next_text(text: &[u8], at: usize, pool: &mut [u64], w: usize) -> Result<Quoted, Refusal>
     requires { (at ≤ length text.now) × (w + words (length text.now - at - 1) ≤ length pool.old) }
     ensures read { ExpectsText text.now at pool.old pool.new w result }
 {
-    let place = skip_space(text, at);
-    if first_byte(text, place) != 0x22 {
-        return Quotation::Missing { place };
-    }
+    let place = next_byte(text, at, b'"')?;
     match text::read_text(text, place + 1, pool, w) {
-        TextRead::Closed {
-            end,
-            length,
-            written: _,
-        } => Quotation::At {
+        Ok(read) => Ok(Quoted {
             place,
-            end,
-            bytes: length,
-        },
-        TextRead::Broken { place: _ } => Quotation::Missing { place },
+            end: read.end,
+            bytes: read.length,
+        }),
+        Err(_) => Err(misplaced(place)),
     }
-}
-
-#[derive(Clone, Copy)]
-pub enum Ending {
-    Whole,
-    More { place: usize },
 }
 
 // The end of the text.
-pub fn next_end(text: &[u8], at: usize) -> Ending
+pub fn next_end(text: &[u8], at: usize) -> Result<(), Refusal>
     requires { at ≤ length text.now }
     ensures read { ExpectsEnd text.now at result }
 {
     let place = skip_space(text, at);
     if place < text.len() {
-        Ending::More { place }
+        Err(misplaced(place))
     } else {
-        Ending::Whole
+        Ok(())
     }
 }
 
@@ -141,5 +130,5 @@ pub fn next_end(text: &[u8], at: usize) -> Ending
 pub fn is_full(values: usize, left: usize, begun: usize) -> bool
     ensures judged { JudgesFull values left begun result }
 {
-    if begun < values { left == 0 } else { true }
+    begun >= values || left == 0
 }

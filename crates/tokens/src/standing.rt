@@ -1,22 +1,8 @@
 // What stands at a place, seen eight bytes at a time.
-ghost use Rattle.std.specs.Prelude.{◌≡◌, [], ◌∷◌, ◌+◌, ◌≤◌, ◌<◌, length};
-ghost use Rattle.tokens.specs.Standing.{low_value, EightTold, WordStands};
+ghost use Rattle.std.specs.Prelude.{◌+◌, ◌≤◌, ◌<◌, length};
+ghost use Rattle.tokens.specs.Standing.{EightTold, WordStands};
 
 use crate::is_border;
-
-// Eight bytes as a number, the first in the lowest place.
-fn joined(a: u8, b: u8, c: u8, d: u8, e: u8, f: u8, g: u8, h: u8) -> u64
-    ensures joined { result ≡ low_value (a ∷ b ∷ c ∷ d ∷ e ∷ f ∷ g ∷ h ∷ []) }
-{
-    (a as u64)
-        + (b as u64) * 0x100
-        + (c as u64) * 0x10000
-        + (d as u64) * 0x1000000
-        + (e as u64) * 0x100000000
-        + (f as u64) * 0x10000000000
-        + (g as u64) * 0x1000000000000
-        + (h as u64) * 0x100000000000000
-}
 
 // The eight bytes from a place on as a number. The first is in the lowest place, so that the compiler makes one load of them, whichever
 // of them are then looked at.
@@ -24,7 +10,7 @@ pub fn eight_at(text: &[u8], at: usize) -> u64
     requires { at + 8 ≤ length text.now }
     ensures told { EightTold text.now at result }
 {
-    joined(
+    u64::from_le_bytes([
         text[at],
         text[at + 1],
         text[at + 2],
@@ -33,7 +19,7 @@ pub fn eight_at(text: &[u8], at: usize) -> u64
         text[at + 5],
         text[at + 6],
         text[at + 7],
-    )
+    ])
 }
 
 // Whether a word of n bytes stands at a place and ends there; `size` is 256 to the power of n. Where fewer than eight bytes are left it is
@@ -45,8 +31,5 @@ pub fn stands(text: &[u8], at: usize, word: u64, size: u64, n: usize) -> bool
     if text.len() - at < 8 {
         return false;
     }
-    if eight_at(text, at) % size == word {
-        return is_border(text[at + n]);
-    }
-    false
+    eight_at(text, at) % size == word && is_border(text[at + n])
 }

@@ -7,7 +7,6 @@ use Rattle.admits.proofs.Elements as elements
 use Rattle.admits.proofs.Named as named
 use Rattle.admits.proofs.Wholes.{Seen, seen, without_kind, single, leaf_told, value_ends, list_asks}
 use Rattle.admits.proofs.Wholes.{list_told, rec_asks, rec_fails, rec_told, members_within}
-use Rattle.std.proofs.Common.{ap, not}
 use Rattle.admits.proofs.+admits_admits_items_admits_listed_admits_members.Goals as goal
 
 pub admits-returns-then-not-has : goal.admits-returns-then-not-has
@@ -17,7 +16,7 @@ admits-returns-then-not-has t c =
     c.kind_bit-bit.ensures.told c.kinds.ensures.read c.has.ensures.told in
     record {
       told = without_kind c.args.shapes.now c.args.row c.args.nodes.now c.args.at c.args.pool.now
-          seen_here (ap not c.if-not-has.true);
+          seen_here c.if-not-has.true;
     }
 
 pub admits-returns-then-bit : goal.admits-returns-then-bit
@@ -27,20 +26,20 @@ admits-returns-then-bit t c =
     c.kind_bit-bit.ensures.told c.kinds.ensures.read c.has.ensures.told in
     record {
       told = single c.args.shapes.now c.args.row c.args.nodes.now c.args.at c.args.pool.now
-          seen_here (ap not c.if-not-has.false) c.if-bit.true;
+          seen_here c.if-not-has.false c.if-bit.true;
     }
 
 pub admits-overflow_add-end : goal.admits-overflow_add-end
 admits-overflow_add-end t c =
-    omega (arith, (value_ends c.requires.holds).1, c.row_size.ensures.sized, c.well_formed.1.1.0.0)
+    omega (arith, (value_ends c.requires.holds).1, c.row_size.ensures.sized)
 
 pub admits-overflow_add-row : goal.admits-overflow_add-row
 admits-overflow_add-row t c =
-    omega (arith, (held_within c.requires.held).0, (held_within c.requires.held).1, c.well_formed.0.0)
+    omega (arith, (held_within c.requires.held).0, (held_within c.requires.held).1)
 
 pub admits-overflow_add-at : goal.admits-overflow_add-at
 admits-overflow_add-at t c =
-    omega (arith, (value_ends c.requires.holds).0, (value_ends c.requires.holds).1, c.well_formed.1.1.0.0)
+    omega (arith, (value_ends c.requires.holds).0, (value_ends c.requires.holds).1)
 
 pub admits-admits_items-requires : goal.admits-admits_items-requires
 admits-admits_items-requires t c =
@@ -49,7 +48,7 @@ admits-admits_items-requires t c =
     c.kind_bit-bit.ensures.told c.kinds.ensures.read c.has.ensures.told in (
       omega (arith, c.decreases, (value_ends c.requires.holds).0, (value_ends c.requires.holds).1),
       list_asks c.args.shapes.now c.args.row c.args.nodes.now c.args.at c.args.pool.now
-          seen_here (ap not c.if-not-has.false) c.row_size.ensures.sized c.if-bit-2.true c.requires,
+          seen_here c.if-not-has.false c.row_size.ensures.sized c.if-bit-2.true c.requires,
     )
 
 pub admits-returns-then-bit-2 : goal.admits-returns-then-bit-2
@@ -59,7 +58,7 @@ admits-returns-then-bit-2 t c =
     c.kind_bit-bit.ensures.told c.kinds.ensures.read c.has.ensures.told in
     record {
       told = list_told c.args.shapes.now c.args.row c.args.nodes.now c.args.at c.args.pool.now
-          seen_here (ap not c.if-not-has.false) c.row_size.ensures.sized c.if-bit-2.true c.admits_items.ensures.told;
+          seen_here c.if-not-has.false c.row_size.ensures.sized c.if-bit-2.true c.admits_items.ensures.told;
     }
 
 pub admits-members-from-requires : goal.admits-members-from-requires
@@ -72,20 +71,19 @@ admits-members-from-requires t c =
       within = omega (
         arith,
         members_within c.args.shapes.now c.args.row c.args.nodes.now c.args.at c.args.pool.now
-            seen_here (ap not c.if-not-has.false) c.row_size.ensures.sized c.if-bit.false
+            seen_here c.if-not-has.false c.row_size.ensures.sized c.if-bit.false
             c.if-bit-2.false c.requires,
         (held_within c.requires.held).1,
-        c.well_formed.0.0,
       );
     }
 
 pub admits-overflow_add-to : goal.admits-overflow_add-to
 admits-overflow_add-to t c =
-    omega (arith, (held_within c.requires.held).1, c.size.ensures.read, c.well_formed.0.0)
+    omega (arith, (held_within c.requires.held).1, c.size.ensures.read)
 
 pub admits-overflow_add-at-2 : goal.admits-overflow_add-at-2
 admits-overflow_add-at-2 t c =
-    omega (arith, (value_ends c.requires.holds).0, (value_ends c.requires.holds).1, c.well_formed.1.1.0.0)
+    omega (arith, (value_ends c.requires.holds).0, (value_ends c.requires.holds).1)
 
 pub admits-admits_members-requires : goal.admits-admits_members-requires
 admits-admits_members-requires t c =
@@ -94,27 +92,27 @@ admits-admits_members-requires t c =
     c.kind_bit-bit.ensures.told c.kinds.ensures.read c.has.ensures.told in (
       omega (arith, c.decreases, (value_ends c.requires.holds).0, (value_ends c.requires.holds).1),
       rec_asks c.args.shapes.now c.args.row c.args.nodes.now c.args.at c.args.pool.now
-          seen_here (ap not c.if-not-has.false)
+          seen_here c.if-not-has.false
           c.row_size.ensures.sized c.if-bit.false
           c.if-bit-2.false c.members-from.ensures.found c.size.ensures.read c.requires,
     )
 
-pub admits-returns-then-not-admits_members : goal.admits-returns-then-not-admits_members
-admits-returns-then-not-admits_members t c =
+pub admits-returns-else-admits_members : goal.admits-returns-else-admits_members
+admits-returns-else-admits_members t c =
     let seen_here : Seen c.args.shapes.now c.args.row c.args.nodes.now c.args.at c.args.pool.now c.kind_bit-bit.result.kinds c.has.result =
     seen c.args.shapes.now c.args.row c.args.nodes.now c.args.at c.args.pool.now
     c.kind_bit-bit.ensures.told c.kinds.ensures.read c.has.ensures.told in
     record {
-      told = rec_fails c.args.shapes.now c.args.row c.args.nodes.now c.args.at c.args.pool.now
-          seen_here (ap not c.if-not-has.false) c.row_size.ensures.sized
+      told = rw c.if-admits_members.false (rec_fails c.args.shapes.now c.args.row c.args.nodes.now c.args.at c.args.pool.now
+          seen_here c.if-not-has.false c.row_size.ensures.sized
           c.if-bit.false c.if-bit-2.false
           c.members-from.ensures.found c.size.ensures.read
-          c.admits_members.ensures.told (ap not c.if-not-admits_members.true);
+          c.admits_members.ensures.told c.if-admits_members.false);
     }
 
-pub admits-overflow_add-at-3 : goal.admits-overflow_add-at-3
-admits-overflow_add-at-3 t c =
-    omega (arith, (value_ends c.requires.holds).0, (value_ends c.requires.holds).1, c.well_formed.1.1.0.0)
+pub admits-overflow_add-at-then-admits_members : goal.admits-overflow_add-at-then-admits_members
+admits-overflow_add-at-then-admits_members t c =
+    omega (arith, (value_ends c.requires.holds).0, (value_ends c.requires.holds).1)
 
 pub admits-lacked_have_null-requires : goal.admits-lacked_have_null-requires
 admits-lacked_have_null-requires t c =
@@ -123,23 +121,23 @@ admits-lacked_have_null-requires t c =
     c.kind_bit-bit.ensures.told c.kinds.ensures.read c.has.ensures.told in
     record {
       members_asked = rec_asks c.args.shapes.now c.args.row c.args.nodes.now c.args.at c.args.pool.now
-          seen_here (ap not c.if-not-has.false) c.row_size.ensures.sized
+          seen_here c.if-not-has.false c.row_size.ensures.sized
           c.if-bit.false c.if-bit-2.false
           c.members-from.ensures.found c.size.ensures.read c.requires;
-      listed = λ fs h ms k. sym c.if-not-admits_members.false ∙ c.admits_members.ensures.told fs h ms k;
+      listed = λ fs h ms k. sym c.if-admits_members.true ∙ c.admits_members.ensures.told fs h ms k;
     }
 
-pub admits-returns : goal.admits-returns
-admits-returns t c =
+pub admits-returns-then-admits_members : goal.admits-returns-then-admits_members
+admits-returns-then-admits_members t c =
     let seen_here : Seen c.args.shapes.now c.args.row c.args.nodes.now c.args.at c.args.pool.now c.kind_bit-bit.result.kinds c.has.result =
     seen c.args.shapes.now c.args.row c.args.nodes.now c.args.at c.args.pool.now
     c.kind_bit-bit.ensures.told c.kinds.ensures.read c.has.ensures.told in
     record {
       told = rec_told c.args.shapes.now c.args.row c.args.nodes.now c.args.at c.args.pool.now
-          seen_here (ap not c.if-not-has.false) c.row_size.ensures.sized
+          seen_here c.if-not-has.false c.row_size.ensures.sized
           c.if-bit.false
           c.if-bit-2.false c.members-from.ensures.found c.size.ensures.read
-          c.admits_members.ensures.told (ap not c.if-not-admits_members.false) c.lacked_have_null.ensures.told;
+          c.admits_members.ensures.told c.if-admits_members.true c.lacked_have_null.ensures.told;
     }
 
 pub admits_items-loop-i-init : goal.admits_items-loop-i-init
@@ -161,7 +159,7 @@ admits_items-returns-then-not-admits t c =
     record {
       told = elements.walk_fails c.args.shapes.now c.args.row c.args.nodes.now c.args.at c.args.end
           c.args.pool.now c.loop-i.invariant c.loop-i-test.true
-          c.admits.ensures.told (ap not c.if-not-admits.true);
+          c.admits.ensures.told c.if-not-admits.true;
     }
 
 pub admits_items-overflow_add-i : goal.admits_items-overflow_add-i
@@ -180,7 +178,7 @@ pub admits_items-loop-i-preserved : goal.admits_items-loop-i-preserved
 admits_items-loop-i-preserved t c =
     elements.walk_on c.args.shapes.now c.args.row c.args.nodes.now c.args.at c.args.end
     c.args.pool.now c.loop-i.invariant c.loop-i-test.true
-    c.admits.ensures.told (ap not c.if-not-admits.false) c.row_size-i.ensures.sized
+    c.admits.ensures.told c.if-not-admits.false c.row_size-i.ensures.sized
 
 pub admits_items-returns : goal.admits_items-returns
 admits_items-returns t c =
@@ -215,13 +213,13 @@ pub admits_members-overflow_add-i : goal.admits_members-overflow_add-i
 admits_members-overflow_add-i t c =
     let s = named.walk_step c.args.shapes.now c.args.from c.args.to c.args.nodes.now c.args.at
     c.args.end c.args.pool.now c.loop-i.invariant c.loop-i-test.true c.requires in
-    omega (arith, s.0, s.1, c.well_formed.1.1.1.0.0)
+    omega (arith, s.0, s.1)
 
 pub admits_members-offset_bounds-nodes-i : goal.admits_members-offset_bounds-nodes-i
 admits_members-offset_bounds-nodes-i t c =
     let s = named.walk_step c.args.shapes.now c.args.from c.args.to c.args.nodes.now c.args.at
     c.args.end c.args.pool.now c.loop-i.invariant c.loop-i-test.true c.requires in
-    omega (arith, s.0, s.1, c.well_formed.1.1.1.0.0)
+    omega (arith, s.0, s.1)
 
 pub admits_members-bounds-nodes-i : goal.admits_members-bounds-nodes-i
 admits_members-bounds-nodes-i t c =
@@ -249,7 +247,7 @@ admits_members-admits_listed-requires t c =
       omega (arith, c.decreases, c.loop-i.invariant.ahead, s.0, s.1),
       named.walk_asks c.args.shapes.now c.args.from c.args.to c.args.nodes.now c.args.at
           c.args.end c.args.pool.now c.loop-i.invariant c.loop-i-test.true c.find_named-named.result
-          c.find_named-named.ensures.told c.in-Found.is c.requires,
+          c.find_named-named.ensures.told c.in-Some.is c.requires,
     )
 
 pub admits_members-returns-then-not-admits_listed : goal.admits_members-returns-then-not-admits_listed
@@ -258,7 +256,7 @@ admits_members-returns-then-not-admits_listed t c =
       told = named.walk_fails c.args.shapes.now c.args.from c.args.to c.args.nodes.now c.args.at
           c.args.end c.args.pool.now c.loop-i.invariant
           c.loop-i-test.true c.find_named-named.result c.find_named-named.ensures.told
-          c.in-Found.is c.admits_listed.ensures.told (ap not c.if-not-admits_listed.true);
+          c.in-Some.is c.admits_listed.ensures.told c.if-not-admits_listed.true;
     }
 
 pub admits_members-row_size_in-i-requires : goal.admits_members-row_size_in-i-requires
@@ -283,7 +281,7 @@ admits_members-loop-i-preserved t c =
     named.walk_on c.args.shapes.now c.args.from c.args.to c.args.nodes.now c.args.at
     c.args.end c.args.pool.now c.loop-i.invariant
     c.loop-i-test.true c.find_named-named.result c.find_named-named.ensures.told
-    c.in-Found.is c.admits_listed.ensures.told (ap not c.if-not-admits_listed.false) c.row_size_in-i.ensures.sized
+    c.in-Some.is c.admits_listed.ensures.told c.if-not-admits_listed.false c.row_size_in-i.ensures.sized
 
 pub admits_members-returns : goal.admits_members-returns
 admits_members-returns t c =

@@ -5,54 +5,47 @@ use Rattle.nodes.specs.StandingLaws.{value_head}
 use Rattle.admits.proofs.KindBits.{bit_told, code_told, number_bit, number_told}
 use Rattle.admits.proofs.kind_bit.Goals as goal
 
-pub returns-then-kind-eq-NULL : goal.returns-then-kind-eq-NULL
-returns-then-kind-eq-NULL c = record {
-  told = λ p k v h b. (bit_told v).as_null (sym (code_told v c.row_kind-kind.ensures.read (value_head h))
-      ∙ c.if-kind-eq-NULL.true);
+pub returns-in-0 : goal.returns-in-0
+returns-in-0 c = record {
+  told = λ p k v h b. (bit_told v).as_null (sym (code_told v c.row_kind.ensures.read (value_head h))
+      ∙ c.in-0.is);
 }
 
-pub returns-then-kind-lt-NUMBER : goal.returns-then-kind-lt-NUMBER
-returns-then-kind-lt-NUMBER c =
+pub returns-in-1 : goal.returns-in-1
+returns-in-1 c =
     record {
-      told = λ p k v h b. let code = code_told v c.row_kind-kind.ensures.read (value_head h) in
-          (bit_told v).as_bool (omega (arith, code, c.if-kind-eq-NULL.false)) (omega (arith, code, c.if-kind-lt-NUMBER.true));
+      told = λ p k v h b. let code = code_told v c.row_kind.ensures.read (value_head h) in
+          (bit_told v).as_bool (omega (arith, code, c.in-1)) (omega (arith, code, c.in-1));
     }
 
-pub returns-then-row_is_int : goal.returns-then-row_is_int
-returns-then-row_is_int c =
+pub returns-in-3 : goal.returns-in-3
+returns-in-3 c =
     record {
       told = λ p k v h b. ap number_bit (sym c.if-row_is_int.true)
-          ∙ number_told v (sym (code_told v c.row_kind-kind.ensures.read (value_head h)) ∙ c.if-kind-eq-NUMBER.true) c.row_is_int.ensures.told h b;
+          ∙ number_told v (sym (code_told v c.row_kind.ensures.read (value_head h)) ∙ c.in-3.is) c.row_is_int.ensures.told h b;
     }
 
-pub returns-then-kind-eq-NUMBER : goal.returns-then-kind-eq-NUMBER
-returns-then-kind-eq-NUMBER c =
+pub returns-in-3-2 : goal.returns-in-3-2
+returns-in-3-2 c =
     record {
       told = λ p k v h b. ap number_bit (sym c.if-row_is_int.false)
-          ∙ number_told v (sym (code_told v c.row_kind-kind.ensures.read (value_head h)) ∙ c.if-kind-eq-NUMBER.true) c.row_is_int.ensures.told h b;
+          ∙ number_told v (sym (code_told v c.row_kind.ensures.read (value_head h)) ∙ c.in-3.is) c.row_is_int.ensures.told h b;
     }
 
-pub returns-then-kind-eq-TEXT : goal.returns-then-kind-eq-TEXT
-returns-then-kind-eq-TEXT c = record {
-  told = λ p k v h b. (bit_told v).as_text (sym (code_told v c.row_kind-kind.ensures.read (value_head h))
-      ∙ c.if-kind-eq-TEXT.true);
+pub returns-in-4 : goal.returns-in-4
+returns-in-4 c = record {
+  told = λ p k v h b. (bit_told v).as_text (sym (code_told v c.row_kind.ensures.read (value_head h))
+      ∙ c.in-4.is);
 }
 
-pub returns-then-kind-eq-LIST : goal.returns-then-kind-eq-LIST
-returns-then-kind-eq-LIST c = record {
-  told = λ p k v h b. (bit_told v).as_list (sym (code_told v c.row_kind-kind.ensures.read (value_head h))
-      ∙ c.if-kind-eq-LIST.true);
+pub returns-in-5 : goal.returns-in-5
+returns-in-5 c = record {
+  told = λ p k v h b. (bit_told v).as_list (sym (code_told v c.row_kind.ensures.read (value_head h))
+      ∙ c.in-5.is);
 }
 
-pub returns : goal.returns
-returns c =
+pub returns-in_default : goal.returns-in_default
+returns-in_default c =
     record {
-      told = λ p k v h b. (bit_told v).as_rec (omega (
-        arith,
-        code_told v c.row_kind-kind.ensures.read (value_head h),
-        c.if-kind-lt-NUMBER.false,
-        c.if-kind-eq-NUMBER.false,
-        c.if-kind-eq-TEXT.false,
-        c.if-kind-eq-LIST.false,
-      ));
+      told = λ p k v h b. (bit_told v).as_rec (omega (arith, code_told v c.row_kind.ensures.read (value_head h), c.in_default));
     }

@@ -1,7 +1,6 @@
 -- `admits::missing_have_null` meets its contract: what is left of the members tells what all tell. Assumes nothing.
 use native.Mathlib.Omega.{arith}
 use Rattle.admits.proofs.Lacking.{members_held, walk_begins, walk_step, walk_fails, walk_on, walk_ends}
-use Rattle.std.proofs.Common.{ap, not}
 use Rattle.admits.proofs.missing_have_null.Goals as goal
 
 pub loop-i-init : goal.loop-i-init
@@ -18,7 +17,7 @@ returns-then-not-may_lack c =
     record {
       told = walk_fails c.args.shapes.now c.args.from c.args.to c.args.nodes.now c.args.at c.args.end
           c.args.pool.now
-          c.loop-i.invariant c.may_lack.ensures.told c.loop-i-test.true (ap not c.if-not-may_lack.true);
+          c.loop-i.invariant c.may_lack.ensures.told c.loop-i-test.true c.if-not-may_lack.true;
     }
 
 pub overflow_add-i : goal.overflow_add-i
@@ -40,7 +39,7 @@ pub loop-i-preserved : goal.loop-i-preserved
 loop-i-preserved c =
     walk_on c.args.shapes.now c.args.from c.args.to c.args.nodes.now c.args.at c.args.end
     c.args.pool.now
-    c.loop-i.invariant c.may_lack.ensures.told c.loop-i-test.true (ap not c.if-not-may_lack.false) c.size-i.ensures.read
+    c.loop-i.invariant c.may_lack.ensures.told c.loop-i-test.true c.if-not-may_lack.false c.size-i.ensures.read
 
 pub returns : goal.returns
 returns c =

@@ -1,23 +1,18 @@
 -- `answers::put_word` meets its contract. Assumes nothing.
-use native.Mathlib.Omega.{arith}
-use Rattle.answers.proofs.Words.{putting, putting_on, putting_length, put}
+use Rattle.std.proofs.Common.{◌≡◌, ◌∙◌, ◌++◌, ◌+◌, ◌-◌, take, drop, sym, ap, arith}
+use Rattle.std.proofs.lemmas.Grind.{common_steps}
+use borrow.Rule.Slice.PartMut.{put_mid}
+use Rattle.definitions.specs.Calls.{little_endian}
+use Rattle.definitions.specs.Bytes.{Bytes}
+use Rattle.answers.proofs.Words.{word_bytes}
 use Rattle.answers.proofs.put_word.Goals as goal
 
-pub loop-i-init : goal.loop-i-init
-loop-i-init c = putting c.args.buffer.now c.args.at c.args.word
-
-pub bounds-buffer-at : goal.bounds-buffer-at
-bounds-buffer-at c =
-    omega (arith, putting_length c.loop-i.invariant c.requires, c.requires, c.loop-i-test.true)
-
-pub loop-i-smaller : goal.loop-i-smaller
-loop-i-smaller c = omega (arith, c.loop-i-test.true)
-
-pub loop-i-preserved : goal.loop-i-preserved
-loop-i-preserved c = putting_on c.loop-i.invariant c.loop-i-test.true c.requires
-
-pub shape_of-buffer : goal.shape_of-buffer
-shape_of-buffer c = putting_length c.loop-i.invariant c.requires
-
 pub returns : goal.returns
-returns c = record { written = put c.loop-i.invariant c.loop-i-test.false }
+returns c =
+    let o = c.args.buffer.now in
+    let at = c.args.at in
+    let part = c.copy_from_slice.new.self in
+    let e : put_mid at (at + 8 - at) o part ≡ take at o ++ part ++ drop (at + 8) o = grind (arith, common_steps) in
+    let bytes : part ≡ little_endian 8 c.args.word =
+    c.copy_from_slice.ensures.after ∙ c.to_le_bytes.ensures ∙ sym (word_bytes c.args.word) in
+    record { written = e ∙ ap (λ (x : Bytes). take at o ++ x ++ drop (at + 8) o) bytes }

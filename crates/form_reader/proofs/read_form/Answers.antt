@@ -1,37 +1,18 @@
 -- `form_reader::read_form` meets its contract. Assumes nothing.
-use native.Mathlib.Omega.{arith}
-use Rattle.form_reader.proofs.TextReading.{start_ready, reader_refused, reader_end, reader_more, reader_whole}
+use Rattle.reading.proofs.Passed.{passed}
+use Rattle.form_reader.specs.FormReads.{ReadsReader}
+use Rattle.form_reader.proofs.TextReading.{reader_refused, reader_ended}
 use Rattle.form_reader.proofs.read_form.Goals as goal
 
-pub read_result-requires : goal.read_result-requires
-read_result-requires c =
-    start_ready c.requires.tables
-
-pub next_end-requires : goal.next_end-requires
-next_end-requires c =
-    (reader_end c.args.limits c.requires.tables c.requires.begun c.read_result.ensures.read c.in-Done.is).within
-
-pub overflow_mul-result : goal.overflow_mul-result
-overflow_mul-result c =
-    omega (
-      arith,
-      (reader_end c.args.limits c.requires.tables c.requires.begun c.read_result.ensures.read c.in-Done.is).limit,
-      c.requires.tables.few,
-    )
-
-pub returns-in-Whole : goal.returns-in-Whole
-returns-in-Whole c =
+pub returns-in_err-to : goal.returns-in_err-to
+returns-in_err-to c =
     record {
-      read = reader_whole c.args.limits c.requires.tables c.requires.begun c.read_result.ensures.read c.in-Done.is
-          c.next_end.ensures.read c.in-Whole.is;
+      read =
+          passed
+          (ReadsReader c.args.limits c.args.text.now c.args.forms.now c.args.pool.now c.read_result.new.forms c.read_result.new.pool c.args.top)
+          c.from_residual.ensures (reader_refused c.args.limits c.requires.tables c.requires.begun c.in_err-to.ensures.read);
     }
 
-pub returns-in-More : goal.returns-in-More
-returns-in-More c =
-    record {
-      read = reader_more c.args.limits c.requires.tables c.requires.begun c.read_result.ensures.read c.in-Done.is
-          c.next_end.ensures.read c.in-More.is;
-    }
-
-pub returns-in-Refused : goal.returns-in-Refused
-returns-in-Refused c = record { read = reader_refused c.args.limits c.requires.tables c.requires.begun c.read_result.ensures.read c.in-Refused.is }
+pub returns : goal.returns
+returns c =
+    record { read = reader_ended c.args.limits c.requires.tables c.requires.begun c.in_ok-to.ensures.read c.end_forms.ensures.read }

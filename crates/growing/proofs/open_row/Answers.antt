@@ -1,31 +1,33 @@
 -- `growing::open_row` meets its contract. Assumes nothing.
+use mathlib.Core.List.{[], ◌∷◌}
 use native.Mathlib.Omega.{arith}
 use mathlib.Core.Path.{refl}
-use Rattle.growing.specs.StepLaws.{gap_filled}
 use borrow.Author.Rules.{rules}
+use Rattle.shapes.specs.Shapes.{head_of}
+use Rattle.join.specs.ReplacingLaws.{gap_filled}
 use Rattle.growing.proofs.open_row.Goals as goal
-
-pub shape_of-shapes : goal.shape_of-shapes
-shape_of-shapes c = search rules
 
 pub returns : goal.returns
 returns c =
     record {
-      opened = record {
-        rows = _;
-        encoded = refl;
-        replaced = gap_filled
-            c.args.shapes.now
-            c.open_gap.new.part
-            c.put_row.new.shapes
-            c.args.used
-            c.args.row
-            _
-            c.args.name
-            c.requires.inside
-            (omega (arith, c.if-shapes-used-lt2.false, c.requires.room.enough))
-            c.open_gap.ensures.opened
-            c.put_row.ensures.put
-            (shape_of-shapes c);
-      };
+      opened = let s = c.args in
+          let rows = head_of s.kinds.kinds 2 ∷ s.name ∷ [] in
+          record {
+            rows = rows;
+            encoded = refl;
+            replaced = gap_filled
+                s.shapes.now
+                c.open_gap.new.part
+                c.put_row.new.shapes
+                s.used
+                s.row
+                2
+                rows
+                c.requires.inside
+                (omega (arith, c.if-shapes-used-lt2.false, c.requires.room.enough))
+                c.open_gap.ensures.opened
+                refl
+                c.put_row.ensures.put
+                (search rules);
+          };
     }

@@ -1,8 +1,6 @@
 -- `growing::ready_element` meets its contract. Assumes nothing.
-use Prim.Native.Nat.{ℕ}
 use native.Mathlib.Omega.{arith}
-use mathlib.Core.Path.{sym, ap, ◌∙◌}
-use Rattle.shapes.specs.Shapes.{has_bit}
+use Rattle.shapes.specs.ShapesLaws.{bit_tested}
 use Rattle.growing.specs.GrowingForms.{forms_some}
 use Rattle.growing.proofs.Elements.{ready_listed, ready_opened}
 use Rattle.growing.proofs.ready_element.Goals as goal
@@ -11,7 +9,7 @@ pub returns-then-has : goal.returns-then-has
 returns-then-has c =
     record {
       ready = λ p m s h i. ready_listed c.args.used s h i c.requires.room.enough
-          (ap (λ (x : ℕ). has_bit x 32) (sym c.kinds.ensures.read) ∙ sym c.has.ensures.told ∙ c.if-has.true);
+          (bit_tested 32 c.kinds.ensures.read c.if-has.ensures.told);
     }
 
 pub open_row-requires : goal.open_row-requires
@@ -22,8 +20,7 @@ pub returns : goal.returns
 returns c =
     record {
       ready = λ p m s h i. ready_opened c.args.used c.open_row.new.shapes s h
-          (ap (λ (x : ℕ). has_bit x 32) (sym c.kinds.ensures.read) ∙ sym c.has.ensures.told
-          ∙ c.if-has.false)
+          (bit_tested 32 c.kinds.ensures.read c.if-has.ensures.told)
           c.open_row.result
           c.open_row.ensures.opened;
     }

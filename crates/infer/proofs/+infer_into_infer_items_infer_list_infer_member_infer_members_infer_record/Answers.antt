@@ -13,7 +13,7 @@ use Rattle.infer.proofs.Into.{scalar_code}
 use Rattle.infer.proofs.Items.{items_begin, items_inferable, items_size, items_row}
 use Rattle.infer.proofs.Items.{items_room, items_full, items_loop_on, items_grown, items_end}
 use Rattle.infer.proofs.Lists.{list_full_first, list_inferable, list_room_then, list_full_then, list_raise_fits, list_grown, list_answer}
-use Rattle.infer.proofs.Members.{listed_inferable, listed_answer, new_inside, new_full_first}
+use Rattle.infer.proofs.Members.{listed_inferable, listed_answer, never_placed, new_inside, new_full_first}
 use Rattle.infer.proofs.Members.{new_inferable, new_room_then, new_full_then, new_answer, new_grown}
 use Rattle.infer.proofs.Walk.{members_begin, members_inferable, members_size, members_row}
 use Rattle.infer.proofs.Walk.{members_room, members_full, members_loop_on, members_grown, members_end}
@@ -22,41 +22,41 @@ use Rattle.infer.proofs.+infer_into_infer_items_infer_list_infer_member_infer_me
 
 pub infer_into-infer_list-requires : goal.infer_into-infer_list-requires
 infer_into-infer_list-requires t c =
-    (omega (arith, c.decreases), (c.requires.inferable, (c.requires.room, sym c.row_kind-kind.ensures.read ∙ c.if-kind-eq-LIST.true)))
+    (omega (arith, c.decreases), (c.requires.inferable, (c.requires.room, sym c.row_kind.ensures.read ∙ c.in-5.is)))
 
-pub infer_into-shape_of-shapes-then-kind-eq-LIST : goal.infer_into-shape_of-shapes-then-kind-eq-LIST
-infer_into-shape_of-shapes-then-kind-eq-LIST t c =
+pub infer_into-shape_of-shapes-in-5 : goal.infer_into-shape_of-shapes-in-5
+infer_into-shape_of-shapes-in-5 t c =
     c.infer_list.auto.shapes
 
-pub infer_into-returns-then-kind-eq-LIST : goal.infer_into-returns-then-kind-eq-LIST
-infer_into-returns-then-kind-eq-LIST t c =
+pub infer_into-returns-in-5 : goal.infer_into-returns-in-5
+infer_into-returns-in-5 t c =
     record { inferred = c.infer_list.ensures.inferred }
 
 pub infer_into-infer_record-requires : goal.infer_into-infer_record-requires
 infer_into-infer_record-requires t c =
-    (omega (arith, c.decreases), (c.requires.inferable, (c.requires.room, sym c.row_kind-kind.ensures.read ∙ c.if-kind-eq-RECORD.true)))
+    (omega (arith, c.decreases), (c.requires.inferable, (c.requires.room, sym c.row_kind.ensures.read ∙ c.in-6.is)))
 
-pub infer_into-shape_of-shapes-then-kind-eq-RECORD : goal.infer_into-shape_of-shapes-then-kind-eq-RECORD
-infer_into-shape_of-shapes-then-kind-eq-RECORD t c =
+pub infer_into-shape_of-shapes-in-6 : goal.infer_into-shape_of-shapes-in-6
+infer_into-shape_of-shapes-in-6 t c =
     c.infer_record.auto.shapes
 
-pub infer_into-returns-then-kind-eq-RECORD : goal.infer_into-returns-then-kind-eq-RECORD
-infer_into-returns-then-kind-eq-RECORD t c =
+pub infer_into-returns-in-6 : goal.infer_into-returns-in-6
+infer_into-returns-in-6 t c =
     record { inferred = c.infer_record.ensures.inferred }
 
 pub infer_into-infer_leaf-requires : goal.infer_into-infer_leaf-requires
 infer_into-infer_leaf-requires t c =
     let w = c.requires.inferable in
-    let l = scalar_code w.value (kind_told w.meets.held c.row_kind-kind.ensures.read) c.if-kind-eq-LIST.false
-    c.if-kind-eq-RECORD.false in
+    let l = scalar_code w.value (kind_told w.meets.held c.row_kind.ensures.read) (λ x. omega (arith, x, c.in_default))
+    (λ x. omega (arith, x, c.in_default)) in
     record { inferable = w; room = c.requires.room; leaf = omega (arith, l, kind_told w.meets.held refl) }
 
-pub infer_into-shape_of-shapes : goal.infer_into-shape_of-shapes
-infer_into-shape_of-shapes t c =
+pub infer_into-shape_of-shapes-in_default : goal.infer_into-shape_of-shapes-in_default
+infer_into-shape_of-shapes-in_default t c =
     c.infer_leaf.auto.shapes
 
-pub infer_into-returns : goal.infer_into-returns
-infer_into-returns t c =
+pub infer_into-returns-in_default : goal.infer_into-returns-in_default
+infer_into-returns-in_default t c =
     record { inferred = c.infer_leaf.ensures.inferred }
 
 pub infer_items-loop-i-init : goal.infer_items-loop-i-init
@@ -87,15 +87,11 @@ infer_items-infer_into-requires t c =
       ),
     )
 
-pub infer_items-shape_of-shapes-in-Full : goal.infer_items-shape_of-shapes-in-Full
-infer_items-shape_of-shapes-in-Full t c =
-    c.infer_into.auto.shapes ∙ c.loop-i.invariant.same
-
-pub infer_items-returns-in-Full : goal.infer_items-returns-in-Full
-infer_items-returns-in-Full t c =
+pub infer_items-returns-in_err-grown : goal.infer_items-returns-in_err-grown
+infer_items-returns-in_err-grown t c =
     record {
-      inferred = items_full c.requires.room c.loop-i.invariant c.loop-i-test.true
-          c.infer_into.new.shapes c.infer_into.result c.infer_into.ensures.inferred c.in-Full.is;
+      inferred = rw c.from_residual.ensures (items_full c.requires.room c.loop-i.invariant c.loop-i-test.true
+          c.infer_into.new.shapes c.infer_into.result c.infer_into.ensures.inferred c.in_err-grown.was);
     }
 
 pub infer_items-overflow_add-grown : goal.infer_items-overflow_add-grown
@@ -104,29 +100,29 @@ infer_items-overflow_add-grown t c =
       arith,
       items_grown c.requires.room c.loop-i.invariant c.loop-i-test.true
           c.infer_into.new.shapes c.infer_into.result c.infer_into.ensures.inferred
-          c.in-Grown.is c.requires.items_inferable,
+          c.in_ok-grown.was c.requires.items_inferable,
       c.requires.room.small,
     )
 
-pub infer_items-row_size_in-i-requires : goal.infer_items-row_size_in-i-requires
-infer_items-row_size_in-i-requires t c =
+pub infer_items-row_size_in-requires : goal.infer_items-row_size_in-requires
+infer_items-row_size_in-requires t c =
     items_row c.requires.room c.loop-i.invariant c.loop-i-test.true c.requires.items_inferable.meets
 
 pub infer_items-overflow_add-i : goal.infer_items-overflow_add-i
 infer_items-overflow_add-i t c =
     let z = items_size c.requires.room c.loop-i.invariant c.loop-i-test.true c.requires.items_inferable.meets in
-    omega (arith, z.1, c.row_size_in-i.ensures.sized, c.well_formed.1.1.1.0.0)
+    omega (arith, z.1, c.row_size_in.ensures.sized)
 
 pub infer_items-loop-i-smaller : goal.infer_items-loop-i-smaller
 infer_items-loop-i-smaller t c =
     let z = items_size c.requires.room c.loop-i.invariant c.loop-i-test.true c.requires.items_inferable.meets in
-    omega (arith, z.0, z.2, c.row_size_in-i.ensures.sized, c.loop-i-test.true)
+    omega (arith, z.0, z.2, c.row_size_in.ensures.sized, c.loop-i-test.true)
 
 pub infer_items-loop-i-preserved : goal.infer_items-loop-i-preserved
 infer_items-loop-i-preserved t c =
     items_loop_on c.requires.room c.loop-i.invariant c.loop-i-test.true
     c.infer_into.new.shapes c.infer_into.result c.infer_into.ensures.inferred
-    c.in-Grown.is c.row_size_in-i.ensures.sized c.infer_into.auto.shapes
+    c.in_ok-grown.was c.row_size_in.ensures.sized c.infer_into.auto.shapes
 
 pub infer_items-shape_of-shapes : goal.infer_items-shape_of-shapes
 infer_items-shape_of-shapes t c =
@@ -139,7 +135,7 @@ infer_items-returns t c =
 pub infer_list-overflow_add-end : goal.infer_list-overflow_add-end
 infer_list-overflow_add-end t c =
     let w = c.requires.inferable in
-    omega (arith, value_size w.meets.held, value_within w.meets.held, c.row_size.ensures.sized, c.well_formed.1.1.1.0.0)
+    omega (arith, value_size w.meets.held, value_within w.meets.held, c.row_size.ensures.sized)
 
 pub infer_list-ready_element-requires : goal.infer_list-ready_element-requires
 infer_list-ready_element-requires t c =
@@ -151,10 +147,10 @@ infer_list-overflow_add-used t c =
     omega (
       arith,
       (list_room_then c.requires.room c.requires.list c.ready_element.new.shapes
-          c.ready_element.result c.ready_element.ensures.ready c.in-Grown.is
+          c.ready_element.result c.ready_element.ensures.ready c.in_ok-opened.was
           c.requires.inferable).enough,
       (list_room_then c.requires.room c.requires.list c.ready_element.new.shapes
-          c.ready_element.result c.ready_element.ensures.ready c.in-Grown.is
+          c.ready_element.result c.ready_element.ensures.ready c.in_ok-opened.was
           c.requires.inferable).small,
     )
 
@@ -166,7 +162,7 @@ infer_list-overflow_add-row t c =
 pub infer_list-overflow_add-at : goal.infer_list-overflow_add-at
 infer_list-overflow_add-at t c =
     let w = c.requires.inferable in
-    omega (arith, value_within w.meets.held, size_some w.value, c.well_formed.1.1.1.0.0)
+    omega (arith, value_within w.meets.held, size_some w.value)
 
 pub infer_list-infer_items-requires : goal.infer_list-infer_items-requires
 infer_list-infer_items-requires t c =
@@ -174,10 +170,10 @@ infer_list-infer_items-requires t c =
       omega (arith, c.decreases, value_within w.meets.held, size_some w.value),
       (
         list_inferable c.requires.room c.requires.list c.ready_element.new.shapes
-            c.ready_element.result c.ready_element.ensures.ready c.in-Grown.is
+            c.ready_element.result c.ready_element.ensures.ready c.in_ok-opened.was
             (ap (λ (x : ℕ). c.args.at + x) c.row_size.ensures.sized) w,
         list_room_then c.requires.room c.requires.list c.ready_element.new.shapes
-            c.ready_element.result c.ready_element.ensures.ready c.in-Grown.is w,
+            c.ready_element.result c.ready_element.ensures.ready c.in_ok-opened.was w,
       ),
     )
 
@@ -186,77 +182,65 @@ infer_list-overflow_add-opened t c =
     omega (
       arith,
       list_grown c.requires.room c.requires.list c.ready_element.new.shapes c.ready_element.result
-          c.ready_element.ensures.ready c.in-Grown.is
+          c.ready_element.ensures.ready c.in_ok-opened.was
           (ap (λ (x : ℕ). c.args.at + x) c.row_size.ensures.sized) c.infer_items.new.shapes
-          c.infer_items.result c.infer_items.ensures.inferred c.in-Grown-infer_items.is c.requires.inferable,
+          c.infer_items.result c.infer_items.ensures.inferred c.in_ok-words.was c.requires.inferable,
       c.requires.room.small,
     )
 
 pub infer_list-raise-requires : goal.infer_list-raise-requires
 infer_list-raise-requires t c =
     let facts = list_raise_fits c.requires.room c.requires.list c.ready_element.new.shapes c.ready_element.result
-    c.ready_element.ensures.ready c.in-Grown.is
+    c.ready_element.ensures.ready c.in_ok-opened.was
     (ap (λ (x : ℕ). c.args.at + x) c.row_size.ensures.sized) c.infer_items.new.shapes
-    c.infer_items.result c.infer_items.ensures.inferred c.in-Grown-infer_items.is c.requires.inferable in record { row_in_bounds = facts.0; fits = facts.1 }
+    c.infer_items.result c.infer_items.ensures.inferred c.in_ok-words.was c.requires.inferable in record { row_in_bounds = facts.0; fits = facts.1 }
 
 pub infer_list-overflow_add-result : goal.infer_list-overflow_add-result
 infer_list-overflow_add-result t c =
     omega (
       arith,
       list_grown c.requires.room c.requires.list c.ready_element.new.shapes c.ready_element.result
-          c.ready_element.ensures.ready c.in-Grown.is
+          c.ready_element.ensures.ready c.in_ok-opened.was
           (ap (λ (x : ℕ). c.args.at + x) c.row_size.ensures.sized) c.infer_items.new.shapes
-          c.infer_items.result c.infer_items.ensures.inferred c.in-Grown-infer_items.is c.requires.inferable,
+          c.infer_items.result c.infer_items.ensures.inferred c.in_ok-words.was c.requires.inferable,
       c.requires.room.small,
     )
 
-pub infer_list-shape_of-shapes-in-Full : goal.infer_list-shape_of-shapes-in-Full
-infer_list-shape_of-shapes-in-Full t c =
-    c.ready_element.auto.shapes
-
-pub infer_list-returns-in-Full : goal.infer_list-returns-in-Full
-infer_list-returns-in-Full t c =
+pub infer_list-returns-in_err-opened : goal.infer_list-returns-in_err-opened
+infer_list-returns-in_err-opened t c =
     record {
-      inferred = list_full_first c.requires.room c.requires.list c.ready_element.new.shapes c.ready_element.result
-          c.ready_element.ensures.ready c.in-Full.is;
+      inferred = rw c.from_residual.ensures (list_full_first c.requires.room c.requires.list c.ready_element.new.shapes c.ready_element.result
+          c.ready_element.ensures.ready c.in_err-opened.was);
     }
 
-pub infer_list-shape_of-shapes-in-Full-infer_items : goal.infer_list-shape_of-shapes-in-Full-infer_items
-infer_list-shape_of-shapes-in-Full-infer_items t c =
-    c.infer_items.auto.shapes ∙ c.ready_element.auto.shapes
-
-pub infer_list-returns-in-Full-infer_items : goal.infer_list-returns-in-Full-infer_items
-infer_list-returns-in-Full-infer_items t c =
+pub infer_list-returns-in_err-words : goal.infer_list-returns-in_err-words
+infer_list-returns-in_err-words t c =
     record {
-      inferred = list_full_then c.requires.room c.requires.list c.ready_element.new.shapes c.ready_element.result
-          c.ready_element.ensures.ready c.in-Grown.is
+      inferred = rw c.from_residual-in_err-words.ensures (list_full_then c.requires.room c.requires.list c.ready_element.new.shapes c.ready_element.result
+          c.ready_element.ensures.ready c.in_ok-opened.was
           (ap (λ (x : ℕ). c.args.at + x) c.row_size.ensures.sized) c.infer_items.new.shapes
-          c.infer_items.result c.infer_items.ensures.inferred c.in-Full-infer_items.is;
+          c.infer_items.result c.infer_items.ensures.inferred c.in_err-words.was);
     }
 
-pub infer_list-shape_of-shapes-in-Grown-infer_items : goal.infer_list-shape_of-shapes-in-Grown-infer_items
-infer_list-shape_of-shapes-in-Grown-infer_items t c =
-    c.raise.auto.shapes ∙ c.infer_items.auto.shapes ∙ c.ready_element.auto.shapes
-
-pub infer_list-returns-in-Grown-infer_items : goal.infer_list-returns-in-Grown-infer_items
-infer_list-returns-in-Grown-infer_items t c =
+pub infer_list-returns : goal.infer_list-returns
+infer_list-returns t c =
     record {
       inferred = list_answer c.requires.room c.requires.list c.ready_element.new.shapes c.ready_element.result
-          c.ready_element.ensures.ready c.in-Grown.is
+          c.ready_element.ensures.ready c.in_ok-opened.was
           (ap (λ (x : ℕ). c.args.at + x) c.row_size.ensures.sized) c.infer_items.new.shapes
-          c.infer_items.result c.infer_items.ensures.inferred c.in-Grown-infer_items.is
+          c.infer_items.result c.infer_items.ensures.inferred c.in_ok-words.was
           c.raise.ensures.raised c.raise.auto.shapes;
     }
 
 pub infer_member-overflow_add-name : goal.infer_member-overflow_add-name
 infer_member-overflow_add-name t c =
     let w = c.requires.member_inferable in
-    omega (arith, value_within w.meets.held, size_some w.value, c.well_formed.1.1.1.1.0.0)
+    omega (arith, value_within w.meets.held, size_some w.value)
 
 pub infer_member-offset_bounds-nodes-at : goal.infer_member-offset_bounds-nodes-at
 infer_member-offset_bounds-nodes-at t c =
     let w = c.requires.member_inferable in
-    omega (arith, value_within w.meets.held, size_some w.value, c.well_formed.1.1.1.1.0.0)
+    omega (arith, value_within w.meets.held, size_some w.value)
 
 pub infer_member-bounds-nodes-at : goal.infer_member-bounds-nodes-at
 infer_member-bounds-nodes-at t c =
@@ -272,7 +256,7 @@ pub infer_member-infer_leaf-requires : goal.infer_member-infer_leaf-requires
 infer_member-infer_leaf-requires t c =
     record {
       inferable = listed_inferable c.args.had c.requires.room c.find_listed.result c.find_listed.ensures.found
-          c.in-Found.is c.requires.member_inferable;
+          c.in-Some.is c.requires.member_inferable;
       room = c.requires.room;
       leaf = omega (arith, c.row_kind.ensures.read, c.if-row_kind-lt-LIST.true);
     }
@@ -285,7 +269,7 @@ pub infer_member-returns-then-row_kind-lt-LIST : goal.infer_member-returns-then-
 infer_member-returns-then-row_kind-lt-LIST t c =
     record {
       inferred = listed_answer c.args.had c.requires.room c.find_listed.result c.find_listed.ensures.found
-          c.in-Found.is c.infer_leaf.new.shapes c.infer_leaf.result c.infer_leaf.ensures.inferred;
+          c.in-Some.is c.infer_leaf.new.shapes c.infer_leaf.result c.infer_leaf.ensures.inferred;
     }
 
 pub infer_member-infer_into-requires : goal.infer_member-infer_into-requires
@@ -293,106 +277,99 @@ infer_member-infer_into-requires t c = (
   omega (arith, c.decreases),
   (
     listed_inferable c.args.had c.requires.room c.find_listed.result c.find_listed.ensures.found
-        c.in-Found.is c.requires.member_inferable,
+        c.in-Some.is c.requires.member_inferable,
     c.requires.room,
   ),
 )
 
-pub infer_member-shape_of-shapes-in-Found : goal.infer_member-shape_of-shapes-in-Found
-infer_member-shape_of-shapes-in-Found t c =
+pub infer_member-shape_of-shapes-in-Some : goal.infer_member-shape_of-shapes-in-Some
+infer_member-shape_of-shapes-in-Some t c =
     c.infer_into.auto.shapes
 
-pub infer_member-returns-in-Found : goal.infer_member-returns-in-Found
-infer_member-returns-in-Found t c =
+pub infer_member-returns-in-Some : goal.infer_member-returns-in-Some
+infer_member-returns-in-Some t c =
     record {
       inferred = listed_answer c.args.had c.requires.room c.find_listed.result c.find_listed.ensures.found
-          c.in-Found.is c.infer_into.new.shapes c.infer_into.result c.infer_into.ensures.inferred;
+          c.in-Some.is c.infer_into.new.shapes c.infer_into.result c.infer_into.ensures.inferred;
     }
 
-pub infer_member-find_place-place-requires : goal.infer_member-find_place-place-requires
-infer_member-find_place-place-requires t c =
+pub infer_member-find_place-requires : goal.infer_member-find_place-requires
+infer_member-find_place-requires t c =
     let w = c.requires.member_inferable in
     record { fields_held = record { part = w.part; fields = w.olds; meets = w.meets.fields }; room = c.requires.room }
+
+pub infer_member-unreachable-requires : goal.infer_member-unreachable-requires
+infer_member-unreachable-requires t c =
+    never_placed c.args.had c.requires.room c.find_listed.result c.find_listed.ensures.found
+    c.in_default.is c.requires.member_inferable c.in_default-find_place.ensures.found
 
 pub infer_member-open_row-requires : goal.infer_member-open_row-requires
 infer_member-open_row-requires t c =
     record {
       room = c.requires.room;
       inside = new_inside c.args.had c.requires.room c.find_listed.result c.find_listed.ensures.found
-          c.in_default.is c.find_place-place.ensures.found c.requires.member_inferable;
+          c.in_default.is c.in-Err.ensures.found c.requires.member_inferable;
       small = omega (arith, c.start_kinds.ensures.told, kind_bits_lt (member_start c.args.had));
     }
 
 pub infer_member-overflow_add-used : goal.infer_member-overflow_add-used
 infer_member-overflow_add-used t c =
     let r = new_room_then c.args.had c.requires.room c.find_listed.result c.find_listed.ensures.found
-    c.in_default.is c.find_place-place.ensures.found c.open_row.new.shapes
+    c.in_default.is c.in-Err.ensures.found c.open_row.new.shapes
     c.open_row.result c.start_kinds.ensures.told c.open_row.ensures.opened
-    c.in-Grown.is c.requires.member_inferable in
+    c.in_ok-opened.was c.requires.member_inferable in
     omega (arith, r.enough, r.small)
 
-pub infer_member-infer_into-requires-in-Grown : goal.infer_member-infer_into-requires-in-Grown
-infer_member-infer_into-requires-in-Grown t c = (
+pub infer_member-infer_into-requires-2 : goal.infer_member-infer_into-requires-2
+infer_member-infer_into-requires-2 t c = (
   omega (arith, c.decreases),
   (
     new_inferable c.args.had c.requires.room c.find_listed.result c.find_listed.ensures.found
-        c.in_default.is c.find_place-place.ensures.found c.open_row.new.shapes
+        c.in_default.is c.in-Err.ensures.found c.open_row.new.shapes
         c.open_row.result
-        c.start_kinds.ensures.told c.open_row.ensures.opened c.in-Grown.is c.requires.member_inferable,
+        c.start_kinds.ensures.told c.open_row.ensures.opened c.in_ok-opened.was c.requires.member_inferable,
     new_room_then c.args.had c.requires.room c.find_listed.result c.find_listed.ensures.found
-        c.in_default.is c.find_place-place.ensures.found c.open_row.new.shapes
+        c.in_default.is c.in-Err.ensures.found c.open_row.new.shapes
         c.open_row.result
-        c.start_kinds.ensures.told c.open_row.ensures.opened c.in-Grown.is c.requires.member_inferable,
+        c.start_kinds.ensures.told c.open_row.ensures.opened c.in_ok-opened.was c.requires.member_inferable,
   ),
 )
 
 pub infer_member-overflow_add-result : goal.infer_member-overflow_add-result
 infer_member-overflow_add-result t c =
     let g = new_grown c.args.had c.requires.room c.find_listed.result c.find_listed.ensures.found
-    c.in_default.is c.find_place-place.ensures.found c.open_row.new.shapes
+    c.in_default.is c.in-Err.ensures.found c.open_row.new.shapes
     c.open_row.result c.start_kinds.ensures.told c.open_row.ensures.opened
-    c.in-Grown.is c.infer_into-in-Grown.new.shapes c.infer_into-in-Grown.result
-    c.infer_into-in-Grown.ensures.inferred c.in-Grown-infer_into.is c.requires.member_inferable in
+    c.in_ok-opened.was c.infer_into-2.new.shapes c.infer_into-2.result
+    c.infer_into-2.ensures.inferred c.in_ok-words.was c.requires.member_inferable in
     omega (arith, g, c.requires.room.small)
 
-pub infer_member-shape_of-shapes-in-Full : goal.infer_member-shape_of-shapes-in-Full
-infer_member-shape_of-shapes-in-Full t c =
-    c.open_row.auto.shapes
-
-pub infer_member-returns-in-Full : goal.infer_member-returns-in-Full
-infer_member-returns-in-Full t c =
+pub infer_member-returns-in_err-opened : goal.infer_member-returns-in_err-opened
+infer_member-returns-in_err-opened t c =
     record {
-      inferred = new_full_first c.args.had c.requires.room c.find_listed.result c.find_listed.ensures.found
-          c.in_default.is c.find_place-place.ensures.found c.open_row.new.shapes
-          c.open_row.result c.start_kinds.ensures.told c.open_row.ensures.opened c.in-Full.is;
+      inferred = rw c.from_residual.ensures (new_full_first c.args.had c.requires.room c.find_listed.result c.find_listed.ensures.found
+          c.in_default.is c.in-Err.ensures.found c.open_row.new.shapes
+          c.open_row.result c.start_kinds.ensures.told c.open_row.ensures.opened c.in_err-opened.was);
     }
 
-pub infer_member-shape_of-shapes-in-Full-infer_into : goal.infer_member-shape_of-shapes-in-Full-infer_into
-infer_member-shape_of-shapes-in-Full-infer_into t c =
-    c.infer_into-in-Grown.auto.shapes ∙ c.open_row.auto.shapes
-
-pub infer_member-returns-in-Full-infer_into : goal.infer_member-returns-in-Full-infer_into
-infer_member-returns-in-Full-infer_into t c =
+pub infer_member-returns-in_err-words : goal.infer_member-returns-in_err-words
+infer_member-returns-in_err-words t c =
     record {
-      inferred = new_full_then c.args.had c.requires.room c.find_listed.result c.find_listed.ensures.found
-          c.in_default.is c.find_place-place.ensures.found c.open_row.new.shapes
+      inferred = rw c.from_residual-in_err-words.ensures (new_full_then c.args.had c.requires.room c.find_listed.result c.find_listed.ensures.found
+          c.in_default.is c.in-Err.ensures.found c.open_row.new.shapes
           c.open_row.result c.start_kinds.ensures.told c.open_row.ensures.opened
-          c.in-Grown.is c.infer_into-in-Grown.new.shapes c.infer_into-in-Grown.result
-          c.infer_into-in-Grown.ensures.inferred c.in-Full-infer_into.is;
+          c.in_ok-opened.was c.infer_into-2.new.shapes c.infer_into-2.result
+          c.infer_into-2.ensures.inferred c.in_err-words.was);
     }
 
-pub infer_member-shape_of-shapes-in-Grown-infer_into : goal.infer_member-shape_of-shapes-in-Grown-infer_into
-infer_member-shape_of-shapes-in-Grown-infer_into t c =
-    c.infer_into-in-Grown.auto.shapes ∙ c.open_row.auto.shapes
-
-pub infer_member-returns-in-Grown-infer_into : goal.infer_member-returns-in-Grown-infer_into
-infer_member-returns-in-Grown-infer_into t c =
+pub infer_member-returns : goal.infer_member-returns
+infer_member-returns t c =
     record {
       inferred = new_answer c.args.had c.requires.room c.find_listed.result c.find_listed.ensures.found
-          c.in_default.is c.find_place-place.ensures.found c.open_row.new.shapes
+          c.in_default.is c.in-Err.ensures.found c.open_row.new.shapes
           c.open_row.result c.start_kinds.ensures.told c.open_row.ensures.opened
-          c.in-Grown.is c.infer_into-in-Grown.new.shapes c.infer_into-in-Grown.result
-          c.infer_into-in-Grown.ensures.inferred c.in-Grown-infer_into.is;
+          c.in_ok-opened.was c.infer_into-2.new.shapes c.infer_into-2.result
+          c.infer_into-2.ensures.inferred c.in_ok-words.was;
     }
 
 pub infer_members-loop-i-init : goal.infer_members-loop-i-init
@@ -432,16 +409,12 @@ infer_members-infer_member-requires t c =
       ),
     )
 
-pub infer_members-shape_of-shapes-in-Full : goal.infer_members-shape_of-shapes-in-Full
-infer_members-shape_of-shapes-in-Full t c =
-    c.infer_member.auto.shapes ∙ c.loop-i.invariant.same
-
-pub infer_members-returns-in-Full : goal.infer_members-returns-in-Full
-infer_members-returns-in-Full t c =
+pub infer_members-returns-in_err-grown : goal.infer_members-returns-in_err-grown
+infer_members-returns-in_err-grown t c =
     record {
-      inferred = members_full c.requires.room c.loop-i.invariant c.loop-i-test.true
+      inferred = rw c.from_residual.ensures (members_full c.requires.room c.loop-i.invariant c.loop-i-test.true
           c.infer_member.new.shapes c.infer_member.result c.infer_member.ensures.inferred
-          c.in-Full.is;
+          c.in_err-grown.was);
     }
 
 pub infer_members-overflow_add-grown : goal.infer_members-overflow_add-grown
@@ -450,29 +423,29 @@ infer_members-overflow_add-grown t c =
       arith,
       members_grown c.requires.room c.loop-i.invariant c.loop-i-test.true
           c.infer_member.new.shapes c.infer_member.result c.infer_member.ensures.inferred
-          c.in-Grown.is c.requires.members_inferable,
+          c.in_ok-grown.was c.requires.members_inferable,
       c.requires.room.small,
     )
 
-pub infer_members-row_size_in-i-requires : goal.infer_members-row_size_in-i-requires
-infer_members-row_size_in-i-requires t c =
+pub infer_members-row_size_in-requires : goal.infer_members-row_size_in-requires
+infer_members-row_size_in-requires t c =
     members_row c.requires.room c.loop-i.invariant c.loop-i-test.true c.requires.members_inferable.meets
 
 pub infer_members-overflow_add-i : goal.infer_members-overflow_add-i
 infer_members-overflow_add-i t c =
     let z = members_size c.requires.room c.loop-i.invariant c.loop-i-test.true c.requires.members_inferable.meets in
-    omega (arith, z.1, c.row_size_in-i.ensures.sized, c.well_formed.1.1.1.1.0.0)
+    omega (arith, z.1, c.row_size_in.ensures.sized)
 
 pub infer_members-loop-i-smaller : goal.infer_members-loop-i-smaller
 infer_members-loop-i-smaller t c =
     let z = members_size c.requires.room c.loop-i.invariant c.loop-i-test.true c.requires.members_inferable.meets in
-    omega (arith, z.0, z.2, c.row_size_in-i.ensures.sized, c.loop-i-test.true)
+    omega (arith, z.0, z.2, c.row_size_in.ensures.sized, c.loop-i-test.true)
 
 pub infer_members-loop-i-preserved : goal.infer_members-loop-i-preserved
 infer_members-loop-i-preserved t c =
     members_loop_on c.requires.room c.loop-i.invariant c.loop-i-test.true
     c.infer_member.new.shapes c.infer_member.result c.infer_member.ensures.inferred
-    c.in-Grown.is c.row_size_in-i.ensures.sized c.infer_member.auto.shapes
+    c.in_ok-grown.was c.row_size_in.ensures.sized c.infer_member.auto.shapes
 
 pub infer_members-shape_of-shapes : goal.infer_members-shape_of-shapes
 infer_members-shape_of-shapes t c =
@@ -485,7 +458,7 @@ infer_members-returns t c =
 pub infer_record-overflow_add-end : goal.infer_record-overflow_add-end
 infer_record-overflow_add-end t c =
     let w = c.requires.inferable in
-    omega (arith, value_size w.meets.held, value_within w.meets.held, c.row_size.ensures.sized, c.well_formed.1.1.1.0.0)
+    omega (arith, value_size w.meets.held, value_within w.meets.held, c.row_size.ensures.sized)
 
 pub infer_record-members-first-requires : goal.infer_record-members-first-requires
 infer_record-members-first-requires t c =
@@ -500,7 +473,7 @@ infer_record-overflow_add-last t c =
 pub infer_record-overflow_add-at : goal.infer_record-overflow_add-at
 infer_record-overflow_add-at t c =
     let w = c.requires.inferable in
-    omega (arith, value_within w.meets.held, size_some w.value, c.well_formed.1.1.1.0.0)
+    omega (arith, value_within w.meets.held, size_some w.value)
 
 pub infer_record-infer_members-requires : goal.infer_record-infer_members-requires
 infer_record-infer_members-requires t c =
@@ -514,28 +487,28 @@ infer_record-infer_members-requires t c =
       ),
     )
 
-pub infer_record-overflow_add-used : goal.infer_record-overflow_add-used
-infer_record-overflow_add-used t c =
+pub infer_record-overflow_add-grown : goal.infer_record-overflow_add-grown
+infer_record-overflow_add-grown t c =
     let g = record_grown c.requires.room c.requires.record c.kinds.ensures.read
     c.has-had.ensures.told c.members-first.ensures.found
     (ap (λ (x : ℕ). c.args.row + x) c.size.ensures.read)
     (ap (λ (x : ℕ). c.args.at + x) c.row_size.ensures.sized) c.infer_members.new.shapes
-    c.infer_members.result c.infer_members.ensures.inferred c.in-Grown.is c.requires.inferable in
+    c.infer_members.result c.infer_members.ensures.inferred c.in_ok-words.was c.requires.inferable in
     omega (arith, g.0, c.requires.room.small)
 
-pub infer_record-overflow_add-last-in-Grown : goal.infer_record-overflow_add-last-in-Grown
-infer_record-overflow_add-last-in-Grown t c =
+pub infer_record-overflow_add-last-2 : goal.infer_record-overflow_add-last-2
+infer_record-overflow_add-last-2 t c =
     let g = record_grown c.requires.room c.requires.record c.kinds.ensures.read
     c.has-had.ensures.told c.members-first.ensures.found
     (ap (λ (x : ℕ). c.args.row + x) c.size.ensures.read)
     (ap (λ (x : ℕ). c.args.at + x) c.row_size.ensures.sized) c.infer_members.new.shapes
-    c.infer_members.result c.infer_members.ensures.inferred c.in-Grown.is c.requires.inferable in
+    c.infer_members.result c.infer_members.ensures.inferred c.in_ok-words.was c.requires.inferable in
     omega (arith, g.0, g.1, c.requires.room.small)
 
-pub infer_record-overflow_add-at-in-Grown : goal.infer_record-overflow_add-at-in-Grown
-infer_record-overflow_add-at-in-Grown t c =
+pub infer_record-overflow_add-at-2 : goal.infer_record-overflow_add-at-2
+infer_record-overflow_add-at-2 t c =
     let w = c.requires.inferable in
-    omega (arith, value_within w.meets.held, size_some w.value, c.well_formed.1.1.1.0.0)
+    omega (arith, value_within w.meets.held, size_some w.value)
 
 pub infer_record-null_others-requires : goal.infer_record-null_others-requires
 infer_record-null_others-requires t c =
@@ -543,11 +516,11 @@ infer_record-null_others-requires t c =
       nullable = record_nulls c.requires.room c.requires.record c.kinds.ensures.read c.has-had.ensures.told
           c.members-first.ensures.found (ap (λ (x : ℕ). c.args.row + x) c.size.ensures.read)
           (ap (λ (x : ℕ). c.args.at + x) c.row_size.ensures.sized) c.infer_members.new.shapes
-          c.infer_members.result c.infer_members.ensures.inferred c.in-Grown.is c.requires.inferable;
+          c.infer_members.result c.infer_members.ensures.inferred c.in_ok-words.was c.requires.inferable;
       room = record_room c.requires.room c.requires.record c.kinds.ensures.read c.has-had.ensures.told
           c.members-first.ensures.found (ap (λ (x : ℕ). c.args.row + x) c.size.ensures.read)
           (ap (λ (x : ℕ). c.args.at + x) c.row_size.ensures.sized) c.infer_members.new.shapes
-          c.infer_members.result c.infer_members.ensures.inferred c.in-Grown.is c.requires.inferable;
+          c.infer_members.result c.infer_members.ensures.inferred c.in_ok-words.was c.requires.inferable;
     }
 
 pub infer_record-raise-requires : goal.infer_record-raise-requires
@@ -556,34 +529,26 @@ infer_record-raise-requires t c =
     c.has-had.ensures.told c.members-first.ensures.found
     (ap (λ (x : ℕ). c.args.row + x) c.size.ensures.read)
     (ap (λ (x : ℕ). c.args.at + x) c.row_size.ensures.sized) c.infer_members.new.shapes
-    c.infer_members.result c.infer_members.ensures.inferred c.in-Grown.is
+    c.infer_members.result c.infer_members.ensures.inferred c.in_ok-words.was
     c.null_others.new.shapes c.null_others.ensures.nulled c.requires.inferable in record { row_in_bounds = facts.0; fits = facts.1 }
 
-pub infer_record-shape_of-shapes-in-Full : goal.infer_record-shape_of-shapes-in-Full
-infer_record-shape_of-shapes-in-Full t c =
-    c.infer_members.auto.shapes
-
-pub infer_record-returns-in-Full : goal.infer_record-returns-in-Full
-infer_record-returns-in-Full t c =
+pub infer_record-returns-in_err-words : goal.infer_record-returns-in_err-words
+infer_record-returns-in_err-words t c =
     record {
-      inferred = record_full c.requires.room c.requires.record c.kinds.ensures.read
+      inferred = rw c.from_residual.ensures (record_full c.requires.room c.requires.record c.kinds.ensures.read
           c.has-had.ensures.told c.members-first.ensures.found
           (ap (λ (x : ℕ). c.args.row + x) c.size.ensures.read)
           (ap (λ (x : ℕ). c.args.at + x) c.row_size.ensures.sized) c.infer_members.new.shapes
-          c.infer_members.result c.infer_members.ensures.inferred c.in-Full.is;
+          c.infer_members.result c.infer_members.ensures.inferred c.in_err-words.was);
     }
 
-pub infer_record-shape_of-shapes-in-Grown : goal.infer_record-shape_of-shapes-in-Grown
-infer_record-shape_of-shapes-in-Grown t c =
-    c.raise.auto.shapes ∙ c.null_others.auto.shapes ∙ c.infer_members.auto.shapes
-
-pub infer_record-returns-in-Grown : goal.infer_record-returns-in-Grown
-infer_record-returns-in-Grown t c =
+pub infer_record-returns : goal.infer_record-returns
+infer_record-returns t c =
     record {
       inferred = record_answer c.requires.room c.requires.record c.kinds.ensures.read
           c.has-had.ensures.told c.members-first.ensures.found
           (ap (λ (x : ℕ). c.args.row + x) c.size.ensures.read)
           (ap (λ (x : ℕ). c.args.at + x) c.row_size.ensures.sized) c.infer_members.new.shapes
-          c.infer_members.result c.infer_members.ensures.inferred c.in-Grown.is
+          c.infer_members.result c.infer_members.ensures.inferred c.in_ok-words.was
           c.null_others.new.shapes c.null_others.ensures.nulled c.raise.ensures.raised c.raise.auto.shapes;
     }

@@ -1,36 +1,54 @@
 -- `inputs::reader_shape` meets its contract. Assumes nothing.
 use Rattle.definitions.specs.ShapeText.{read_shape}
+use Rattle.definitions.specs.Reader.{read_reader}
 use Rattle.inputs.proofs.ReaderTexts.{reader_stops, reader_passes, room_before_shape, room_for_its_shape, its_shape_refused, its_shape_passes}
+use Rattle.reading.proofs.Passed.{passed}
+use Rattle.inputs.specs.Inputs.{JudgesBoth, ReaderShapeHeld}
+use Rattle.inputs.proofs.Mapped.{read_in, refused_in}
 use Rattle.inputs.proofs.reader_shape.Goals as goal
 
 pub first_reader-requires : goal.first_reader-requires
-first_reader-requires c =
-    room_before_shape c.requires
+first_reader-requires c = room_before_shape c.requires
 
 pub read_shape-requires : goal.read_shape-requires
 read_shape-requires c =
-    room_for_its_shape c.requires _ c.in-Read.top c.pool-1.given
-    (reader_passes c.first_reader.ensures.judged c.in-Read.is).low
+    let e = read_in 1 c.first_reader.result c.map_err.ensures.cases c.in_ok-first.was in
+    room_for_its_shape c.requires _ c.in_ok-first.first.top c.first_reader.auto.pool ((reader_passes c.first_reader.ensures.judged e).low)
 
-pub returns-in-Refused : goal.returns-in-Refused
-returns-in-Refused c =
+pub returns-in_err-first : goal.returns-in_err-first
+returns-in_err-first c =
+    let a = c.args in
     record {
-      judged = let a = c.args in
-          record { answer = reader_stops c.first_reader.ensures.judged read_shape a.shape.now c.in-Refused.is };
+      judged = passed
+          (JudgesBoth a.limits read_reader a.reader.now read_shape a.shape.now
+          (ReaderShapeHeld a.limits c.first_reader.new.forms a.shapes.now c.first_reader.new.pool))
+          c.from_residual.ensures
+          (record {
+            answer = refused_in 1 c.first_reader.result c.map_err.ensures.cases c.in_err-first.was
+                (λ q e. reader_stops c.first_reader.ensures.judged read_shape a.shape.now e);
+          });
     }
 
-pub returns-in-Refused-read_shape : goal.returns-in-Refused-read_shape
-returns-in-Refused-read_shape c =
+pub returns-in_err-second : goal.returns-in_err-second
+returns-in_err-second c =
+    let a = c.args in
+    let e = read_in 1 c.first_reader.result c.map_err.ensures.cases c.in_ok-first.was in
+    let f = reader_passes c.first_reader.ensures.judged e in
     record {
-      judged = let a = c.args in
-          let f = reader_passes c.first_reader.ensures.judged c.in-Read.is in
-          record { answer = its_shape_refused f a.shape.now c.read_shape.ensures.judged c.in-Refused-read_shape.is };
+      judged = passed
+          (JudgesBoth a.limits read_reader a.reader.now read_shape a.shape.now
+          (ReaderShapeHeld a.limits c.first_reader.new.forms c.read_shape.new.shapes c.read_shape.new.pool))
+          c.from_residual-in_err-second.ensures
+          (record {
+            answer = refused_in 2 c.read_shape.result c.map_err-2.ensures.cases c.in_err-second.was
+                (λ q g. its_shape_refused f a.shape.now c.read_shape.ensures.judged g);
+          });
     }
 
-pub returns-in-Read-read_shape : goal.returns-in-Read-read_shape
-returns-in-Read-read_shape c =
-    record {
-      judged = let a = c.args in
-          let f = reader_passes c.first_reader.ensures.judged c.in-Read.is in
-          record { answer = its_shape_passes f a.shape.now c.read_shape.ensures.judged c.in-Read-read_shape.is };
-    }
+pub returns : goal.returns
+returns c =
+    let a = c.args in
+    let e = read_in 1 c.first_reader.result c.map_err.ensures.cases c.in_ok-first.was in
+    let g = read_in 2 c.read_shape.result c.map_err-2.ensures.cases c.in_ok-second.was in
+    let f = reader_passes c.first_reader.ensures.judged e in
+    record { judged = record { answer = rw c.both.ensures (its_shape_passes f a.shape.now c.read_shape.ensures.judged g) } }

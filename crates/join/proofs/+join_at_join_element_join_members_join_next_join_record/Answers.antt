@@ -1,11 +1,10 @@
 -- The proof of the cycle of calls {join_at, join_element, join_members, join_next, join_record}. The nesting left falls from
 -- a shape to its members and its element; the loop's invariant is that `Merging` holds of every members that stand there. Assumes nothing.
 use native.Mathlib.Omega.{arith}
-use mathlib.Core.Path.{refl, sym, ◌∙◌}
-use Rattle.shapes.specs.ShapesLaws.{stands_size, stands_within, stands_row, fields_end}
-use Rattle.join.specs.declared.Joined.TheVariants.{Grown}
-use Rattle.join.specs.Joining.{join_records, join_elements}
-use Rattle.join.proofs.Answers.{joined_grown, joined_full, denied, granted}
+use mathlib.Core.Path.{refl}
+use Rattle.shapes.specs.ShapesLaws.{stands_size, stands_within, stands_row, fields_end, bit_tested}
+use Rattle.std.specs.Prelude.{Some}
+use Rattle.join.specs.Joining.{join_records}
 use Rattle.join.proofs.Parts.{head_room, members_within}
 use Rattle.join.proofs.Merging.{merging, merged}
 use Rattle.join.proofs.Loop.{loop_bounds, loop_turns, loop_full, loop_again, loop_less}
@@ -14,36 +13,29 @@ use Rattle.join.proofs.Joining.{left_some, spans, record_none, record_asks, reco
 use Rattle.join.proofs.Joining.{element_none, element_asks, element_full, element_inner, element_grown}
 use Rattle.join.proofs.Whole.{members_full, members_joins, elements_full, head_asks, whole_grown}
 use Rattle.join.proofs.Idle.{idle}
-use Rattle.std.proofs.Common.{ap, not}
 use Rattle.join.proofs.+join_at_join_element_join_members_join_next_join_record.Goals as goal
 
-pub join_at-join_record-r-requires : goal.join_at-join_record-r-requires
-join_at-join_record-r-requires t c =
+pub join_at-join_record-requires : goal.join_at-join_record-requires
+join_at-join_record-requires t c =
     (omega (arith, c.decreases), c.requires)
 
-pub join_at-shape_of-shapes-in_default : goal.join_at-shape_of-shapes-in_default
-join_at-shape_of-shapes-in_default t c =
-    c.join_record-r.auto.shapes
-
-pub join_at-returns-in_default : goal.join_at-returns-in_default
-join_at-returns-in_default t c =
+pub join_at-returns-in_err-words : goal.join_at-returns-in_err-words
+join_at-returns-in_err-words t c =
     record {
-      joined = λ p m k a b j. members_full j
-          (joined_full join_records c.join_record-r.new.shapes c.in_default.is c.join_record-r.ensures.joined j);
+      joined = rw c.from_residual.ensures (λ p m k a b j. members_full j
+          (c.in_err-words.ensures.joined p m k a b j));
     }
 
 pub join_at-overflow_add-used : goal.join_at-overflow_add-used
 join_at-overflow_add-used t c =
     let w = c.requires in
-    let q = joined_grown join_records c.join_record-r.new.shapes c.in-Grown.is
-    c.join_record-r.ensures.joined w.joins in
+    let q = c.in_ok-words.ensures.joined _ _ _ _ _ w.joins in
     omega (arith, q.replaced.within, w.small)
 
-pub join_at-join_element-r-requires : goal.join_at-join_element-r-requires
-join_at-join_element-r-requires t c =
+pub join_at-join_element-requires : goal.join_at-join_element-requires
+join_at-join_element-requires t c =
     let w = c.requires in
-    let q = joined_grown join_records c.join_record-r.new.shapes c.in-Grown.is
-    c.join_record-r.ensures.joined w.joins in (
+    let q = c.in_ok-words.ensures.joined _ _ _ _ _ w.joins in (
       omega (arith, c.decreases),
       record {
         p = w.p;
@@ -56,50 +48,34 @@ join_at-join_element-r-requires t c =
       },
     )
 
-pub join_at-shape_of-shapes-in_default-r : goal.join_at-shape_of-shapes-in_default-r
-join_at-shape_of-shapes-in_default-r t c =
-    c.join_element-r.auto.shapes ∙ c.join_record-r.auto.shapes
-
-pub join_at-returns-in_default-r : goal.join_at-returns-in_default-r
-join_at-returns-in_default-r t c =
+pub join_at-returns-in_err-more : goal.join_at-returns-in_err-more
+join_at-returns-in_err-more t c =
     record {
-      joined = λ p m k a b j. let q = joined_grown join_records c.join_record-r.new.shapes c.in-Grown.is
-          c.join_record-r.ensures.joined j in
+      joined = rw c.from_residual-in_err-more.ensures (λ p m k a b j. let q = c.in_ok-words.ensures.joined p m k a b j in
           elements_full j q
-          (joined_full join_elements c.join_element-r.new.shapes c.in_default-r.is
-          c.join_element-r.ensures.joined (members_joins j q));
+          (c.in_err-more.ensures.joined _ _ _ _ _ (members_joins j q)));
     }
 
 pub join_at-put_head-requires : goal.join_at-put_head-requires
 join_at-put_head-requires t c =
     let w = c.requires in
-    let q = joined_grown join_records c.join_record-r.new.shapes c.in-Grown.is
-    c.join_record-r.ensures.joined w.joins in
-    let v = joined_grown join_elements c.join_element-r.new.shapes c.in-Grown-r.is
-    c.join_element-r.ensures.joined (members_joins w.joins q) in
+    let q = c.in_ok-words.ensures.joined _ _ _ _ _ w.joins in
+    let v = c.in_ok-more.ensures.joined _ _ _ _ _ (members_joins w.joins q) in
     let facts = head_asks w.joins q v c.kinds.ensures.read c.kinds-2.ensures.read
     c.union-kinds.ensures.made c.size-size.ensures.read w.small in record { row_in_bounds = facts.0; fits = facts.1 }
 
 pub join_at-overflow_add-result : goal.join_at-overflow_add-result
 join_at-overflow_add-result t c =
     let w = c.requires in
-    let q = joined_grown join_records c.join_record-r.new.shapes c.in-Grown.is
-    c.join_record-r.ensures.joined w.joins in
-    let v = joined_grown join_elements c.join_element-r.new.shapes c.in-Grown-r.is c.join_element-r.ensures.joined
-    (members_joins w.joins q) in
+    let q = c.in_ok-words.ensures.joined _ _ _ _ _ w.joins in
+    let v = c.in_ok-more.ensures.joined _ _ _ _ _ (members_joins w.joins q) in
     omega (arith, v.replaced.within, q.replaced.same, w.small)
-
-pub join_at-shape_of-shapes : goal.join_at-shape_of-shapes
-join_at-shape_of-shapes t c =
-    c.put_head.auto.shapes ∙ c.join_element-r.auto.shapes ∙ c.join_record-r.auto.shapes
 
 pub join_at-returns : goal.join_at-returns
 join_at-returns t c =
     record {
-      joined = λ p m k a b j. let q = joined_grown join_records c.join_record-r.new.shapes c.in-Grown.is
-          c.join_record-r.ensures.joined j in
-          let v = joined_grown join_elements c.join_element-r.new.shapes c.in-Grown-r.is
-          c.join_element-r.ensures.joined (members_joins j q) in
+      joined = λ p m k a b j. let q = c.in_ok-words.ensures.joined p m k a b j in
+          let v = c.in_ok-more.ensures.joined _ _ _ _ _ (members_joins j q) in
           whole_grown j q v c.kinds.ensures.read c.kinds-2.ensures.read c.union-kinds.ensures.made
           c.size-size.ensures.read
           c.put_head.ensures.put c.put_head.auto.shapes;
@@ -107,7 +83,7 @@ join_at-returns t c =
 
 pub join_element-returns-then-not-has : goal.join_element-returns-then-not-has
 join_element-returns-then-not-has t c =
-    record { joined = λ p m k a b j. element_none (denied 32 c.kinds.ensures.read (sym c.has.ensures.told) (ap not c.if-not-has.true)) a b j }
+    record { joined = λ p m k a b j. element_none (bit_tested 32 c.kinds.ensures.read c.if-not-has.ensures.told) a b j }
 
 pub join_element-put_element-requires : goal.join_element-put_element-requires
 join_element-put_element-requires t c =
@@ -122,22 +98,13 @@ join_element-put_element-requires t c =
         both = w.joins.both;
         small = w.small;
       };
-      lacks = denied 32 c.kinds-2.ensures.read (sym c.has-2.ensures.told) (ap not c.if-not-has-2.true);
-      there = granted 32 c.kinds.ensures.read (sym c.has.ensures.told) (ap not c.if-not-has.false);
+      lacks = bit_tested 32 c.kinds-2.ensures.read c.if-not-has-2.ensures.told;
+      there = bit_tested 32 c.kinds.ensures.read c.if-not-has.ensures.told;
     }
-
-pub join_element-shape_of-shapes-then-not-has-2 : goal.join_element-shape_of-shapes-then-not-has-2
-join_element-shape_of-shapes-then-not-has-2 t c =
-    c.put_element.auto.shapes
 
 pub join_element-returns-then-not-has-2 : goal.join_element-returns-then-not-has-2
 join_element-returns-then-not-has-2 t c =
     record { joined = λ p m k a b j. c.put_element.ensures.put p m k a b j.both }
-
-pub join_element-overflow_add-row : goal.join_element-overflow_add-row
-join_element-overflow_add-row t c =
-    let w = c.requires in
-    omega (arith, stands_row w.joins.both.ours, w.small)
 
 pub join_element-overflow_add-other : goal.join_element-overflow_add-other
 join_element-overflow_add-other t c =
@@ -150,27 +117,23 @@ join_element-overflow_sub-left t c =
     let w = c.requires in
     omega (arith, left_some w.theirs s.left w.joins.nests)
 
-pub join_element-join_at-r-requires : goal.join_element-join_at-r-requires
-join_element-join_at-r-requires t c =
+pub join_element-join_at-requires : goal.join_element-join_at-requires
+join_element-join_at-requires t c =
     let s = c.args in
     let w = c.requires in (
       omega (arith, c.decreases, left_some w.theirs s.left w.joins.nests),
-      element_asks (granted 32 c.kinds-2.ensures.read (sym c.has-2.ensures.told) (ap not c.if-not-has-2.false))
-          (granted 32 c.kinds.ensures.read (sym c.has.ensures.told) (ap not c.if-not-has.false)) w.ours
+      element_asks (bit_tested 32 c.kinds-2.ensures.read c.if-not-has-2.ensures.told)
+          (bit_tested 32 c.kinds.ensures.read c.if-not-has.ensures.told) w.ours
           w.theirs w.joins w.small,
     )
 
-pub join_element-shape_of-shapes-in_default : goal.join_element-shape_of-shapes-in_default
-join_element-shape_of-shapes-in_default t c =
-    c.join_at-r.auto.shapes
-
-pub join_element-returns-in_default : goal.join_element-returns-in_default
-join_element-returns-in_default t c =
+pub join_element-returns-in_err-words : goal.join_element-returns-in_err-words
+join_element-returns-in_err-words t c =
     record {
-      joined = λ p m k u v j. element_full
-          (granted 32 c.kinds-2.ensures.read (sym c.has-2.ensures.told) (ap not c.if-not-has-2.false))
-          (granted 32 c.kinds.ensures.read (sym c.has.ensures.told) (ap not c.if-not-has.false))
-          c.join_at-r.new.shapes c.join_at-r.result c.join_at-r.ensures.joined c.in_default.is u v j;
+      joined = rw c.from_residual.ensures (λ p m k u v j. element_full
+          (bit_tested 32 c.kinds-2.ensures.read c.if-not-has-2.ensures.told)
+          (bit_tested 32 c.kinds.ensures.read c.if-not-has.ensures.told)
+          c.join_at.new.shapes c.in_err-words.ensures.joined u v j);
     }
 
 pub join_element-grow_head-requires : goal.join_element-grow_head-requires
@@ -178,25 +141,20 @@ join_element-grow_head-requires t c =
     let s = c.args in
     let w = c.requires in
     let i = element_inner
-    (granted 32 c.kinds-2.ensures.read (sym c.has-2.ensures.told) (ap not c.if-not-has-2.false))
-    (granted 32 c.kinds.ensures.read (sym c.has.ensures.told) (ap not c.if-not-has.false))
-    c.join_at-r.new.shapes c.join_at-r.result c.join_at-r.ensures.joined c.in-Grown.is w.ours
+    (bit_tested 32 c.kinds-2.ensures.read c.if-not-has-2.ensures.told)
+    (bit_tested 32 c.kinds.ensures.read c.if-not-has.ensures.told)
+    c.join_at.new.shapes c.in_ok-words.ensures.joined w.ours
     w.theirs w.joins in
     let facts = head_room s.row 0 i.2.replaced w.joins.both.ours (omega arith) i.3 w.joins.both.used_within w.small (omega arith) in
     record { row_in_bounds = facts.0; fits = facts.1 }
-
-pub join_element-shape_of-shapes : goal.join_element-shape_of-shapes
-join_element-shape_of-shapes t c =
-    c.grow_head.auto.shapes ∙ c.join_at-r.auto.shapes
 
 pub join_element-returns : goal.join_element-returns
 join_element-returns t c =
     record {
       joined = λ p m k u v j. element_grown
-          (granted 32 c.kinds-2.ensures.read (sym c.has-2.ensures.told) (ap not c.if-not-has-2.false))
-          (granted 32 c.kinds.ensures.read (sym c.has.ensures.told) (ap not c.if-not-has.false))
-          c.join_at-r.new.shapes c.join_at-r.result c.join_at-r.ensures.joined
-          c.in-Grown.is c.grow_head.ensures.told c.grow_head.auto.shapes u v j;
+          (bit_tested 32 c.kinds-2.ensures.read c.if-not-has-2.ensures.told)
+          (bit_tested 32 c.kinds.ensures.read c.if-not-has.ensures.told)
+          c.join_at.new.shapes c.in_ok-words.ensures.joined c.grow_head.ensures.told c.grow_head.auto.shapes u v j;
     }
 
 pub join_members-loop-i-init : goal.join_members-loop-i-init
@@ -228,34 +186,30 @@ join_members-overflow_add-used t c =
     let b = loop_bounds c.requires c.loop-i.invariant in
     omega (arith, c.well_formed.1.1.1.1.0.0)
 
-pub join_members-join_next-r-requires : goal.join_members-join_next-r-requires
-join_members-join_next-r-requires t c = (
+pub join_members-join_next-requires : goal.join_members-join_next-requires
+join_members-join_next-requires t c = (
   omega (arith, c.decreases),
   loop_turns c.loop-i.invariant c.next_member-order.ensures.told c.loop-i-test.true c.requires,
 )
 
-pub join_members-shape_of-shapes-in_default : goal.join_members-shape_of-shapes-in_default
-join_members-shape_of-shapes-in_default t c =
-    c.join_next-r.auto.shapes ∙ (loop_bounds c.requires c.loop-i.invariant).same
-
-pub join_members-returns-in_default : goal.join_members-returns-in_default
-join_members-returns-in_default t c =
+pub join_members-returns-in_err-more : goal.join_members-returns-in_err-more
+join_members-returns-in_err-more t c =
     record {
-      merged = loop_full c.loop-i.invariant c.next_member-order.ensures.told c.loop-i-test.true
-          c.join_next-r.new.shapes c.join_next-r.ensures.turned c.in_default.is;
+      merged = rw c.from_residual.ensures (loop_full c.loop-i.invariant c.next_member-order.ensures.told c.loop-i-test.true
+          c.join_next.new.shapes c.in_err-more.ensures.turned);
     }
 
 pub join_members-overflow_add-i-in-loop-i : goal.join_members-overflow_add-i-in-loop-i
 join_members-overflow_add-i-in-loop-i t c =
     let l = loop_bounds c.requires (loop_again c.loop-i.invariant c.next_member-order.ensures.told
-    c.loop-i-test.true c.join_next-r.new.shapes c.join_next-r.ensures.turned c.in-Grown.is
+    c.loop-i-test.true c.join_next.new.shapes c.in_ok-more.ensures.turned
     c.size-i.result _ c.size-i.ensures.read refl) in
     omega arith
 
 pub join_members-loop-i-preserved : goal.join_members-loop-i-preserved
 join_members-loop-i-preserved t c =
     loop_again c.loop-i.invariant c.next_member-order.ensures.told c.loop-i-test.true
-    c.join_next-r.new.shapes c.join_next-r.ensures.turned c.in-Grown.is c.size-i.result c.second_step-j.result
+    c.join_next.new.shapes c.in_ok-more.ensures.turned c.size-i.result c.second_step-j.result
     c.size-i.ensures.read c.second_step-j.ensures.told
 
 pub join_members-overflow_add-j : goal.join_members-overflow_add-j
@@ -271,12 +225,8 @@ join_members-overflow_add-words t c =
 pub join_members-loop-i-smaller : goal.join_members-loop-i-smaller
 join_members-loop-i-smaller t c =
     loop_less c.loop-i.invariant c.next_member-order.ensures.told c.loop-i-test.true
-    c.join_next-r.new.shapes c.join_next-r.ensures.turned c.in-Grown.is c.size-i.result c.second_step-j.result
+    c.join_next.new.shapes c.in_ok-more.ensures.turned c.size-i.result c.second_step-j.result
     c.size-i.ensures.read c.second_step-j.ensures.told c.requires
-
-pub join_members-shape_of-shapes : goal.join_members-shape_of-shapes
-join_members-shape_of-shapes t c =
-    (loop_bounds c.requires c.loop-i.invariant).same
 
 pub join_members-returns : goal.join_members-returns
 join_members-returns t c =
@@ -287,14 +237,10 @@ join_next-add_null-requires t c =
     let w = c.requires in
     let facts = less_asks c.in-Less.is w.walks w.next w.small in record { row_in_bounds = facts.0; fits = facts.1 }
 
-pub join_next-shape_of-shapes-then-adds_nothing : goal.join_next-shape_of-shapes-then-adds_nothing
-join_next-shape_of-shapes-then-adds_nothing t c =
-    refl
-
 pub join_next-returns-then-adds_nothing : goal.join_next-returns-then-adds_nothing
 join_next-returns-then-adds_nothing t c =
     record {
-      turned = λ p end to fs gs n u old fs' gs' w v. equal_turned c.args.shapes.now (Grown 0) c.in-Equal.is
+      turned = λ p end to fs gs n u old fs' gs' w v. equal_turned c.args.shapes.now (Some 0) c.in-Equal.is
           (idle (c.adds_nothing.ensures.told c.if-adds_nothing.true)) w v;
     }
 
@@ -308,17 +254,9 @@ join_next-put_member-requires t c =
     let w = c.requires in
     greater_asks c.in-Greater.is w.walks w.next w.small
 
-pub join_next-shape_of-shapes-in-Less : goal.join_next-shape_of-shapes-in-Less
-join_next-shape_of-shapes-in-Less t c =
-    c.add_null.auto.shapes
-
 pub join_next-returns-in-Less : goal.join_next-returns-in-Less
 join_next-returns-in-Less t c =
     record { turned = λ p end to fs gs n u old fs' gs' w v. less_turned c.in-Less.is c.add_null.ensures.added c.add_null.auto.shapes w v }
-
-pub join_next-shape_of-shapes-else-adds_nothing : goal.join_next-shape_of-shapes-else-adds_nothing
-join_next-shape_of-shapes-else-adds_nothing t c =
-    c.join_at.auto.shapes
 
 pub join_next-returns-else-adds_nothing : goal.join_next-returns-else-adds_nothing
 join_next-returns-else-adds_nothing t c =
@@ -327,10 +265,6 @@ join_next-returns-else-adds_nothing t c =
           c.in-Equal.is
           c.join_at.ensures.joined w v;
     }
-
-pub join_next-shape_of-shapes-in-Greater : goal.join_next-shape_of-shapes-in-Greater
-join_next-shape_of-shapes-in-Greater t c =
-    c.put_member.auto.shapes
 
 pub join_next-returns-in-Greater : goal.join_next-returns-in-Greater
 join_next-returns-in-Greater t c =
@@ -341,7 +275,7 @@ join_next-returns-in-Greater t c =
 
 pub join_record-returns-then-not-has : goal.join_record-returns-then-not-has
 join_record-returns-then-not-has t c =
-    record { joined = λ p m k a b j. record_none (denied 64 c.kinds.ensures.read (sym c.has.ensures.told) (ap not c.if-not-has.true)) a b j }
+    record { joined = λ p m k a b j. record_none (bit_tested 64 c.kinds.ensures.read c.if-not-has.ensures.told) a b j }
 
 pub join_record-put_members-requires : goal.join_record-put_members-requires
 join_record-put_members-requires t c =
@@ -356,13 +290,9 @@ join_record-put_members-requires t c =
         both = w.joins.both;
         small = w.small;
       };
-      lacks = denied 64 c.kinds-2.ensures.read (sym c.has-2.ensures.told) (ap not c.if-not-has-2.true);
-      there = granted 64 c.kinds.ensures.read (sym c.has.ensures.told) (ap not c.if-not-has.false);
+      lacks = bit_tested 64 c.kinds-2.ensures.read c.if-not-has-2.ensures.told;
+      there = bit_tested 64 c.kinds.ensures.read c.if-not-has.ensures.told;
     }
-
-pub join_record-shape_of-shapes-then-not-has-2 : goal.join_record-shape_of-shapes-then-not-has-2
-join_record-shape_of-shapes-then-not-has-2 t c =
-    c.put_members.auto.shapes
 
 pub join_record-returns-then-not-has-2 : goal.join_record-returns-then-not-has-2
 join_record-returns-then-not-has-2 t c =
@@ -394,31 +324,25 @@ join_record-overflow_sub-left t c =
     let w = c.requires in
     omega (arith, left_some w.theirs s.left w.joins.nests)
 
-pub join_record-join_members-r-requires : goal.join_record-join_members-r-requires
-join_record-join_members-r-requires t c =
+pub join_record-join_members-requires : goal.join_record-join_members-requires
+join_record-join_members-requires t c =
     let s = c.args in
     let w = c.requires in
     let z = spans s.shapes.now s.second.now s.row s.other c.members-at.ensures.found c.size.ensures.read
     c.members-from.ensures.found c.size-2.ensures.read in
-    let b = granted 64 c.kinds-2.ensures.read (sym c.has-2.ensures.told)
-    (ap not c.if-not-has-2.false) in
-    let d = granted 64 c.kinds.ensures.read (sym c.has.ensures.told) (ap not c.if-not-has.false) in
+    let b = bit_tested 64 c.kinds-2.ensures.read c.if-not-has-2.ensures.told in
+    let d = bit_tested 64 c.kinds.ensures.read c.if-not-has.ensures.told in
     (omega (arith, c.decreases, left_some w.theirs s.left w.joins.nests), record_asks z b d w.ours w.theirs w.joins w.small)
 
-pub join_record-shape_of-shapes-in_default : goal.join_record-shape_of-shapes-in_default
-join_record-shape_of-shapes-in_default t c =
-    c.join_members-r.auto.shapes
-
-pub join_record-returns-in_default : goal.join_record-returns-in_default
-join_record-returns-in_default t c =
+pub join_record-returns-in_err-words : goal.join_record-returns-in_err-words
+join_record-returns-in_err-words t c =
     record {
-      joined = λ p m k u v j. let s = c.args in
+      joined = rw c.from_residual.ensures (λ p m k u v j. let s = c.args in
           let z = spans s.shapes.now s.second.now s.row s.other c.members-at.ensures.found c.size.ensures.read
           c.members-from.ensures.found c.size-2.ensures.read in
-          let b = granted 64 c.kinds-2.ensures.read (sym c.has-2.ensures.told) (ap not c.if-not-has-2.false) in
-          let d = granted 64 c.kinds.ensures.read (sym c.has.ensures.told) (ap not c.if-not-has.false) in
-          record_full z b d c.join_members-r.new.shapes c.join_members-r.result c.join_members-r.ensures.merged
-          c.in_default.is u v j;
+          let b = bit_tested 64 c.kinds-2.ensures.read c.if-not-has-2.ensures.told in
+          let d = bit_tested 64 c.kinds.ensures.read c.if-not-has.ensures.told in
+          record_full z b d c.join_members.new.shapes c.in_err-words.ensures.merged u v j);
     }
 
 pub join_record-grow_head-requires : goal.join_record-grow_head-requires
@@ -427,16 +351,11 @@ join_record-grow_head-requires t c =
     let w = c.requires in
     let z = spans s.shapes.now s.second.now s.row s.other c.members-at.ensures.found c.size.ensures.read
     c.members-from.ensures.found c.size-2.ensures.read in
-    let b = granted 64 c.kinds-2.ensures.read (sym c.has-2.ensures.told) (ap not c.if-not-has-2.false) in
-    let d = granted 64 c.kinds.ensures.read (sym c.has.ensures.told) (ap not c.if-not-has.false) in
-    let i = record_inner z b d c.join_members-r.new.shapes c.join_members-r.result
-    c.join_members-r.ensures.merged c.in-Grown.is w.ours w.theirs w.joins in
+    let b = bit_tested 64 c.kinds-2.ensures.read c.if-not-has-2.ensures.told in
+    let d = bit_tested 64 c.kinds.ensures.read c.if-not-has.ensures.told in
+    let i = record_inner z b d c.join_members.new.shapes c.in_ok-words.ensures.merged w.ours w.theirs w.joins in
     let facts = head_room s.row 0 i.2.replaced w.joins.both.ours i.3 i.4 w.joins.both.used_within w.small (omega arith) in
     record { row_in_bounds = facts.0; fits = facts.1 }
-
-pub join_record-shape_of-shapes : goal.join_record-shape_of-shapes
-join_record-shape_of-shapes t c =
-    c.grow_head.auto.shapes ∙ c.join_members-r.auto.shapes
 
 pub join_record-returns : goal.join_record-returns
 join_record-returns t c =
@@ -444,8 +363,7 @@ join_record-returns t c =
       joined = λ p m k u v j. let s = c.args in
           let z = spans s.shapes.now s.second.now s.row s.other c.members-at.ensures.found c.size.ensures.read
           c.members-from.ensures.found c.size-2.ensures.read in
-          let b = granted 64 c.kinds-2.ensures.read (sym c.has-2.ensures.told) (ap not c.if-not-has-2.false) in
-          let d = granted 64 c.kinds.ensures.read (sym c.has.ensures.told) (ap not c.if-not-has.false) in
-          record_grown z b d c.join_members-r.new.shapes c.join_members-r.result c.join_members-r.ensures.merged
-          c.in-Grown.is c.grow_head.ensures.told c.grow_head.auto.shapes u v j;
+          let b = bit_tested 64 c.kinds-2.ensures.read c.if-not-has-2.ensures.told in
+          let d = bit_tested 64 c.kinds.ensures.read c.if-not-has.ensures.told in
+          record_grown z b d c.join_members.new.shapes c.in_ok-words.ensures.merged c.grow_head.ensures.told c.grow_head.auto.shapes u v j;
     }

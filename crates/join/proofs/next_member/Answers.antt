@@ -19,11 +19,7 @@ returns c =
           _
           c.name-k.ensures.read
           c.name-m.ensures.read
-          c.text_word-w.ensures.split
-          c.text_word-v.ensures.split
-          c.text_bytes.ensures.split
-          c.text_bytes-2.ensures.split
-          c.compare.ensures.compared
+          c.compare_names.ensures.compared
           c.if-end-row.false
           c.if-to-other.false
           fs

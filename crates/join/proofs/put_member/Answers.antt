@@ -1,8 +1,6 @@
 -- `join::put_member` meets its contract. Assumes nothing.
 use native.Mathlib.Omega.{arith}
 use Rattle.shapes.specs.ShapesLaws.{stands_size, stands_within}
-use Rattle.join.specs.Joining.{Copied}
-use Rattle.join.proofs.Answers.{grown_of, full_of}
 use Rattle.join.proofs.Members.{put_member_full, put_member_grown, put_member_head}
 use Rattle.join.proofs.put_member.Goals as goal
 
@@ -15,22 +13,21 @@ put_rows-requires c =
       within = omega (arith, c.size-count.ensures.read, stands_size w.stands, stands_within w.stands);
     }
 
-pub returns-in_default : goal.returns-in_default
-returns-in_default c =
+pub returns-in_err-words : goal.returns-in_err-words
+returns-in_err-words c =
     record {
-      put = λ p k b h. let s = c.args in
+      put = rw c.from_residual.ensures (λ p k b h. let s = c.args in
           let w = c.requires in
           put_member_full s.shapes.now c.put_rows.new.shapes s.second.now s.used s.at s.from c.size-count.result h
           c.size-count.ensures.read
-          (full_of _ _ _ s.at _ _ (Copied s.second.now s.from c.size-count.result) c.in_default.is c.put_rows.ensures.put);
+          c.in_err-words.ensures.put);
     }
 
 pub add_null-requires : goal.add_null-requires
 add_null-requires c =
     let s = c.args in
     let w = c.requires in
-    let q = grown_of s.shapes.now c.put_rows.new.shapes s.used s.at 0 c.size-count.result
-    (Copied s.second.now s.from c.size-count.result) c.in-Grown.is c.put_rows.ensures.put in
+    let q = c.in_ok-words.ensures.put in
     let facts = put_member_head s.shapes.now c.put_rows.new.shapes s.second.now s.used s.at s.from c.size-count.result _ q
     w.before w.used_within w.stands c.size-count.ensures.read w.small in record { row_in_bounds = facts.0; fits = facts.1 }
 
@@ -39,9 +36,7 @@ returns c =
     record {
       put = λ p k b h. let s = c.args in
           let w = c.requires in
-          let q = grown_of s.shapes.now c.put_rows.new.shapes s.used s.at 0 c.size-count.result
-          (Copied s.second.now s.from c.size-count.result) c.in-Grown.is
-          c.put_rows.ensures.put in
+          let q = c.in_ok-words.ensures.put in
           put_member_grown s.shapes.now c.put_rows.new.shapes s.second.now s.used s.at s.from c.size-count.result _ q
           w.before w.used_within h c.size-count.ensures.read c.add_null.ensures.added c.add_null.auto.shapes;
     }

@@ -1,11 +1,7 @@
 -- `join::put_members` meets its contract. Assumes nothing.
-use Prim.Native.Nat.{ℕ, ◌+◌, ◌-◌}
 use native.Mathlib.Omega.{arith}
-use mathlib.Core.Path.{ap}
 use Rattle.shapes.specs.ShapesLaws.{stands_size, stands_within, stands_row}
-use Rattle.join.specs.Joining.{Copied}
-use Rattle.join.proofs.Answers.{grown_of, full_of}
-use Rattle.join.proofs.Parts.{Putting, members_within, head_room, put_members_room, put_members_full, put_members_grown}
+use Rattle.join.proofs.Parts.{putting, members_within, head_room, put_members_room, put_members_full, put_members_grown}
 use Rattle.join.proofs.put_members.Goals as goal
 
 pub overflow_add-end : goal.overflow_add-end
@@ -30,28 +26,14 @@ pub overflow_sub-to : goal.overflow_sub-to
 overflow_sub-to c =
     let s = c.args in
     let w = c.requires.beside in
-    let h = (let puts : let s = c.args in
-    Putting s.shapes.now s.second.now s.row s.other (s.row + c.size.result) c.members-from.result
-    (s.other + c.size-2.result) = let s = c.args in
-    record {
-      end_is = ap (λ (i : ℕ). s.row + i) c.size.ensures.read;
-      from_is = c.members-from.ensures.found;
-      to_is = ap (λ (i : ℕ). s.other + i) c.size-2.ensures.read;
-    } in puts) in
+    let h = putting s.row s.other c.size.ensures.read c.members-from.ensures.found c.size-2.ensures.read in
     (put_members_room w.ours w.theirs w.both h).2
 
 pub put_rows-requires : goal.put_rows-requires
 put_rows-requires c =
     let s = c.args in
     let w = c.requires.beside in
-    let h = (let puts : let s = c.args in
-    Putting s.shapes.now s.second.now s.row s.other (s.row + c.size.result) c.members-from.result
-    (s.other + c.size-2.result) = let s = c.args in
-    record {
-      end_is = ap (λ (i : ℕ). s.row + i) c.size.ensures.read;
-      from_is = c.members-from.ensures.found;
-      to_is = ap (λ (i : ℕ). s.other + i) c.size-2.ensures.read;
-    } in puts) in
+    let h = putting s.row s.other c.size.ensures.read c.members-from.ensures.found c.size-2.ensures.read in
     let m = put_members_room w.ours w.theirs w.both h in
     record {
       before = m.1;
@@ -59,40 +41,22 @@ put_rows-requires c =
       within = omega (arith, m.2, m.3);
     }
 
-pub returns-in_default : goal.returns-in_default
-returns-in_default c =
+pub returns-in_err-words : goal.returns-in_err-words
+returns-in_err-words c =
     record {
-      put = λ p m k a b v. let s = c.args in
+      put = rw c.from_residual.ensures (λ p m k a b v. let s = c.args in
           let w = c.requires.beside in
-          let h = (let puts : let s = c.args in
-          Putting s.shapes.now s.second.now s.row s.other (s.row + c.size.result) c.members-from.result
-          (s.other + c.size-2.result) = let s = c.args in
-          record {
-            end_is = ap (λ (i : ℕ). s.row + i) c.size.ensures.read;
-            from_is = c.members-from.ensures.found;
-            to_is = ap (λ (i : ℕ). s.other + i) c.size-2.ensures.read;
-          } in puts) in
+          let h = putting s.row s.other c.size.ensures.read c.members-from.ensures.found c.size-2.ensures.read in
           put_members_full c.requires.lacks c.requires.there h a b v
-          (full_of _ _ _ (s.row + c.size.result) _ _
-          (Copied s.second.now c.members-from.result (s.other + c.size-2.result - c.members-from.result))
-          c.in_default.is c.put_rows.ensures.put);
+          c.in_err-words.ensures.put);
     }
 
 pub grow_head-requires : goal.grow_head-requires
 grow_head-requires c =
     let s = c.args in
     let w = c.requires.beside in
-    let h = (let puts : let s = c.args in
-    Putting s.shapes.now s.second.now s.row s.other (s.row + c.size.result) c.members-from.result
-    (s.other + c.size-2.result) = let s = c.args in
-    record {
-      end_is = ap (λ (i : ℕ). s.row + i) c.size.ensures.read;
-      from_is = c.members-from.ensures.found;
-      to_is = ap (λ (i : ℕ). s.other + i) c.size-2.ensures.read;
-    } in puts) in
-    let q = grown_of s.shapes.now c.put_rows.new.shapes s.used (s.row + c.size.result) 0 _
-    (Copied s.second.now c.members-from.result (s.other + c.size-2.result - c.members-from.result))
-    c.in-Grown.is c.put_rows.ensures.put in
+    let h = putting s.row s.other c.size.ensures.read c.members-from.ensures.found c.size-2.ensures.read in
+    let q = c.in_ok-words.ensures.put in
     let m = put_members_room w.ours w.theirs w.both h in
     let facts = head_room s.row 64 q.replaced w.both.ours m.0 m.1 w.both.used_within w.small (omega arith) in record { row_in_bounds = facts.0; fits = facts.1 }
 
@@ -101,16 +65,7 @@ returns c =
     record {
       put = λ p m k a b v. let s = c.args in
           let w = c.requires.beside in
-          let h = (let puts : let s = c.args in
-          Putting s.shapes.now s.second.now s.row s.other (s.row + c.size.result) c.members-from.result
-          (s.other + c.size-2.result) = let s = c.args in
-          record {
-            end_is = ap (λ (i : ℕ). s.row + i) c.size.ensures.read;
-            from_is = c.members-from.ensures.found;
-            to_is = ap (λ (i : ℕ). s.other + i) c.size-2.ensures.read;
-          } in puts) in
-          let q = grown_of s.shapes.now c.put_rows.new.shapes s.used (s.row + c.size.result) 0 _
-          (Copied s.second.now c.members-from.result (s.other + c.size-2.result - c.members-from.result))
-          c.in-Grown.is c.put_rows.ensures.put in
+          let h = putting s.row s.other c.size.ensures.read c.members-from.ensures.found c.size-2.ensures.read in
+          let q = c.in_ok-words.ensures.put in
           put_members_grown c.requires.lacks c.requires.there h a b v q c.grow_head.ensures.told c.grow_head.auto.shapes;
     }

@@ -20,7 +20,7 @@ pub offset_bounds-nodes-i : goal.offset_bounds-nodes-i
 offset_bounds-nodes-i c =
     let a = c.args in
     let s = walk_step a.nodes.now a.pool.now a.at a.end a.name c.loop-i.invariant c.requires c.loop-i-test.true in
-    omega (arith, s.0, s.1, c.well_formed.0.0)
+    omega (arith, s.0, s.1)
 
 pub bounds-nodes-i : goal.bounds-nodes-i
 bounds-nodes-i c =

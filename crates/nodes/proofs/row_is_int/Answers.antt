@@ -1,21 +1,16 @@
 -- `nodes::row_is_int` meets its contract. Assumes nothing.
 use Prim.Native.Nat.{ℕ, ◌/◌, ◌%◌, ◌<◌}
 use mathlib.Core.Path.{◌≡◌, ap, ◌∙◌}
-use mathlib.Core.Bool.{Bool, true, false}
 use native.Mathlib.Omega.{arith}
 use Rattle.definitions.specs.Number.{Number}
 use Rattle.definitions.specs.Value.{Value}
-use Rattle.nodes.specs.Nodes.{head_word, kind_code, number_bits, sign_bit}
+use Rattle.nodes.specs.Nodes.{head_word, kind_code, number_bits}
+use Rattle.nodes.specs.NodesLaws.{sign_small}
 use Rattle.nodes.proofs.row_is_int.Goals as goal
-
-sign_le : (b : Bool) → sign_bit b < 2
-unfolding sign_bit
-sign_le true = omega arith
-sign_le false = omega arith
 
 bits_of : (x : Number) (n : ℕ) → x.scale < 16 → n ≡ head_word (Value.number x) → n / 8 % 32 ≡ number_bits (Value.number x)
 unfolding head_word kind_code number_bits
-bits_of x n h e = omega (arith, sign_le x.negative)
+bits_of x n h e = omega (arith, sign_small x.negative)
 
 pub returns : goal.returns
 returns c = record {

@@ -1,8 +1,6 @@
 -- `number::stands_at` meets its contract. Assumes nothing.
-use borrow.Author.Tests.{eqb-true, eqb-false}
+use borrow.Author.Tests.{eqb-true, eqb-false, ltb-true}
 use native.Mathlib.Omega.{arith}
-use mathlib.Core.Bool.{true≢false}
-use mathlib.Core.Path.{sym}
 use Rattle.number.proofs.stands_at.Goals as goal
 
 pub returns-then-i-doc : goal.returns-then-i-doc
@@ -13,10 +11,10 @@ returns-then-i-doc c =
       other = λ e h. eqb-false _ _ e;
     }
 
-pub returns : goal.returns
-returns c =
+pub returns-else-i-doc : goal.returns-else-i-doc
+returns-else-i-doc c =
     record {
-      inside = λ e. absurd (true≢false (sym e));
-      here = λ e. absurd (true≢false (sym e));
+      inside = λ e. ltb-true _ _ e;
+      here = λ e. absurd (let l = ltb-true _ _ e in let z : ⊥ = omega (arith, c.if-i-doc.false, l) in z);
       other = λ e h q. omega (arith, c.if-i-doc.false, h);
     }

@@ -5,25 +5,25 @@ use Rattle.slices.specs.Prelude.{says_before, says_behind}
 use Rattle.operations.proofs.Lent.{for_both}
 use Rattle.operations.proofs.admits.Goals as goal
 
-pub returns-then-stop-ne0 : goal.returns-then-stop-ne0
+pub returns-in-Err : goal.returns-in-Err
 unfolding admits_operation
-returns-then-stop-ne0 c =
+returns-in-Err c =
     record {
-      answered = says_before c.judge_shape_document-stop.ensures.told
+      answered = says_before c.judge_shape_document-judged.ensures.told c.in-Err.is c.number.ensures.told
           (admits_judged read_json c.args.limits c.args.shape.now c.args.document.now)
-          c.if-stop-ne0.true c.refusal.ensures.set;
+          c.refusal.ensures.set;
     }
 
 pub admits-requires : goal.admits-requires
 admits-requires c =
-    for_both c.if-stop-ne0.false c.args.shapes.now c.args.nodes.now c.args.pool.now
-    c.judge_shape_document-stop.ensures.told c.args.shape.now c.args.document.now
+    for_both c.in_default.is c.args.shapes.now c.args.nodes.now c.args.pool.now
+    c.judge_shape_document-judged.ensures.told c.args.shape.now c.args.document.now
 
 pub returns : goal.returns
 unfolding admits_operation source
 returns c =
     record {
-      answered = says_behind c.judge_shape_document-stop.ensures.told
-          (admits_judged read_json c.args.limits c.args.shape.now c.args.document.now) c.if-stop-ne0.false
+      answered = says_behind c.judge_shape_document-judged.ensures.told c.in_default.is
+          (admits_judged read_json c.args.limits c.args.shape.now c.args.document.now)
           c.admits.ensures.answered;
     }

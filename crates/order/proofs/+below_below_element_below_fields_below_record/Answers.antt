@@ -4,64 +4,62 @@ use Rattle.shapes.specs.HeldLaws.{held_within, some_listed, members_within}
 use Rattle.order.proofs.Named as named
 use Rattle.order.proofs.Wholes.{some_level, Passed, kinds_fail, kinds_pass, parts_asked, element_fails, record_tells, without_list}
 use Rattle.order.proofs.Wholes.{list_asks, list_told, without_rec, records_here, nulls_asks, fields_asks, fields_fail, nulls_told}
-use Rattle.std.proofs.Common.{ap, not}
 use Rattle.order.proofs.+below_below_element_below_fields_below_record.Goals as goal
-
-pub below-returns-then-not-is_within : goal.below-returns-then-not-is_within
-below-returns-then-not-is_within t c =
-    record {
-      told = kinds_fail c.args.first.now c.args.a c.args.second.now c.args.b c.args.pool.now
-          c.kinds-kinds.ensures.read c.kinds-others.ensures.read c.is_within.ensures.told (ap not c.if-not-is_within.true);
-    }
 
 pub below-below_element-requires : goal.below-below_element-requires
 below-below_element-requires t c =
     let passed : Passed c.args.first.now c.args.a c.args.second.now c.args.b c.args.pool.now =
     kinds_pass c.args.first.now c.args.a c.args.second.now c.args.b c.args.pool.now
-    c.kinds-kinds.ensures.read c.kinds-others.ensures.read c.is_within.ensures.told (ap not c.if-not-is_within.false) in (
+    c.kinds.ensures.read c.kinds-2.ensures.read c.is_within.ensures.told c.if-not-is_within.false in (
       omega (arith, c.decreases, c.requires.deep, some_level c.requires.shape),
       parts_asked c.args.first.now c.args.a c.args.second.now c.args.b c.args.pool.now
           passed c.requires,
     )
 
-pub below-returns-then-not-below_element : goal.below-returns-then-not-below_element
-below-returns-then-not-below_element t c =
-    let passed : Passed c.args.first.now c.args.a c.args.second.now c.args.b c.args.pool.now =
-    kinds_pass c.args.first.now c.args.a c.args.second.now c.args.b c.args.pool.now
-    c.kinds-kinds.ensures.read c.kinds-others.ensures.read c.is_within.ensures.told (ap not c.if-not-is_within.false) in
+pub below-returns-else-below_element : goal.below-returns-else-below_element
+below-returns-else-below_element t c =
     record {
-      told = element_fails c.args.first.now c.args.a c.args.second.now c.args.b c.args.pool.now
-          passed c.below_element.ensures.told (ap not c.if-not-below_element.true);
+      told = rw c.if-below_element.false (element_fails c.args.first.now c.args.a c.args.second.now c.args.b c.args.pool.now
+          (kinds_pass c.args.first.now c.args.a c.args.second.now c.args.b c.args.pool.now
+          c.kinds.ensures.read c.kinds-2.ensures.read c.is_within.ensures.told c.if-not-is_within.false)
+          c.below_element.ensures.told c.if-below_element.false);
+    }
+
+pub below-returns-then-not-is_within : goal.below-returns-then-not-is_within
+below-returns-then-not-is_within t c =
+    record {
+      told = kinds_fail c.args.first.now c.args.a c.args.second.now c.args.b c.args.pool.now
+          c.kinds.ensures.read c.kinds-2.ensures.read c.is_within.ensures.told c.if-not-is_within.true;
     }
 
 pub below-below_record-requires : goal.below-below_record-requires
 below-below_record-requires t c =
     let passed : Passed c.args.first.now c.args.a c.args.second.now c.args.b c.args.pool.now =
     kinds_pass c.args.first.now c.args.a c.args.second.now c.args.b c.args.pool.now
-    c.kinds-kinds.ensures.read c.kinds-others.ensures.read c.is_within.ensures.told (ap not c.if-not-is_within.false) in (
+    c.kinds.ensures.read c.kinds-2.ensures.read c.is_within.ensures.told c.if-not-is_within.false in (
       omega (arith, c.decreases, c.requires.deep, some_level c.requires.shape),
       parts_asked c.args.first.now c.args.a c.args.second.now c.args.b c.args.pool.now
           passed c.requires,
     )
 
-pub below-returns : goal.below-returns
-below-returns t c =
+pub below-returns-then-below_element : goal.below-returns-then-below_element
+below-returns-then-below_element t c =
     let passed : Passed c.args.first.now c.args.a c.args.second.now c.args.b c.args.pool.now =
     kinds_pass c.args.first.now c.args.a c.args.second.now c.args.b c.args.pool.now
-    c.kinds-kinds.ensures.read c.kinds-others.ensures.read c.is_within.ensures.told (ap not c.if-not-is_within.false) in
+    c.kinds.ensures.read c.kinds-2.ensures.read c.is_within.ensures.told c.if-not-is_within.false in
     record {
       told = record_tells c.args.first.now c.args.a c.args.second.now c.args.b c.args.pool.now
-          passed c.below_element.ensures.told (ap not c.if-not-below_element.false)
+          passed c.below_element.ensures.told c.if-below_element.true
           c.below_record.ensures.told;
     }
 
 pub below_element-overflow_add-a : goal.below_element-overflow_add-a
 below_element-overflow_add-a t c =
-    omega (arith, (held_within c.requires.asked.held).0, (held_within c.requires.asked.held).1, c.well_formed.0.0)
+    omega (arith, (held_within c.requires.asked.held).0, (held_within c.requires.asked.held).1)
 
 pub below_element-overflow_add-b : goal.below_element-overflow_add-b
 below_element-overflow_add-b t c =
-    omega (arith, (held_within c.requires.asked.holds).0, (held_within c.requires.asked.holds).1, c.well_formed.1.0.0)
+    omega (arith, (held_within c.requires.asked.holds).0, (held_within c.requires.asked.holds).1)
 
 pub below_element-overflow_sub-left : goal.below_element-overflow_sub-left
 below_element-overflow_sub-left t c =
@@ -71,21 +69,21 @@ pub below_element-below-requires : goal.below_element-below-requires
 below_element-below-requires t c = (
   omega (arith, c.decreases, c.requires.asked.deep, some_level c.requires.asked.shape),
   list_asks c.args.first.now c.args.a c.args.second.now c.args.b c.args.pool.now
-      c.kinds.ensures.read c.has.ensures.told c.if-has.true c.requires,
+      c.kinds.ensures.read c.has.ensures.told c.if-not-has.false c.requires,
 )
 
-pub below_element-returns-then-has : goal.below_element-returns-then-has
-below_element-returns-then-has t c =
+pub below_element-returns-else-not-has : goal.below_element-returns-else-not-has
+below_element-returns-else-not-has t c =
     record {
       told = list_told c.args.first.now c.args.a c.args.second.now c.args.b c.args.pool.now
-          c.kinds.ensures.read c.has.ensures.told c.if-has.true c.below.ensures.told;
+          c.kinds.ensures.read c.has.ensures.told c.if-not-has.false c.below.ensures.told;
     }
 
-pub below_element-returns : goal.below_element-returns
-below_element-returns t c =
+pub below_element-returns-then-not-has : goal.below_element-returns-then-not-has
+below_element-returns-then-not-has t c =
     record {
-      told = without_list c.args.first.now c.args.a c.args.second.now c.args.b c.args.pool.now
-          c.kinds.ensures.read c.has.ensures.told c.if-has.false;
+      told = rw c.if-not-has.true (without_list c.args.first.now c.args.a c.args.second.now c.args.b c.args.pool.now
+          c.kinds.ensures.read c.has.ensures.told c.if-not-has.true);
     }
 
 pub below_fields-loop-i-init : goal.below_fields-loop-i-init
@@ -113,7 +111,7 @@ below_fields-below-requires t c = (
       c.args.end c.args.pool.now c.loop-i.invariant
       c.loop-i-test.true
       c.find_named-named.result c.name.ensures.read
-      c.find_named-named.ensures.told c.in-Found.is c.requires,
+      c.find_named-named.ensures.told c.in-Some.is c.requires,
 )
 
 pub below_fields-returns-then-not-below : goal.below_fields-returns-then-not-below
@@ -122,8 +120,8 @@ below_fields-returns-then-not-below t c =
       told = named.walk_fails c.args.first.now c.args.from c.args.to c.args.second.now c.args.at
           c.args.end c.args.pool.now c.loop-i.invariant c.loop-i-test.true
           c.find_named-named.result c.name.ensures.read
-          c.find_named-named.ensures.told c.in-Found.is
-          c.below.ensures.told (ap not c.if-not-below.true);
+          c.find_named-named.ensures.told c.in-Some.is
+          c.below.ensures.told c.if-not-below.true;
     }
 
 pub below_fields-overflow_add-i : goal.below_fields-overflow_add-i
@@ -143,8 +141,8 @@ below_fields-loop-i-preserved t c =
     named.walk_on c.args.first.now c.args.from c.args.to c.args.second.now c.args.at
     c.args.end c.args.pool.now c.loop-i.invariant c.loop-i-test.true
     c.find_named-named.result c.name.ensures.read
-    c.find_named-named.ensures.told c.in-Found.is
-    c.below.ensures.told (ap not c.if-not-below.false) c.size-i.ensures.read
+    c.find_named-named.ensures.told c.in-Some.is
+    c.below.ensures.told c.if-not-below.false c.size-i.ensures.read
 
 pub below_fields-returns : goal.below_fields-returns
 below_fields-returns t c =
@@ -160,15 +158,14 @@ below_record-members-from-requires t c =
       within = omega (
         arith,
         members_within (records_here c.args.first.now c.args.a c.args.second.now c.args.b
-            c.args.pool.now c.kinds.ensures.read c.has.ensures.told c.if-has.true c.requires).held,
+            c.args.pool.now c.kinds.ensures.read c.has.ensures.told c.if-not-has.false c.requires).held,
         (held_within c.requires.asked.held).1,
-        c.well_formed.0.0,
       );
     }
 
 pub below_record-overflow_add-to : goal.below_record-overflow_add-to
 below_record-overflow_add-to t c =
-    omega (arith, (held_within c.requires.asked.held).1, c.size.ensures.read, c.well_formed.0.0)
+    omega (arith, (held_within c.requires.asked.held).1, c.size.ensures.read)
 
 pub below_record-members-at-requires : goal.below_record-members-at-requires
 below_record-members-at-requires t c =
@@ -177,16 +174,15 @@ below_record-members-at-requires t c =
       within = omega (
         arith,
         members_within (records_here c.args.first.now c.args.a c.args.second.now c.args.b
-            c.args.pool.now c.kinds.ensures.read c.has.ensures.told c.if-has.true
+            c.args.pool.now c.kinds.ensures.read c.has.ensures.told c.if-not-has.false
             c.requires).holds,
         (held_within c.requires.asked.holds).1,
-        c.well_formed.1.0.0,
       );
     }
 
 pub below_record-overflow_add-end : goal.below_record-overflow_add-end
 below_record-overflow_add-end t c =
-    omega (arith, (held_within c.requires.asked.holds).1, c.size-then-has.ensures.read, c.well_formed.1.0.0)
+    omega (arith, (held_within c.requires.asked.holds).1, c.size-2.ensures.read)
 
 pub below_record-overflow_sub-left : goal.below_record-overflow_sub-left
 below_record-overflow_sub-left t c =
@@ -196,39 +192,39 @@ pub below_record-below_fields-requires : goal.below_record-below_fields-requires
 below_record-below_fields-requires t c = (
   omega (arith, c.decreases, c.requires.asked.deep, some_level c.requires.asked.shape),
   fields_asks c.args.first.now c.args.a c.args.second.now c.args.b c.args.pool.now
-      c.kinds.ensures.read c.has.ensures.told c.if-has.true c.members-from.ensures.found
-      c.size.ensures.read c.members-at.ensures.found c.size-then-has.ensures.read c.requires,
+      c.kinds.ensures.read c.has.ensures.told c.if-not-has.false c.members-from.ensures.found
+      c.size.ensures.read c.members-at.ensures.found c.size-2.ensures.read c.requires,
 )
 
-pub below_record-returns-then-not-below_fields : goal.below_record-returns-then-not-below_fields
-below_record-returns-then-not-below_fields t c =
+pub below_record-returns-else-below_fields : goal.below_record-returns-else-below_fields
+below_record-returns-else-below_fields t c =
     record {
-      told = fields_fail c.args.first.now c.args.a c.args.second.now c.args.b c.args.pool.now
-          c.kinds.ensures.read c.has.ensures.told c.if-has.true
-          c.members-from.ensures.found c.size.ensures.read c.members-at.ensures.found c.size-then-has.ensures.read
-          c.below_fields.ensures.told (ap not c.if-not-below_fields.true);
+      told = rw c.if-below_fields.false (fields_fail c.args.first.now c.args.a c.args.second.now c.args.b c.args.pool.now
+          c.kinds.ensures.read c.has.ensures.told c.if-not-has.false
+          c.members-from.ensures.found c.size.ensures.read c.members-at.ensures.found c.size-2.ensures.read
+          c.below_fields.ensures.told c.if-below_fields.false);
     }
 
 pub below_record-lacked_have_null-requires : goal.below_record-lacked_have_null-requires
 below_record-lacked_have_null-requires t c =
     nulls_asks c.args.first.now c.args.a c.args.second.now c.args.b c.args.pool.now
-    c.kinds.ensures.read c.has.ensures.told c.if-has.true
+    c.kinds.ensures.read c.has.ensures.told c.if-not-has.false
     c.members-from.ensures.found c.size.ensures.read c.members-at.ensures.found
-    c.size-then-has.ensures.read c.requires
+    c.size-2.ensures.read c.requires
 
-pub below_record-returns-then-has : goal.below_record-returns-then-has
-below_record-returns-then-has t c =
+pub below_record-returns-then-below_fields : goal.below_record-returns-then-below_fields
+below_record-returns-then-below_fields t c =
     record {
       told = nulls_told c.args.first.now c.args.a c.args.second.now c.args.b c.args.pool.now
-          c.kinds.ensures.read c.has.ensures.told c.if-has.true
+          c.kinds.ensures.read c.has.ensures.told c.if-not-has.false
           c.members-from.ensures.found c.size.ensures.read c.members-at.ensures.found
-          c.size-then-has.ensures.read
-          c.below_fields.ensures.told (ap not c.if-not-below_fields.false) c.lacked_have_null.ensures.told;
+          c.size-2.ensures.read
+          c.below_fields.ensures.told c.if-below_fields.true c.lacked_have_null.ensures.told;
     }
 
-pub below_record-returns : goal.below_record-returns
-below_record-returns t c =
+pub below_record-returns-then-not-has : goal.below_record-returns-then-not-has
+below_record-returns-then-not-has t c =
     record {
       told = without_rec c.args.first.now c.args.a c.args.second.now c.args.b c.args.pool.now
-          c.kinds.ensures.read c.has.ensures.told c.if-has.false;
+          c.kinds.ensures.read c.has.ensures.told c.if-not-has.true;
     }

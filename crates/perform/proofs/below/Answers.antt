@@ -8,18 +8,18 @@ use Rattle.perform.proofs.below.Goals as goal
 
 pub below-requires : goal.below-requires
 below-requires c =
-    let b = both_passes c.two_shapes.ensures.judged c.in-Read.is in
+    let b = both_passes c.two_shapes.ensures.judged c.in-Ok.is in
     comparison b.held
 
-pub returns-in-Read : goal.returns-in-Read
+pub returns-in-Ok : goal.returns-in-Ok
 unfolding below_judged say
-returns-in-Read c =
+returns-in-Ok c =
     record {
-      answered = let b = both_passes c.two_shapes.ensures.judged c.in-Read.is in
+      answered = let b = both_passes c.two_shapes.ensures.judged c.in-Ok.is in
           let e = c.below.ensures.told b.first (shape_held b.held.one) b.second (shape_held b.held.other) in
           says_passed _ b.judged (c.said.ensures.set ∙ ap said e);
     }
 
-pub returns-in-Refused : goal.returns-in-Refused
+pub returns-in-Err : goal.returns-in-Err
 unfolding below_judged
-returns-in-Refused c = record { answered = says_stopped _ c.refusal.ensures.set (both_refused c.two_shapes.ensures.judged c.in-Refused.is) }
+returns-in-Err c = record { answered = says_stopped _ c.refused.ensures.set (both_refused c.two_shapes.ensures.judged c.in-Err.is) }

@@ -12,7 +12,7 @@ reader_shape-requires c =
 
 pub check-requires : goal.check-requires
 check-requires c =
-    let b = both_passes c.reader_shape.ensures.judged c.in-Read.is in
+    let b = both_passes c.reader_shape.ensures.judged c.in-Ok.is in
     record {
       reader_asked = checkable b.held c.args.bindings.now (check_bindings c.requires.check_slices);
       small = omega (arith, c.requires.table, c.shapes-1.given);
@@ -20,9 +20,9 @@ check-requires c =
 
 pub result-grown-requires : goal.result-grown-requires
 result-grown-requires c =
-    let b = both_passes c.reader_shape.ensures.judged c.in-Read.is in
+    let b = both_passes c.reader_shape.ensures.judged c.in-Ok.is in
     let (t, e) = reader_checks b.held c.args.bindings.now (check_bindings c.requires.check_slices) c.check.ensures.checked
-    c.in-Kinds.is in record {
+    c.in-Ok-check.is in record {
       reader_asked = giving b.held _ (omega (arith, check_bindings c.requires.check_slices, c.check.ensures.same)) e;
       small = c.requires.grown;
       few = omega (arith, c.requires.table, c.shapes-1.given);
@@ -30,9 +30,9 @@ result-grown-requires c =
 
 pub deliver_grown-requires : goal.deliver_grown-requires
 deliver_grown-requires c =
-    let b = both_passes c.reader_shape.ensures.judged c.in-Read.is in
+    let b = both_passes c.reader_shape.ensures.judged c.in-Ok.is in
     let (t, e) = reader_checks b.held c.args.bindings.now (check_bindings c.requires.check_slices) c.check.ensures.checked
-    c.in-Kinds.is in
+    c.in-Ok-check.is in
     record {
       shape = t;
       grows =
@@ -42,25 +42,25 @@ deliver_grown-requires c =
       small = omega (arith, c.requires.grown, c.results-1.given);
     }
 
-pub shape_of-forms-in-Kinds : goal.shape_of-forms-in-Kinds
-shape_of-forms-in-Kinds c =
+pub shape_of-forms-in-Ok-check : goal.shape_of-forms-in-Ok-check
+shape_of-forms-in-Ok-check c =
     omega (arith, c.forms-1.given)
 
-pub shape_of-shapes-in-Kinds : goal.shape_of-shapes-in-Kinds
-shape_of-shapes-in-Kinds c =
+pub shape_of-shapes-in-Ok-check : goal.shape_of-shapes-in-Ok-check
+shape_of-shapes-in-Ok-check c =
     omega (arith, c.shapes-1.given)
 
-pub shape_of-pool-in-Kinds : goal.shape_of-pool-in-Kinds
-shape_of-pool-in-Kinds c =
+pub shape_of-pool-in-Ok-check : goal.shape_of-pool-in-Ok-check
+shape_of-pool-in-Ok-check c =
     omega (arith, c.pool-1.given)
 
-pub returns-in-Kinds : goal.returns-in-Kinds
+pub returns-in-Ok-check : goal.returns-in-Ok-check
 unfolding check_judged
-returns-in-Kinds c =
+returns-in-Ok-check c =
     let out = c.args.output.now in
-    let b = both_passes c.reader_shape.ensures.judged c.in-Read.is in
+    let b = both_passes c.reader_shape.ensures.judged c.in-Ok.is in
     let (t, e) = reader_checks b.held c.args.bindings.now (check_bindings c.requires.check_slices) c.check.ensures.checked
-    c.in-Kinds.is in
+    c.in-Ok-check.is in
     let g = given b.held _ (omega (arith, check_bindings c.requires.check_slices, c.check.ensures.same)) e _ _ c.result-grown.result
     (check_results c.requires.check_slices)
     c.result-grown.ensures.given in
@@ -68,18 +68,18 @@ returns-in-Kinds c =
     (finishes_passed out _ (walk_passes 1 e) (c.deliver_grown.ensures.answered t g, c.deliver_grown.ensures.written t g)) in
     record { answered = facts.0; written = facts.1 }
 
-pub returns-in-Refused-check : goal.returns-in-Refused-check
+pub returns-in-Err-check : goal.returns-in-Err-check
 unfolding check_judged
-returns-in-Refused-check c =
+returns-in-Err-check c =
     let out = c.args.output.now in
-    let b = both_passes c.reader_shape.ensures.judged c.in-Read.is in
+    let b = both_passes c.reader_shape.ensures.judged c.in-Ok.is in
     let facts = finishes_passed out _ b.judged
-    (finishes_stopped out _ c.refusal.ensures.set
+    (finishes_stopped out _ c.refused.ensures.set
     (reader_fails b.held c.args.bindings.now (check_bindings c.requires.check_slices) c.check.ensures.checked
-    c.in-Refused-check.is)) in record { answered = facts.0; written = facts.1 }
+    c.in-Err-check.is)) in record { answered = facts.0; written = facts.1 }
 
-pub returns-in-Refused : goal.returns-in-Refused
+pub returns-in-Err : goal.returns-in-Err
 unfolding check_judged
-returns-in-Refused c =
-    let facts = finishes_stopped c.args.output.now _ c.refusal-in-Refused.ensures.set
-    (both_refused c.reader_shape.ensures.judged c.in-Refused.is) in record { answered = facts.0; written = facts.1 }
+returns-in-Err c =
+    let facts = finishes_stopped c.args.output.now _ c.refused-in-Err.ensures.set
+    (both_refused c.reader_shape.ensures.judged c.in-Err.is) in record { answered = facts.0; written = facts.1 }

@@ -20,18 +20,18 @@ read-requires c =
 
 pub deliver-requires : goal.deliver-requires
 deliver-requires c =
-    let (v, passes, held) = document_passes c.read.ensures.judged c.in-Read.is in
+    let (v, passes, held) = document_passes c.read.ensures.judged c.in-Ok.is in
     record { value = v; holds = value_held held.table }
 
-pub returns-in-Read : goal.returns-in-Read
+pub returns-in-Ok : goal.returns-in-Ok
 unfolding plain_judged finish
-returns-in-Read c =
-    let (v, passes, held) = document_passes c.read.ensures.judged c.in-Read.is in
+returns-in-Ok c =
+    let (v, passes, held) = document_passes c.read.ensures.judged c.in-Ok.is in
     let h = value_held held.table in
     let facts = finishes_passed c.args.output.now (λ v. passed (to_write (plain v) 0)) (passes 1)
     (c.deliver.ensures.answered v h, c.deliver.ensures.kept v h) in record { answered = facts.0; written = facts.1 }
 
-pub returns-in-Refused : goal.returns-in-Refused
+pub returns-in-Err : goal.returns-in-Err
 unfolding plain_judged
-returns-in-Refused c = let facts = finishes_stopped c.args.output.now _ c.refusal.ensures.set (document_refused c.read.ensures.judged c.in-Refused.is 1) in
+returns-in-Err c = let facts = finishes_stopped c.args.output.now _ c.refused.ensures.set (document_refused c.read.ensures.judged c.in-Err.is 1) in
     record { answered = facts.0; written = facts.1 }

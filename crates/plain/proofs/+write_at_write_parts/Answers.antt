@@ -29,7 +29,7 @@ write_at-returns-then-kind-lt-LIST t c =
 pub write_at-overflow_add-end : goal.write_at-overflow_add-end
 write_at-overflow_add-end t c =
     let w = c.requires in
-    omega (arith, stands_within w.holds.stands, stands_size w.holds.stands, c.row_size.ensures.sized, c.well_formed.1.1.0.0)
+    omega (arith, stands_within w.holds.stands, stands_size w.holds.stands, c.row_size.ensures.sized)
 
 pub write_at-bounds-out-at : goal.write_at-bounds-out-at
 write_at-bounds-out-at t c =
@@ -43,11 +43,11 @@ write_at-overflow_add-at t c =
     let list_at : Encloses c.args.nodes.now c.args.pool.now c.args.row c.row_size.result false 91 93 c.requires.value = let w = c.requires in
     list_encloses w.value w.holds (c.row_size.ensures.sized ∙ stands_size w.holds.stands)
     (kind_told w.holds c.row_kind-kind.ensures.read c.if-kind-eq-LIST.true) in
-    omega (arith, c.requires.room, length_enclosed list_at, c.well_formed.0.0)
+    omega (arith, c.requires.room, length_enclosed list_at)
 
 pub write_at-overflow_add-row : goal.write_at-overflow_add-row
 write_at-overflow_add-row t c =
-    omega (arith, stands_within c.requires.holds.stands, size_some c.requires.value, c.well_formed.1.1.0.0)
+    omega (arith, stands_within c.requires.holds.stands, size_some c.requires.value)
 
 pub write_at-write_parts-j-requires : goal.write_at-write_parts-j-requires
 write_at-write_parts-j-requires t c =
@@ -93,7 +93,7 @@ write_at-overflow_add-result t c =
       c.write_parts-j.auto.out,
       length-set c.args.out.now c.args.at 91,
     ) in
-    omega (arith, list_end, c.write_parts-j.auto.out, length-set c.args.out.now c.args.at 91, c.well_formed.0.0)
+    omega (arith, list_end, c.write_parts-j.auto.out, length-set c.args.out.now c.args.at 91)
 
 pub write_at-shape_of-out-then-kind-eq-LIST : goal.write_at-shape_of-out-then-kind-eq-LIST
 write_at-shape_of-out-then-kind-eq-LIST t c =
@@ -131,11 +131,11 @@ write_at-overflow_add-at-2 t c =
     let rec_at : Encloses c.args.nodes.now c.args.pool.now c.args.row c.row_size.result true 123 125 c.requires.value = let w = c.requires in
     rec_encloses w.value w.holds (c.row_size.ensures.sized ∙ stands_size w.holds.stands)
     (kind_record w.holds c.row_kind-kind.ensures.read c.if-kind-lt-LIST.false c.if-kind-eq-LIST.false) in
-    omega (arith, c.requires.room, length_enclosed rec_at, c.well_formed.0.0)
+    omega (arith, c.requires.room, length_enclosed rec_at)
 
 pub write_at-overflow_add-row-2 : goal.write_at-overflow_add-row-2
 write_at-overflow_add-row-2 t c =
-    omega (arith, stands_within c.requires.holds.stands, size_some c.requires.value, c.well_formed.1.1.0.0)
+    omega (arith, stands_within c.requires.holds.stands, size_some c.requires.value)
 
 pub write_at-write_parts-j-requires-2 : goal.write_at-write_parts-j-requires-2
 write_at-write_parts-j-requires-2 t c =
@@ -181,7 +181,7 @@ write_at-overflow_add-result-2 t c =
       c.write_parts-j-2.auto.out,
       length-set c.args.out.now c.args.at 123,
     ) in
-    omega (arith, rec_end, c.write_parts-j-2.auto.out, length-set c.args.out.now c.args.at 123, c.well_formed.0.0)
+    omega (arith, rec_end, c.write_parts-j-2.auto.out, length-set c.args.out.now c.args.at 123)
 
 pub write_at-shape_of-out : goal.write_at-shape_of-out
 write_at-shape_of-out t c =
@@ -233,7 +233,7 @@ pub write_parts-overflow_add-i : goal.write_parts-overflow_add-i
 write_parts-overflow_add-i t c =
     let step : c.row_size_in-i.result ≡ 3 * size (turn c.requires c.loop-i.invariant c.loop-i-test.true).value = let h =
     (turn c.requires c.loop-i.invariant c.loop-i-test.true).holds in c.row_size_in-i.ensures.sized ∙ stands_size h.stands in
-    omega (arith, step, turn_within c.requires c.loop-i.invariant c.loop-i-test.true, c.well_formed.1.1.0.0)
+    omega (arith, step, turn_within c.requires c.loop-i.invariant c.loop-i-test.true)
 
 pub write_parts-loop-i-smaller : goal.write_parts-loop-i-smaller
 write_parts-loop-i-smaller t c =

@@ -16,11 +16,11 @@ write_comma-j-requires c =
 
 pub overflow_add-row : goal.overflow_add-row
 overflow_add-row c =
-    omega (arith, c.requires.holds.within, c.well_formed.1.1.0.0)
+    omega (arith, c.requires.holds.within)
 
 pub offset_bounds-nodes-row : goal.offset_bounds-nodes-row
 offset_bounds-nodes-row c =
-    omega (arith, c.requires.holds.within, c.well_formed.1.1.0.0)
+    omega (arith, c.requires.holds.within)
 
 pub bounds-nodes-row : goal.bounds-nodes-row
 bounds-nodes-row c =
@@ -65,7 +65,6 @@ overflow_add-result c =
           ) in within),
       c.write_reference-end.auto.out,
       c.write_comma-j.auto.out,
-      c.well_formed.0.0,
     )
 
 pub shape_of-out-then-named : goal.shape_of-out-then-named

@@ -18,55 +18,55 @@ write_bytes-requires c =
     omega (
       arith,
       w.room,
-      ap length (plain_null w.value (kind_told w.holds c.row_kind-kind.ensures.read c.if-kind-eq-NULL.true)),
+      ap length (plain_null w.value (kind_told w.holds c.row_kind.ensures.read c.in-0.is)),
     )
 
-pub returns-then-kind-eq-NULL : goal.returns-then-kind-eq-NULL
+pub returns-in-0 : goal.returns-in-0
 unfolding null_name bytes
-returns-then-kind-eq-NULL c =
-    record { written = λ v h. written_as c.write_bytes.ensures.written (plain_null v (kind_told h c.row_kind-kind.ensures.read c.if-kind-eq-NULL.true)) }
+returns-in-0 c =
+    record { written = λ v h. written_as c.write_bytes.ensures.written (plain_null v (kind_told h c.row_kind.ensures.read c.in-0.is)) }
 
-pub write_bytes-requires-then-kind-eq-FALSE : goal.write_bytes-requires-then-kind-eq-FALSE
+pub write_bytes-requires-in-1 : goal.write_bytes-requires-in-1
 unfolding false_name bytes
-write_bytes-requires-then-kind-eq-FALSE c =
+write_bytes-requires-in-1 c =
     let w = c.requires.writable in
-    omega (arith, w.room, ap length (plain_false w.value (kind_told w.holds c.row_kind-kind.ensures.read c.if-kind-eq-FALSE.true)))
+    omega (arith, w.room, ap length (plain_false w.value (kind_told w.holds c.row_kind.ensures.read c.in-1.is)))
 
-pub returns-then-kind-eq-FALSE : goal.returns-then-kind-eq-FALSE
+pub returns-in-1 : goal.returns-in-1
 unfolding false_name bytes
-returns-then-kind-eq-FALSE c =
+returns-in-1 c =
     record {
-      written = λ v h. written_as c.write_bytes-then-kind-eq-FALSE.ensures.written
-          (plain_false v (kind_told h c.row_kind-kind.ensures.read c.if-kind-eq-FALSE.true));
+      written = λ v h. written_as c.write_bytes-in-1.ensures.written
+          (plain_false v (kind_told h c.row_kind.ensures.read c.in-1.is));
     }
 
-pub write_bytes-requires-then-kind-eq-TRUE : goal.write_bytes-requires-then-kind-eq-TRUE
+pub write_bytes-requires-in-2 : goal.write_bytes-requires-in-2
 unfolding true_name bytes
-write_bytes-requires-then-kind-eq-TRUE c =
+write_bytes-requires-in-2 c =
     let w = c.requires.writable in
-    omega (arith, w.room, ap length (plain_true w.value (kind_told w.holds c.row_kind-kind.ensures.read c.if-kind-eq-TRUE.true)))
+    omega (arith, w.room, ap length (plain_true w.value (kind_told w.holds c.row_kind.ensures.read c.in-2.is)))
 
-pub returns-then-kind-eq-TRUE : goal.returns-then-kind-eq-TRUE
+pub returns-in-2 : goal.returns-in-2
 unfolding true_name bytes
-returns-then-kind-eq-TRUE c =
+returns-in-2 c =
     record {
-      written = λ v h. written_as c.write_bytes-then-kind-eq-TRUE.ensures.written
-          (plain_true v (kind_told h c.row_kind-kind.ensures.read c.if-kind-eq-TRUE.true));
+      written = λ v h. written_as c.write_bytes-in-2.ensures.written
+          (plain_true v (kind_told h c.row_kind.ensures.read c.in-2.is));
     }
 
 pub write_number-requires : goal.write_number-requires
 write_number-requires c =
     let w = c.requires.writable in
-    let k = kind_told w.holds c.row_kind-kind.ensures.read c.if-kind-eq-NUMBER.true in
-    let x = single_number w.value w.holds k c.row_negative-negative.ensures.read c.row_payload-payload.ensures.read
+    let k = kind_told w.holds c.row_kind.ensures.read c.in-3.is in
+    let x = single_number w.value w.holds k c.row_negative-negative.ensures.read c.row_payload-coefficient.ensures.read
     c.row_scale.ensures.read in
     record { bounded = x.bounded; room = rw x.same w.room }
 
-pub returns-then-kind-eq-NUMBER : goal.returns-then-kind-eq-NUMBER
-returns-then-kind-eq-NUMBER c =
+pub returns-in-3 : goal.returns-in-3
+returns-in-3 c =
     record {
-      written = λ v h. let k = kind_told h c.row_kind-kind.ensures.read c.if-kind-eq-NUMBER.true in
-          let x = single_number v h k c.row_negative-negative.ensures.read c.row_payload-payload.ensures.read
+      written = λ v h. let k = kind_told h c.row_kind.ensures.read c.in-3.is in
+          let x = single_number v h k c.row_negative-negative.ensures.read c.row_payload-coefficient.ensures.read
           c.row_scale.ensures.read in
           writes_as x.same (number_writes c.write_number.ensures);
     }
@@ -78,32 +78,26 @@ write_reference-requires c =
     = omega (
       arith,
       stands_kind w.holds.stands,
-      c.row_kind-kind.ensures.read,
+      c.row_kind.ensures.read,
       c.requires.single,
-      c.if-kind-eq-NULL.false,
-      c.if-kind-eq-FALSE.false,
-      c.if-kind-eq-TRUE.false,
-      c.if-kind-eq-NUMBER.false,
+      c.in_default,
     )
     in
-    let x = single_text w.value w.holds c.row_payload-payload.ensures.read k in
+    let x = single_text w.value w.holds c.row_payload.ensures.read k in
     record { text = x.text; holds = x.holds; room = rw x.same w.room }
 
-pub returns : goal.returns
-returns c =
+pub returns-in_default : goal.returns-in_default
+returns-in_default c =
     record {
       written = λ v h. let k : kind_code v ≡ 4
           = omega (
             arith,
             stands_kind h.stands,
-            c.row_kind-kind.ensures.read,
+            c.row_kind.ensures.read,
             c.requires.single,
-            c.if-kind-eq-NULL.false,
-            c.if-kind-eq-FALSE.false,
-            c.if-kind-eq-TRUE.false,
-            c.if-kind-eq-NUMBER.false,
+            c.in_default,
           )
           in
-          let x = single_text v h c.row_payload-payload.ensures.read k in
+          let x = single_text v h c.row_payload.ensures.read k in
           writes_as x.same (c.write_reference.ensures.written x.text x.holds);
     }

@@ -1,5 +1,5 @@
 -- The invariants of `pool::compare` and what falls in its loops. Assumes nothing.
-use Prim.Native.Nat.{◌+◌, ◌-◌, ◌*◌, ◌≤◌, min}
+use Prim.Native.Nat.{◌*◌, min}
 use mathlib.Core.Path.{◌≡◌}
 use lib.ListN.{drop}
 use Rattle.definitions.specs.Bytes.{order}
@@ -8,9 +8,5 @@ use Rattle.pool.proofs.compare.Given as goal
 
 abbrev pub invariant-loop-i : goal.invariant-loop-i
 invariant-loop-i l =
-    (8 * l.i ≤ l.end + 7)
-    × (order (text_in l.pool l.w l.n) (text_in l.pool l.v l.m) ≡ order (drop (min (8 * l.i) l.end) (text_in l.pool l.w l.n))
-    (drop (min (8 * l.i) l.end) (text_in l.pool l.v l.m)))
-
-abbrev pub decreases-loop-i : goal.decreases-loop-i
-decreases-loop-i l = l.end - 8 * l.i
+    order (text_in l.pool l.w l.n) (text_in l.pool l.v l.m) ≡ order (drop (min (8 * l.i) l.end) (text_in l.pool l.w l.n))
+    (drop (min (8 * l.i) l.end) (text_in l.pool l.v l.m))

@@ -9,17 +9,17 @@ use Rattle.pool.proofs.put_byte.Goals as goal
 pub overflow_mul-pool : goal.overflow_mul-pool
 overflow_mul-pool c =
     let a = c.args in
-    omega (arith, c.slice_known-2-1.given (a.k / 8), shr_le (get_or a.pool.now (a.k / 8) 0) c.shift-s.result)
+    omega (arith, shr_le (get_or a.pool.now (a.k / 8) 0) c.shift-s.result)
 
 pub overflow_add-pool : goal.overflow_add-pool
 overflow_add-pool c =
     let a = c.args in
-    omega (arith, c.slice_known-2-1.given (a.k / 8), shr_le (get_or a.pool.now (a.k / 8) 0) c.shift-s.result)
+    omega (arith, shr_le (get_or a.pool.now (a.k / 8) 0) c.shift-s.result)
 
 pub returns : goal.returns
 returns c =
     record {
       put = let a = c.args in
           stored a.pool.now a.k a.b c.requires c.shift-s.result c.shift-s.ensures.shifted
-          (omega (arith, c.slice_known-2-1.given (a.k / 8))) (omega arith);
+          (omega arith) (omega arith);
     }

@@ -6,21 +6,21 @@ use Rattle.slices.specs.Prelude.{none_before}
 use Rattle.runvestol.proofs.Calling.{calls_before, calls_behind}
 use Rattle.runvestol.proofs.runvestol_plain.Goals as goal
 
-pub returns-then-stop-ne0 : goal.returns-then-stop-ne0
+pub returns-in-Err : goal.returns-in-Err
 unfolding plain_call plain_operation
-returns-then-stop-ne0 c =
+returns-in-Err c =
     calls_before c.args.answer.now c.refusal.result (c.tell.ensures.number, c.tell.ensures.written)
-    c.set-limits.ensures.made c.judge_call-stop.ensures.told c.args.output.now
+    c.set-limits.ensures.made c.judge_call.ensures.told c.args.output.now
     (λ l. plain_judged read_json l c.args.document.now)
-    c.if-stop-ne0.true c.refusal.ensures.set
+    c.in-Err.is c.number.ensures.told c.refusal.ensures.set
 
 pub plain-done-requires : goal.plain-done-requires
-plain-done-requires c = range_small (none_before c.judge_call-stop.ensures.told c.if-stop-ne0.false).0
+plain-done-requires c = range_small (none_before c.judge_call.ensures.told c.in_default.is).0
 
 pub returns : goal.returns
 unfolding plain_call plain_operation source
 returns c =
     calls_behind c.args.answer.now c.plain-done.result (c.tell-2.ensures.number, c.tell-2.ensures.written)
-    c.set-limits.ensures.made c.judge_call-stop.ensures.told c.args.output.now
+    c.set-limits.ensures.made c.judge_call.ensures.told c.args.output.now
     (λ l. plain_judged read_json l c.args.document.now)
-    c.if-stop-ne0.false (c.plain-done.ensures.answered, c.plain-done.ensures.written)
+    c.in_default.is (c.plain-done.ensures.answered, c.plain-done.ensures.written)

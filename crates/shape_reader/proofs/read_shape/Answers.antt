@@ -1,33 +1,24 @@
 -- `shape_reader::read_shape` meets its contract. Assumes nothing.
-use native.Mathlib.Omega.{arith}
-use Rattle.shape_reader.proofs.ShapeTexts.{start_ready, text_refused, end_ready, more_behind, whole_text}
+use Rattle.reading.proofs.Passed.{passed}
+use Rattle.shape_reader.specs.ShapeReads.{ReadsShape}
+use Rattle.shape_reader.proofs.ShapeTexts.{text_refused, more_behind, whole_text}
 use Rattle.shape_reader.proofs.read_shape.Goals as goal
 
-pub read_form-requires : goal.read_form-requires
-read_form-requires c =
-    start_ready c.requires
-
-pub next_end-requires : goal.next_end-requires
-next_end-requires c =
-    (end_ready c.args.limits c.requires c.read_form.ensures.read c.in-Done.is).placed.within
-
-pub overflow_mul-result : goal.overflow_mul-result
-overflow_mul-result c =
-    omega (arith, (end_ready c.args.limits c.requires c.read_form.ensures.read c.in-Done.is).limit, c.requires.few)
-
-pub returns-in-Whole : goal.returns-in-Whole
-returns-in-Whole c =
+pub returns-in_err-to : goal.returns-in_err-to
+returns-in_err-to c =
     record {
-      read = whole_text c.args.limits c.requires c.read_form.ensures.read c.in-Done.is
-          c.next_end.ensures.read c.in-Whole.is;
+      read = passed
+          (ReadsShape c.args.limits c.args.text.now c.args.shapes.now c.args.pool.now c.read_form.new.shapes c.read_form.new.pool c.args.top)
+          c.from_residual.ensures (text_refused c.args.limits c.requires c.in_err-to.ensures.read);
     }
 
-pub returns-in-More : goal.returns-in-More
-returns-in-More c =
+pub returns-in_err-next_end : goal.returns-in_err-next_end
+returns-in_err-next_end c =
     record {
-      read = more_behind c.args.limits c.requires c.read_form.ensures.read c.in-Done.is
-          c.next_end.ensures.read c.in-More.is;
+      read = passed
+          (ReadsShape c.args.limits c.args.text.now c.args.shapes.now c.args.pool.now c.read_form.new.shapes c.read_form.new.pool c.args.top)
+          c.from_residual-in_err-next_end.ensures (more_behind c.args.limits c.requires c.in_ok-to.ensures.read c.in_err-next_end.ensures.read);
     }
 
-pub returns-in-Refused : goal.returns-in-Refused
-returns-in-Refused c = record { read = text_refused c.args.limits c.requires c.read_form.ensures.read c.in-Refused.is }
+pub returns : goal.returns
+returns c = record { read = whole_text c.args.limits c.requires c.in_ok-to.ensures.read c.in_ok-next_end.ensures.read }

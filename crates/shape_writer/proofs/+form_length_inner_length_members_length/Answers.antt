@@ -18,11 +18,11 @@ use Rattle.shape_writer.proofs.+form_length_inner_length_members_length.Goals as
 
 pub form_length-overflow_add-first : goal.form_length-overflow_add-first
 form_length-overflow_add-first t c =
-    omega (arith, holds_within c.requires.holds, forms_some c.requires.shape, c.well_formed.0.0)
+    omega (arith, holds_within c.requires.holds, forms_some c.requires.shape)
 
 pub form_length-overflow_add-end : goal.form_length-overflow_add-end
 form_length-overflow_add-end t c =
-    omega (arith, holds_within c.requires.holds, holds_size c.requires.holds, c.size.ensures.read, c.well_formed.0.0)
+    omega (arith, holds_within c.requires.holds, holds_size c.requires.holds, c.size.ensures.read)
 
 pub form_length-overflow_add-inner : goal.form_length-overflow_add-inner
 form_length-overflow_add-inner t c =
@@ -32,7 +32,7 @@ pub form_length-overflow_add-next : goal.form_length-overflow_add-next
 form_length-overflow_add-next t c =
     let l = listed c.args.around c.requires.holds
     (ap (λ (k : ℕ). has_bit k 32) (sym c.kinds-kinds.ensures.read) ∙ sym c.has.ensures.told ∙ c.if-has.true) in
-    omega (arith, holds_within l.holds, holds_size l.holds, c.size-then-has.ensures.read, c.well_formed.0.0)
+    omega (arith, holds_within l.holds, holds_size l.holds, c.size-then-has.ensures.read)
 
 pub form_length-form_length-element-requires : goal.form_length-form_length-element-requires
 form_length-form_length-element-requires t c =
@@ -242,7 +242,6 @@ members_length-overflow_add-i t c =
       arith,
       c.size-i.ensures.read,
       first_within (counted_turn c.loop-i.invariant c.loop-i-test.true c.requires),
-      c.well_formed.0.0,
     )
 
 pub members_length-loop-i-smaller : goal.members_length-loop-i-smaller

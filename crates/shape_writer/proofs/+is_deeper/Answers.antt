@@ -14,11 +14,11 @@ returns-then-size-left t c =
 
 pub overflow_add-end : goal.overflow_add-end
 overflow_add-end t c =
-    omega (arith, c.size-size.ensures.read, standing_within c.requires, c.well_formed.0.0)
+    omega (arith, c.size-size.ensures.read, standing_within c.requires)
 
 pub overflow_add-i : goal.overflow_add-i
 overflow_add-i t c =
-    omega (arith, standing_some c.requires, standing_within c.requires, c.well_formed.0.0)
+    omega (arith, standing_some c.requires, standing_within c.requires)
 
 pub loop-i-init : goal.loop-i-init
 loop-i-init t c =
@@ -38,7 +38,7 @@ returns-then-is_deeper t c =
 
 pub overflow_add-i-in-loop-i : goal.overflow_add-i-in-loop-i
 overflow_add-i-in-loop-i t c =
-    omega (arith, c.size-i.ensures.read, inner_within c.loop-i.invariant c.loop-i-test.true c.requires, c.well_formed.0.0)
+    omega (arith, c.size-i.ensures.read, inner_within c.loop-i.invariant c.loop-i-test.true c.requires)
 
 pub loop-i-smaller : goal.loop-i-smaller
 loop-i-smaller t c =

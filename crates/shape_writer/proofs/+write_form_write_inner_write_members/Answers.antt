@@ -20,11 +20,11 @@ use Rattle.shape_writer.proofs.+write_form_write_inner_write_members.Goals as go
 
 pub write_form-overflow_add-first : goal.write_form-overflow_add-first
 write_form-overflow_add-first t c =
-    omega (arith, holds_within c.requires.holds, forms_some c.requires.shape, c.well_formed.1.1.0.0)
+    omega (arith, holds_within c.requires.holds, forms_some c.requires.shape)
 
 pub write_form-overflow_add-end : goal.write_form-overflow_add-end
 write_form-overflow_add-end t c =
-    omega (arith, holds_within c.requires.holds, holds_size c.requires.holds, c.size.ensures.read, c.well_formed.1.1.0.0)
+    omega (arith, holds_within c.requires.holds, holds_size c.requires.holds, c.size.ensures.read)
 
 pub write_form-overflow_add-inner : goal.write_form-overflow_add-inner
 write_form-overflow_add-inner t c =
@@ -43,7 +43,7 @@ pub write_form-overflow_add-next : goal.write_form-overflow_add-next
 write_form-overflow_add-next t c =
     let l = listed c.args.around c.requires.holds
     (ap (λ (k : ℕ). has_bit k 32) (sym c.kinds-kinds.ensures.read) ∙ sym c.has.ensures.told ∙ c.if-has.true) in
-    omega (arith, holds_within l.holds, holds_size l.holds, c.size-then-has.ensures.read, c.well_formed.1.1.0.0)
+    omega (arith, holds_within l.holds, holds_size l.holds, c.size-then-has.ensures.read)
 
 pub write_form-write_line-k-requires : goal.write_form-write_line-k-requires
 write_form-write_line-k-requires t c =
@@ -78,7 +78,7 @@ write_form-write_form-m-requires t c =
               c.write_line-k.ensures.written.end,
               c.write_line-k.auto.out,
             );
-        deep = omega (arith, c.requires.room, length_listed l, length_new_line (c.args.around + 1), c.well_formed.0.0);
+        deep = omega (arith, c.requires.room, length_listed l, length_new_line (c.args.around + 1));
       },
     )
 
@@ -201,7 +201,7 @@ write_members-write_label-j-requires t c =
 
 pub write_members-overflow_add-around : goal.write_members-overflow_add-around
 write_members-overflow_add-around t c =
-    omega (arith, inner_room c.requires c.loop-i.invariant c.loop-i-test.true, c.well_formed.0.0)
+    omega (arith, inner_room c.requires c.loop-i.invariant c.loop-i-test.true)
 
 pub write_members-write_inner-j-requires : goal.write_members-write_inner-j-requires
 write_members-write_inner-j-requires t c = (
@@ -213,7 +213,7 @@ write_members-write_inner-j-requires t c = (
     first_some (turn c.requires c.loop-i.invariant c.loop-i-test.true),
   ),
   form_printable c.requires c.loop-i.invariant c.loop-i-test.true c.name.ensures.read
-      c.write_label-j.ensures.written c.write_label-j.auto.out (omega (arith, c.well_formed.0.0)),
+      c.write_label-j.ensures.written c.write_label-j.auto.out (omega (arith)),
 )
 
 pub write_members-write_bytes-j-requires : goal.write_members-write_bytes-j-requires
@@ -224,7 +224,7 @@ write_members-write_bytes-j-requires t c =
 
 pub write_members-overflow_add-i : goal.write_members-overflow_add-i
 write_members-overflow_add-i t c =
-    omega (arith, c.size-i.ensures.read, first_within (turn c.requires c.loop-i.invariant c.loop-i-test.true), c.well_formed.1.1.0.0)
+    omega (arith, c.size-i.ensures.read, first_within (turn c.requires c.loop-i.invariant c.loop-i-test.true))
 
 pub write_members-loop-i-smaller : goal.write_members-loop-i-smaller
 write_members-loop-i-smaller t c =

@@ -2,10 +2,8 @@
 use native.Mathlib.Omega.{arith}
 use Rattle.shape_writer.proofs.Bounds.{text_bound, printable}
 use Rattle.shape_writer.proofs.Delivery.{over_forms, over_levels, over_bytes, fits}
+use Rattle.shape_writer.proofs.measure.Goals.{then-limits-size-via-then-limits-size, then-limits-size-via-else-limits-size+then-is_deeper}
 use Rattle.shape_writer.proofs.measure.Goals as goal
-
-pub returns-then-limits-size : goal.returns-then-limits-size
-returns-then-limits-size c = record { judged = over_forms c.args.limits c.size.ensures.read (omega (arith, c.if-limits-size.true)) }
 
 pub is_deeper-requires : goal.is_deeper-requires
 is_deeper-requires c =
@@ -16,8 +14,13 @@ is_deeper-requires c =
       stands = c.requires.holds.stands;
     }
 
-pub returns-then-is_deeper : goal.returns-then-is_deeper
-returns-then-is_deeper c = record { judged = over_levels c.args.limits c.is_deeper.ensures.told c.if-is_deeper.true }
+pub returns-then-limits-size : goal.returns-then-limits-size
+returns-then-limits-size c =
+    elim c.then-limits-size.branch [
+      | then-limits-size-via-then-limits-size w ↦ record { judged = over_forms c.args.limits c.size.ensures.read (omega (arith, w.if-limits-size.true)) }
+      | then-limits-size-via-else-limits-size+then-is_deeper w ↦
+          record { judged = over_levels c.args.limits w.is_deeper.ensures.told w.if-is_deeper.true }
+    ]
 
 pub form_length-length-requires : goal.form_length-length-requires
 form_length-length-requires c =
@@ -27,11 +30,12 @@ pub overflow_add-length : goal.overflow_add-length
 overflow_add-length c =
     omega (arith, c.form_length-length.ensures.measured c.requires.shape c.requires.holds, text_bound c.requires)
 
-pub returns-then-limits-length : goal.returns-then-limits-length
-returns-then-limits-length c = record { judged = over_bytes c.args.limits c.form_length-length.ensures.measured (omega (arith, c.if-limits-length.true)) }
+pub returns-else-length-limits : goal.returns-else-length-limits
+returns-else-length-limits c =
+    record { judged = over_bytes c.args.limits c.form_length-length.ensures.measured (omega (arith, c.if-length-limits.false)) }
 
-pub returns : goal.returns
-returns c =
+pub returns-then-length-limits : goal.returns-then-length-limits
+returns-then-length-limits c =
     record {
       judged = fits
           c.args.limits
@@ -40,5 +44,5 @@ returns c =
           c.is_deeper.ensures.told
           c.if-is_deeper.false
           c.form_length-length.ensures.measured
-          (omega (arith, c.if-limits-length.false));
+          (omega (arith, c.if-length-limits.true));
     }

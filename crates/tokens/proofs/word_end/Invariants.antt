@@ -1,11 +1,6 @@
--- The invariants of `tokens::word_end` and what falls in its loops. Assumes nothing.
-use Prim.Native.Nat.{◌-◌}
-use lib.ListN.{length}
+-- The invariant of `tokens::word_end`. Assumes nothing.
 use Rattle.tokens.proofs.Borders.{Running}
 use Rattle.tokens.proofs.word_end.Given as goal
 
 abbrev pub invariant-loop-i : goal.invariant-loop-i
 invariant-loop-i l = Running l.text l.at l.i
-
-abbrev pub decreases-loop-i : goal.decreases-loop-i
-decreases-loop-i l = length l.text - l.i

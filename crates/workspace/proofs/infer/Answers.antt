@@ -4,16 +4,18 @@ use native.Mathlib.Omega.{arith}
 use mathlib.Core.Path.{◌≡◌, ◌∙◌}
 use Rattle.workspace.proofs.Trying.{few_small, few_grown_document, infer_tried, accepted, keeps, again}
 use Rattle.workspace.proofs.infer.Goals as goal
-use Rattle.workspace.proofs.infer.Goals.{then-shape-lt768+then-document-lt384+else-tried-eq0, then-shape-lt768+else-document-lt384, else-shape-lt768}
+use Rattle.workspace.proofs.infer.Goals.{then-shape-lt768+then-document-lt384+else-tried-eq0, else-shape-lt768}
 
-pub infer-tried-requires : goal.infer-tried-requires
-infer-tried-requires c =
-    record { small = few_small _ _ c.fewer.ensures.made c.requires; long = few_grown_document _ _ c.fewer.ensures.made _ _ (omega arith) (omega arith) }
+pub infer_in-tried-requires-clause-small : goal.infer_in-tried-requires-clause-small
+infer_in-tried-requires-clause-small c = few_small _ _ c.fewer.ensures.made c.requires
+
+pub infer_in-tried-requires-clause-long : goal.infer_in-tried-requires-clause-long
+infer_in-tried-requires-clause-long c = few_grown_document _ _ c.fewer.ensures.made _ _ (omega arith) (omega arith)
 
 pub returns-then-tried-eq0 : goal.returns-then-tried-eq0
 returns-then-tried-eq0 c =
     let facts = accepted (infer_tried _ _ c.fewer.ensures.made c.args.format c.args.shape.now
-    c.args.document.now) c.args.output.now (c.infer-tried.ensures.answered, c.infer-tried.ensures.written) c.if-tried-eq0.true in
+    c.args.document.now) c.args.output.now (c.infer_in-tried.ensures.answered, c.infer_in-tried.ensures.written) c.if-tried-eq0.true in
     record { answered = facts.0; written = facts.1 }
 
 pub shape_of-output : goal.shape_of-output
@@ -27,9 +29,8 @@ returns c =
       | then-shape-lt768+then-document-lt384+else-tried-eq0 w ↦
           w.output-is
           ∙ keeps (infer_tried _ _ w.fewer.ensures.made c.args.format c.args.shape.now c.args.document.now) c.args.output.now
-          (w.infer-tried.ensures.answered, w.infer-tried.ensures.written)
+          (w.infer_in-tried.ensures.answered, w.infer_in-tried.ensures.written)
           w.if-tried-eq0.false
-      | then-shape-lt768+else-document-lt384 w ↦ w.output-is
       | else-shape-lt768 w ↦ w.output-is
     ] in
     let facts = again _ kept (c.full_infer.ensures.answered, c.full_infer.ensures.written) in

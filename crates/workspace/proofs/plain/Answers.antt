@@ -6,14 +6,16 @@ use Rattle.workspace.proofs.Trying.{few_small, few_document, plain_tried, accept
 use Rattle.workspace.proofs.plain.Goals as goal
 use Rattle.workspace.proofs.plain.Goals.{then-document-lt384+else-tried-eq0, else-document-lt384}
 
-pub plain-tried-requires : goal.plain-tried-requires
-plain-tried-requires c =
-    record { small = few_small _ _ c.fewer.ensures.made c.requires; long = few_document _ _ c.fewer.ensures.made _ (omega arith) }
+pub plain_in-tried-requires-clause-small : goal.plain_in-tried-requires-clause-small
+plain_in-tried-requires-clause-small c = few_small _ _ c.fewer.ensures.made c.requires
+
+pub plain_in-tried-requires-clause-long : goal.plain_in-tried-requires-clause-long
+plain_in-tried-requires-clause-long c = few_document _ _ c.fewer.ensures.made _ (omega arith)
 
 pub returns-then-tried-eq0 : goal.returns-then-tried-eq0
 returns-then-tried-eq0 c =
     let facts = accepted (plain_tried _ _ c.fewer.ensures.made c.args.format c.args.document.now)
-    c.args.output.now (c.plain-tried.ensures.answered, c.plain-tried.ensures.written)
+    c.args.output.now (c.plain_in-tried.ensures.answered, c.plain_in-tried.ensures.written)
     c.if-tried-eq0.true in record { answered = facts.0; written = facts.1 }
 
 pub shape_of-output : goal.shape_of-output
@@ -27,8 +29,8 @@ returns c =
       | then-document-lt384+else-tried-eq0 w ↦
           w.output-is
           ∙ keeps (plain_tried _ _ w.fewer.ensures.made c.args.format c.args.document.now) c.args.output.now (
-            w.plain-tried.ensures.answered,
-            w.plain-tried.ensures.written,
+            w.plain_in-tried.ensures.answered,
+            w.plain_in-tried.ensures.written,
           )
           w.if-tried-eq0.false
       | else-document-lt384 w ↦ w.output-is

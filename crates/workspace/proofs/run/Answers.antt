@@ -4,19 +4,18 @@ use native.Mathlib.Omega.{arith}
 use mathlib.Core.Path.{◌≡◌, ◌∙◌}
 use Rattle.workspace.proofs.Trying.{few_small, few_reader_document, run_tried, accepted, keeps, again}
 use Rattle.workspace.proofs.run.Goals as goal
-use Rattle.workspace.proofs.run.Goals.{then-reader-lt384+then-document-lt384+else-tried-eq0, then-reader-lt384+else-document-lt384, else-reader-lt384}
+use Rattle.workspace.proofs.run.Goals.{then-reader-lt384+then-document-lt384+else-tried-eq0, else-reader-lt384}
 
-pub run-tried-requires : goal.run-tried-requires
-run-tried-requires c =
-    record {
-      small = few_small _ _ c.fewer.ensures.made c.requires;
-      long = few_reader_document _ _ c.fewer.ensures.made _ _ (omega arith) c.requires.nesting (omega arith);
-    }
+pub run_in-tried-requires-clause-small : goal.run_in-tried-requires-clause-small
+run_in-tried-requires-clause-small c = few_small _ _ c.fewer.ensures.made c.requires
+
+pub run_in-tried-requires-clause-long : goal.run_in-tried-requires-clause-long
+run_in-tried-requires-clause-long c = few_reader_document _ _ c.fewer.ensures.made _ _ (omega arith) c.requires.nesting (omega arith)
 
 pub returns-then-tried-eq0 : goal.returns-then-tried-eq0
 returns-then-tried-eq0 c =
     let facts = accepted (run_tried _ _ c.fewer.ensures.made c.args.format c.args.reader.now
-    c.args.document.now) c.args.output.now (c.run-tried.ensures.answered, c.run-tried.ensures.written) c.if-tried-eq0.true in
+    c.args.document.now) c.args.output.now (c.run_in-tried.ensures.answered, c.run_in-tried.ensures.written) c.if-tried-eq0.true in
     record { answered = facts.0; written = facts.1 }
 
 pub shape_of-output : goal.shape_of-output
@@ -30,11 +29,10 @@ returns c =
       | then-reader-lt384+then-document-lt384+else-tried-eq0 w ↦
           w.output-is
           ∙ keeps (run_tried _ _ w.fewer.ensures.made c.args.format c.args.reader.now c.args.document.now) c.args.output.now (
-            w.run-tried.ensures.answered,
-            w.run-tried.ensures.written,
+            w.run_in-tried.ensures.answered,
+            w.run_in-tried.ensures.written,
           )
           w.if-tried-eq0.false
-      | then-reader-lt384+else-document-lt384 w ↦ w.output-is
       | else-reader-lt384 w ↦ w.output-is
     ] in
     let facts = again _ kept (c.full_run.ensures.answered, c.full_run.ensures.written) in

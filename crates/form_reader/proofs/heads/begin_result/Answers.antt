@@ -1,39 +1,31 @@
 -- `form_reader::heads::begin_result` meets its contract. Assumes nothing.
-use native.Mathlib.Omega.{arith}
-use Rattle.form_reader.proofs.HeadReading.{result_refused, worded, result_unknown, result_known}
+use Rattle.reading.proofs.Passed.{passed}
+use Rattle.form_reader.specs.FormParts.{BeginsResult}
+use Rattle.form_reader.proofs.Steps.{unfound}
+use Rattle.form_reader.proofs.HeadReading.{result_refused, result_unknown, result_known}
 use Rattle.form_reader.proofs.heads.begin_result.Goals as goal
 
-pub result_code-code-requires : goal.result_code-code-requires
-result_code-code-requires c =
-    let f = (worded c.args.values c.args.left c.args.c c.begin_form.ensures.read
-    c.in-Word.is).found in (omega (arith, f.ahead), f.within)
-
-pub returns-then-code-eq0 : goal.returns-then-code-eq0
-returns-then-code-eq0 c =
+pub returns-in_err-form : goal.returns-in_err-form
+returns-in_err-form c =
     record {
-      read = result_unknown c.args.values c.args.left c.args.c c.begin_form.ensures.read
-          c.in-Word.is c.result_code-code.ensures.told c.if-code-eq0.true;
+      read =
+          passed (BeginsResult c.args.text.now c.args.values c.args.left c.args.c) c.from_residual.ensures
+          (result_refused c.args.values c.args.left c.args.c c.in_err-form.ensures.read);
     }
 
-pub overflow_add-to : goal.overflow_add-to
-overflow_add-to c =
-    omega (
-      arith,
-      (worded c.args.values c.args.left c.args.c c.begin_form.ensures.read
-          c.in-Word.is).bracket.begun,
-      c.ranges.values.fits,
-    )
-
-pub returns-else-code-eq0 : goal.returns-else-code-eq0
-returns-else-code-eq0 c =
+pub returns-in_err-code : goal.returns-in_err-code
+returns-in_err-code c =
     record {
-      read = result_known c.args.values c.args.left c.args.c c.begin_form.ensures.read
-          c.in-Word.is c.result_code-code.ensures.told c.if-code-eq0.false;
+      read =
+          passed (BeginsResult c.args.text.now c.args.values c.args.left c.args.c) c.from_residual-in_err-code.ensures
+          (result_unknown c.args.values c.args.left c.args.c c.in_ok-form.ensures.read.answer c.result_code.ensures.told
+          (unfound c.result_code.result c.in_err-code.ensures.value c.misplaced.ensures.place c.misplaced.ensures.cause));
     }
 
-pub returns-in-Refused : goal.returns-in-Refused
-returns-in-Refused c =
+pub returns : goal.returns
+returns c =
     record {
-      read = result_refused c.args.values c.args.left c.args.c c.begin_form.ensures.read
-          c.in-Refused.is;
+      read =
+          result_known c.args.values c.args.left c.args.c c.in_ok-form.ensures.read.answer c.result_code.ensures.told
+          c.in_ok-code.ensures.ok_part;
     }

@@ -1,32 +1,28 @@
 -- `form_reader::heads::read_head` meets its contract. Assumes nothing.
-use Rattle.form_reader.proofs.HeadReading.{head_refused, operand_room, operand_refused, head_read}
+use Rattle.reading.proofs.Passed.{passed}
+use Rattle.form_reader.specs.FormParts.{ReadsHead}
+use Rattle.form_reader.proofs.HeadReading.{head_refused, operand_refused, head_read}
 use Rattle.form_reader.proofs.heads.read_head.Goals as goal
 
-pub begin_result-requires : goal.begin_result-requires
-begin_result-requires c = c.requires.within
-
-pub read_operand-requires : goal.read_operand-requires
-read_operand-requires c =
-    operand_room c.args.values c.args.left c.args.c c.args.pool.now c.begin_result.ensures.read
-    c.in-Form.is c.requires
-
-pub returns-in-Read : goal.returns-in-Read
-returns-in-Read c =
+pub returns-in_err-word : goal.returns-in_err-word
+returns-in_err-word c =
     record {
-      read = head_read c.args.values c.args.left c.args.c c.args.pool.now c.begin_result.ensures.read
-          c.in-Form.is c.read_operand.ensures.read c.in-Read.is;
+      read =
+          passed (ReadsHead c.args.text.now c.args.pool.now c.args.pool.now c.args.values c.args.left c.args.c) c.from_residual.ensures
+          (head_refused c.args.values c.args.left c.args.c c.args.pool.now c.in_err-word.ensures.read);
     }
 
-pub returns-in-Refused-read_operand : goal.returns-in-Refused-read_operand
-returns-in-Refused-read_operand c =
+pub returns-in_err-behind : goal.returns-in_err-behind
+returns-in_err-behind c =
     record {
-      read = operand_refused c.args.values c.args.left c.args.c c.args.pool.now c.begin_result.ensures.read
-          c.in-Form.is c.read_operand.ensures.read c.in-Refused-read_operand.is;
+      read =
+          passed (ReadsHead c.args.text.now c.args.pool.now c.read_operand.new.pool c.args.values c.args.left c.args.c)
+          c.from_residual-in_err-behind.ensures
+          (operand_refused c.args.values c.args.left c.args.c c.args.pool.now c.in_ok-word.ensures.read c.in_err-behind.ensures.read);
     }
 
-pub returns-in-Refused : goal.returns-in-Refused
-returns-in-Refused c =
+pub returns : goal.returns
+returns c =
     record {
-      read = head_refused c.args.values c.args.left c.args.c c.args.pool.now
-          c.begin_result.ensures.read c.in-Refused.is;
+      read = head_read c.args.values c.args.left c.args.c c.args.pool.now c.in_ok-word.ensures.read c.in_ok-behind.ensures.read;
     }

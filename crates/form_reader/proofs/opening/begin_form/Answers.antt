@@ -1,42 +1,27 @@
 -- `form_reader::opening::begin_form` meets its contract. Assumes nothing.
-use native.Mathlib.Omega.{arith}
-use Rattle.form_reader.proofs.FormBrackets.{form_refused, opened, word_read, word_missing}
+use Rattle.reading.proofs.Passed.{passed}
+use Rattle.form_reader.specs.FormParts.{BeginsForm}
+use Rattle.form_reader.proofs.FormBrackets.{form_refused, word_read, word_missing}
 use Rattle.form_reader.proofs.opening.begin_form.Goals as goal
 
-pub overflow_add-place : goal.overflow_add-place
-overflow_add-place c =
-    omega (
-      arith,
-      (opened c.args.values c.args.left c.args.c c.open_form.ensures.read
-          c.in-At.is).within,
-      c.well_formed.0.0,
-    )
-
-pub next_word-requires : goal.next_word-requires
-next_word-requires c =
-    omega (
-      arith,
-      (opened c.args.values c.args.left c.args.c c.open_form.ensures.read
-          c.in-At.is).within,
-    )
-
-pub returns-in-At-next_word : goal.returns-in-At-next_word
-returns-in-At-next_word c =
+pub returns-in_err-place : goal.returns-in_err-place
+returns-in_err-place c =
     record {
-      read = word_read c.args.values c.args.left c.args.c c.open_form.ensures.read
-          c.in-At.is c.next_word.ensures.read c.in-At-next_word.is;
+      read =
+          passed (BeginsForm c.args.text.now c.args.values c.args.left c.args.c) c.from_residual.ensures
+          (form_refused c.args.values c.args.left c.args.c c.in_err-place.ensures.read);
     }
 
-pub returns-in-Missing : goal.returns-in-Missing
-returns-in-Missing c =
+pub returns-in_err-word : goal.returns-in_err-word
+returns-in_err-word c =
     record {
-      read = word_missing c.args.values c.args.left c.args.c c.open_form.ensures.read
-          c.in-At.is c.next_word.ensures.read c.in-Missing.is;
+      read =
+          passed (BeginsForm c.args.text.now c.args.values c.args.left c.args.c) c.from_residual-in_err-word.ensures
+          (word_missing c.args.values c.args.left c.args.c c.in_ok-place.ensures.read.answer c.in_err-word.ensures.read.answer);
     }
 
-pub returns-in-Refused : goal.returns-in-Refused
-returns-in-Refused c =
+pub returns : goal.returns
+returns c =
     record {
-      read = form_refused c.args.values c.args.left c.args.c c.open_form.ensures.read
-          c.in-Refused.is;
+      read = word_read c.args.values c.args.left c.args.c c.in_ok-place.ensures.read.answer c.in_ok-word.ensures.read.answer;
     }

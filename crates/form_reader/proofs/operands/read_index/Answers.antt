@@ -1,28 +1,31 @@
 -- `form_reader::operands::read_index` meets its contract. Assumes nothing.
-use Rattle.form_reader.proofs.OperandReading.{word_found, index_missing, index_wrong, index_right}
+use Rattle.reading.proofs.Passed.{passed}
+use Rattle.form_reader.specs.FormParts.{ReadsIndex}
+use Rattle.form_reader.proofs.Steps.{unfound}
+use Rattle.form_reader.proofs.OperandReading.{index_missing, index_wrong, index_right}
 use Rattle.form_reader.proofs.operands.read_index.Goals as goal
 
-pub next_word-requires : goal.next_word-requires
-next_word-requires c =
-    c.requires
-
-pub slot_of-requires : goal.slot_of-requires
-slot_of-requires c =
-    let f = word_found c.args.c c.next_word.ensures.read c.in-At.is in (f.ahead, f.within)
-
-pub returns-in-Of : goal.returns-in-Of
-returns-in-Of c =
+pub returns-in_err-word : goal.returns-in_err-word
+returns-in_err-word c =
     record {
-      read = index_right c.args.c c.next_word.ensures.read c.args.bound c.in-At.is
-          c.slot_of.ensures.told c.in-Of.is;
+      read =
+          passed (ReadsIndex c.args.text.now c.args.bound c.args.c) c.from_residual.ensures
+          (index_missing c.args.c c.args.bound c.in_err-word.ensures.read.answer);
     }
 
-pub returns-in-Nothing : goal.returns-in-Nothing
-returns-in-Nothing c =
+pub returns-in_err-value : goal.returns-in_err-value
+returns-in_err-value c =
     record {
-      read = index_wrong c.args.c c.next_word.ensures.read c.args.bound c.in-At.is
-          c.slot_of.ensures.told c.in-Nothing.is;
+      read =
+          passed (ReadsIndex c.args.text.now c.args.bound c.args.c) c.from_residual-in_err-value.ensures
+          (index_wrong c.args.c c.args.bound c.in_ok-word.ensures.read.answer c.slot_of.result c.slot_of.ensures.told
+          (unfound c.slot_of.result c.in_err-value.ensures.value c.misplaced.ensures.place c.misplaced.ensures.cause));
     }
 
-pub returns-in-Missing : goal.returns-in-Missing
-returns-in-Missing c = record { read = index_missing c.args.c c.next_word.ensures.read c.args.bound c.in-Missing.is }
+pub returns : goal.returns
+returns c =
+    record {
+      read =
+          index_right c.args.c c.args.bound c.in_ok-word.ensures.read.answer c.slot_of.result c.slot_of.ensures.told
+          c.in_ok-value.ensures.ok_part;
+    }

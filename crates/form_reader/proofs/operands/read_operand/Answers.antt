@@ -1,25 +1,31 @@
 -- `form_reader::operands::read_operand` meets its contract. Assumes nothing.
-use Rattle.form_reader.proofs.OperandReading.{test_operand, number_operand, str_read, str_refused, no_Operand}
+use native.Mathlib.Omega.{arith}
+use Rattle.reading.proofs.Passed.{passed}
+use Rattle.form_reader.specs.FormParts.{ReadsOperand}
+use Rattle.form_reader.proofs.OperandReading.{test_operand, number_operand, str_read, str_refused, no_operand}
 use Rattle.form_reader.proofs.operands.read_operand.Goals as goal
 
-pub read_test-requires : goal.read_test-requires
-read_test-requires c = c.requires.within
+pub returns-in-10 : goal.returns-in-10
+returns-in-10 c = record { read = test_operand c.args.c c.args.pool.now c.read_test.ensures.read c.in-10.is }
 
-pub read_number-requires : goal.read_number-requires
-read_number-requires c =
-    c.requires.within
+pub returns-in-12 : goal.returns-in-12
+returns-in-12 c = record { read = number_operand c.args.c c.args.pool.now c.read_number.ensures.read c.in-12.is }
 
-pub returns-then-code-eq-WHEN : goal.returns-then-code-eq-WHEN
-returns-then-code-eq-WHEN c = record { read = test_operand c.args.c c.args.pool.now c.read_test.ensures.read c.if-code-eq-WHEN.true }
+pub returns-in_ok-said-in-13 : goal.returns-in_ok-said-in-13
+returns-in_ok-said-in-13 c = record { read = str_read c.args.c c.in_ok-said-in-13.ensures.read c.in-13.is }
 
-pub returns-then-code-eq-NUM : goal.returns-then-code-eq-NUM
-returns-then-code-eq-NUM c = record { read = number_operand c.args.c c.args.pool.now c.read_number.ensures.read c.if-code-eq-NUM.true }
+pub returns-in_err-said-in-13 : goal.returns-in_err-said-in-13
+returns-in_err-said-in-13 c =
+    record {
+      read =
+          passed (ReadsOperand c.args.text.now c.args.pool.now c.read_text.new.pool c.args.code c.args.c) c.from_residual.ensures
+          (str_refused c.args.c c.in_err-said-in-13.ensures.read c.in-13.is);
+    }
 
-pub returns-in-Read : goal.returns-in-Read
-returns-in-Read c = record { read = str_read c.args.c c.read_text.ensures.read c.in-Read.is c.if-code-eq-STR.true }
-
-pub returns-in-Refused : goal.returns-in-Refused
-returns-in-Refused c = record { read = str_refused c.args.c c.read_text.ensures.read c.in-Refused.is c.if-code-eq-STR.true }
-
-pub returns : goal.returns
-returns c = record { read = no_Operand c.args.c c.requires.within c.if-code-eq-WHEN.false c.if-code-eq-NUM.false c.if-code-eq-STR.false }
+pub returns-in_default : goal.returns-in_default
+returns-in_default c =
+    record {
+      read =
+          no_operand c.args.c c.requires.within (λ e. omega (arith, c.in_default)) (λ e. omega (arith, c.in_default))
+          (λ e. omega (arith, c.in_default));
+    }

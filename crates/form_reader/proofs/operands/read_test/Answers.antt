@@ -1,29 +1,29 @@
 -- `form_reader::operands::read_test` meets its contract. Assumes nothing.
-use native.Mathlib.Omega.{arith}
-use Rattle.form_reader.proofs.OperandReading.{word_found, test_missing, test_wrong, test_right}
+use Rattle.reading.proofs.Passed.{passed}
+use Rattle.form_reader.specs.FormParts.{ReadsTest}
+use Rattle.form_reader.proofs.Steps.{unfound}
+use Rattle.form_reader.proofs.OperandReading.{test_missing, test_wrong, test_right}
 use Rattle.form_reader.proofs.operands.read_test.Goals as goal
 
-pub next_word-requires : goal.next_word-requires
-next_word-requires c =
-    c.requires
-
-pub test_code-operand-requires : goal.test_code-operand-requires
-test_code-operand-requires c =
-    let f = word_found c.args.c c.next_word.ensures.read c.in-At.is in (omega (arith, f.ahead), f.within)
-
-pub returns-then-operand-lt7 : goal.returns-then-operand-lt7
-returns-then-operand-lt7 c =
+pub returns-in_err-word : goal.returns-in_err-word
+returns-in_err-word c =
     record {
-      read = test_right c.args.c c.next_word.ensures.read c.in-At.is
-          c.test_code-operand.ensures.told c.if-operand-lt7.true;
+      read =
+          passed (ReadsTest c.args.text.now c.args.c) c.from_residual.ensures
+          (test_missing c.args.c c.in_err-word.ensures.read.answer);
     }
 
-pub returns-else-operand-lt7 : goal.returns-else-operand-lt7
-returns-else-operand-lt7 c =
+pub returns-in_err-operand : goal.returns-in_err-operand
+returns-in_err-operand c =
     record {
-      read = test_wrong c.args.c c.next_word.ensures.read c.in-At.is
-          c.test_code-operand.ensures.told c.if-operand-lt7.false;
+      read =
+          passed (ReadsTest c.args.text.now c.args.c) c.from_residual-in_err-operand.ensures
+          (test_wrong c.args.c c.in_ok-word.ensures.read.answer c.test_code.ensures.told
+          (unfound c.test_code.result c.in_err-operand.ensures.value c.misplaced.ensures.place c.misplaced.ensures.cause));
     }
 
-pub returns-in-Missing : goal.returns-in-Missing
-returns-in-Missing c = record { read = test_missing c.args.c c.next_word.ensures.read c.in-Missing.is }
+pub returns : goal.returns
+returns c =
+    record {
+      read = test_right c.args.c c.in_ok-word.ensures.read.answer c.test_code.ensures.told c.in_ok-operand.ensures.ok_part;
+    }

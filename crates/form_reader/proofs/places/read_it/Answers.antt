@@ -1,51 +1,33 @@
 -- `form_reader::places::read_it` meets its contract. Assumes nothing.
-use native.Mathlib.Omega.{arith}
-use Rattle.form_reader.proofs.PlaceReading.{index_refused, it_room, it_open, it_row_room, it_read}
+use Rattle.reading.proofs.Passed.{passed}
+use Rattle.form_reader.specs.FormParts.{ReadsIt}
+use Rattle.form_reader.proofs.PlaceReading.{index_refused, it_open, it_read}
 use Rattle.form_reader.proofs.places.read_it.Goals as goal
 
-pub read_index-requires : goal.read_index-requires
-read_index-requires c =
-    c.requires.ready.within
-
-pub close_form-r-requires : goal.close_form-r-requires
-close_form-r-requires c =
-    (it_room c.args.values c.args.bound c.args.place c.args.c c.requires
-    c.read_index.ensures.read c.in-Read.is).within
-
-pub returns-in_default : goal.returns-in_default
-returns-in_default c =
+pub returns-in_err-slot : goal.returns-in_err-slot
+returns-in_err-slot c =
     record {
-      read = it_open c.args.values c.args.bound c.args.place c.args.c c.requires
-          c.read_index.ensures.read c.in-Read.is c.close_form-r.ensures.read c.in_default.is;
+      read =
+          passed
+          (ReadsIt c.args.values c.args.bound c.args.text.now c.args.forms.now c.args.pool.now c.args.forms.now c.args.pool.now c.args.place c.args.c)
+          c.from_residual.ensures
+          (index_refused c.args.values c.args.bound c.args.place c.args.c c.requires c.in_err-slot.ensures.read);
     }
 
-pub overflow_sub-c : goal.overflow_sub-c
-overflow_sub-c c =
-    omega (arith, c.requires.begun)
-
-pub put_row-requires : goal.put_row-requires
-put_row-requires c =
+pub returns-in_err-to : goal.returns-in_err-to
+returns-in_err-to c =
     record {
-      row_in_bounds = omega (
-        arith,
-        it_row_room c.args.values c.args.bound c.args.place c.args.c c.requires
-            c.read_index.ensures.read c.in-Read.is c.close_form-r.ensures.read,
-      );
-      fits = omega (arith, c.requires.near);
+      read =
+          passed
+          (ReadsIt c.args.values c.args.bound c.args.text.now c.args.forms.now c.args.pool.now c.args.forms.now c.args.pool.now c.args.place c.args.c)
+          c.from_residual-in_err-to.ensures
+          (it_open c.args.values c.args.bound c.args.place c.args.c c.requires c.in_ok-slot.ensures.read c.in_err-to.ensures.read);
     }
 
-pub returns-in-Done : goal.returns-in-Done
-returns-in-Done c =
+pub returns : goal.returns
+returns c =
     record {
-      read = it_read c.args.values c.args.bound c.args.place c.args.c c.requires
-          c.read_index.ensures.read c.in-Read.is c.close_form-r.ensures.read
-          c.in-Done.is
+      read =
+          it_read c.args.values c.args.bound c.args.place c.args.c c.requires c.in_ok-slot.ensures.read c.in_ok-to.ensures.read
           c.put_row.ensures.put;
-    }
-
-pub returns-in-Refused : goal.returns-in-Refused
-returns-in-Refused c =
-    record {
-      read = index_refused c.args.values c.args.bound c.args.place c.args.c c.requires
-          c.read_index.ensures.read c.in-Refused.is;
     }

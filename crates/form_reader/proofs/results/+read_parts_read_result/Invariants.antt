@@ -1,11 +1,9 @@
 -- The measures and invariants of the cycle of calls. Assumes nothing.
-use Prim.Native.Nat.{ℕ, ◌+◌, ◌*◌}
+use Prim.Native.Nat.{◌+◌, ◌-◌, ◌*◌}
 use mathlib.Core.Path.{◌≡◌}
-use mathlib.Core.List.{List}
-use Rattle.form_reader.specs.declared.reading.Cursor.{Cursor}
+use lib.ListN.{length}
 use Rattle.form_reader.specs.FormLeads.{Lead, lead_code}
-use Rattle.form_reader.specs.FormParts.{PartsReady, TurnAnswer}
-use Rattle.form_reader.proofs.ResultReading.{to_read}
+use Rattle.form_reader.specs.FormParts.{PartsGone}
 use Rattle.form_reader.proofs.results.+read_parts_read_result.Given as goal
 
 abbrev pub decreases-read_parts : goal.decreases-read_parts
@@ -16,9 +14,8 @@ decreases-read_result l = 2 * l.left
 
 abbrev pub invariant-read_parts-loop-turn : goal.invariant-read_parts-loop-turn
 invariant-read_parts-loop-turn l =
-    (lead : Lead) (c : Cursor) (ss ps : List ℕ) → c.begun ≡ l.first → lead_code lead ≡ l.code → PartsReady l.text ss ps l.values l.bound l.code c
-    → TurnAnswer lead l.left l.values l.bound l.text ss ps l.initial.forms l.initial.pool c l.initial.turn
-    → TurnAnswer lead l.left l.values l.bound l.text ss ps l.forms l.pool c l.turn
+    (lead : Lead) → lead_code lead ≡ l.code
+    → PartsGone lead l.left l.values l.bound l.text l.fn.forms l.fn.pool l.forms l.pool l.fn.c l.to l.more
 
 abbrev pub decreases-read_parts-loop-turn : goal.decreases-read_parts-loop-turn
-decreases-read_parts-loop-turn l = to_read l.text l.turn
+decreases-read_parts-loop-turn l = length l.text - l.to.at

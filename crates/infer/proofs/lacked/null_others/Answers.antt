@@ -17,8 +17,8 @@ pub returns-then-member_count : goal.returns-then-member_count
 returns-then-member_count c =
     record { nulled = none_lacked _ c.member_count.ensures.counted c.member_count-then-had.ensures.counted c.if-member_count.true c.requires.room.enough }
 
-pub returns-then-had : goal.returns-then-had
-returns-then-had c = record { nulled = others_of _ (others_had _ _ _ _ _ _ _ c.if-had.true c.null_lacked.ensures.nulled) }
+pub returns-else-member_count : goal.returns-else-member_count
+returns-else-member_count c = record { nulled = others_of _ (others_had _ _ _ _ _ _ _ c.if-had.true c.null_lacked.ensures.nulled) }
 
-pub returns : goal.returns
-returns c = record { nulled = others_of _ (others_none _ _ _ _ _ _ c.if-had.false c.requires.room.enough) }
+pub returns-else-had : goal.returns-else-had
+returns-else-had c = record { nulled = others_of _ (others_none _ _ _ _ _ _ c.if-had.false c.requires.room.enough) }

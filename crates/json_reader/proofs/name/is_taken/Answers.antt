@@ -1,4 +1,4 @@
--- `json::name::is_taken` meets its contract: a name whose bit is not set is none of the members' (`not_seen`). Assumes nothing.
+-- `json_reader::name::is_taken` meets its contract: a name whose bit is not set is none of the members' (`not_seen`). Assumes nothing.
 use Prim.Native.Nat.{ℕ, ◌/◌, ◌%◌, ◌^◌}
 use mathlib.Core.Path.{◌≡◌, subst}
 use native.Mathlib.Omega.{arith}

@@ -1,4 +1,4 @@
--- `json::name::read_colon` meets its contract. Assumes nothing.
+-- `json_reader::name::read_colon` meets its contract. Assumes nothing.
 use mathlib.Core.Path.{sym, ◌∙◌}
 use native.Mathlib.Omega.{arith}
 use Rattle.json_reader.proofs.White.{token_here, token}

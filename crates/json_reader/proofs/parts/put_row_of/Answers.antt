@@ -1,18 +1,15 @@
--- `json::parts::put_row_of` meets its contract. Assumes nothing.
-use Prim.Native.Nat.{ℕ, ◌-◌, ◌*◌}
-use mathlib.Core.Path.{ap, ◌∙◌}
-use Rattle.nodes.specs.RowLaws.{with_row}
+-- `json_reader::parts::put_row_of` meets its contract. Assumes nothing.
+use mathlib.Core.Path.{◌∙◌}
 use Rattle.json_reader.proofs.parts.put_row_of.Goals as goal
+
+pub head_word-head-requires : goal.head_word-head-requires
+head_word-head-requires c = rw c.kind.ensures c.requires.head
 
 pub returns : goal.returns
 returns c =
     record {
       closed = record {
-        row =
-            c.put_row.ensures.put
-            ∙ ap (λ (h : ℕ).
-            with_row c.args.nodes.now c.args.begun h (3 * (c.args.to.begun - c.args.begun)) c.args.name)
-            c.head_word-head.ensures.made;
+        row = c.put_row.ensures.put ∙ rw (c.head_word-head.ensures.made, c.kind.ensures);
         answer = c.done.ensures.packed;
       };
     }

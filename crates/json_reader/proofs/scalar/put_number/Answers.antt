@@ -1,4 +1,4 @@
--- `json::scalar::put_number` meets its contract. Assumes nothing.
+-- `json_reader::scalar::put_number` meets its contract. Assumes nothing.
 use Prim.Native.Nat.{ℕ}
 use mathlib.Core.Path.{refl, ap, ◌∙◌}
 use native.Mathlib.Omega.{arith}

@@ -1,9 +1,7 @@
--- `json::scalar::read_literal` meets its contract. Assumes nothing.
+-- `json_reader::scalar::read_literal` meets its contract. Assumes nothing.
 use Prim.Native.Nat.{ℕ}
-use mathlib.Core.Bool.{Bool}
-use mathlib.Core.Path.{ap, ◌∙◌, subst}
+use mathlib.Core.Path.{ap, ◌∙◌}
 use native.Mathlib.Omega.{arith}
-use Rattle.json_reader.specs.JsonParts.{JudgesFull}
 use Rattle.json_reader.proofs.Answers.{as_word}
 use Rattle.json_reader.proofs.Scalars.{literal_full, literal_broken, literal_read, literal_code}
 use Rattle.nodes.specs.RowLaws.{with_row}
@@ -15,8 +13,7 @@ returns-then-is_full c =
       read = λ pool.
           as_word c.refused.ensures.packed
           (literal_full c.args.c c.requires.1 c.requires.2 c.requires.0 pool
-          (subst (λ (b : Bool). JudgesFull c.args.values c.args.left c.args.c.begun b) c.if-is_full.true
-          c.is_full.ensures.judged));
+          c.if-is_full.ensures.judged);
     }
 
 pub returns-then-k-literal : goal.returns-then-k-literal
@@ -25,8 +22,7 @@ returns-then-k-literal c =
       read = λ pool.
           as_word c.refused-then-k-literal.ensures.packed
           (literal_broken c.args.c c.requires.1 c.requires.2 c.requires.0 pool
-          (subst (λ (b : Bool). JudgesFull c.args.values c.args.left c.args.c.begun b) c.if-is_full.false
-          c.is_full.ensures.judged)
+          c.if-is_full.ensures.judged
           c.matching-k.ensures.matched c.if-k-literal.true);
     }
 
@@ -45,8 +41,7 @@ returns c =
       read = λ pool.
           as_word c.done.ensures.packed
           (literal_read c.args.c c.requires.1 c.requires.2 c.requires.0 pool
-          (subst (λ (b : Bool). JudgesFull c.args.values c.args.left c.args.c.begun b) c.if-is_full.false
-          c.is_full.ensures.judged)
+          c.if-is_full.ensures.judged
           c.matching-k.ensures.matched c.if-k-literal.false
           (c.put_row.ensures.put
           ∙ ap (λ (h : ℕ). with_row c.args.nodes.now c.args.c.begun h 0 c.args.name)

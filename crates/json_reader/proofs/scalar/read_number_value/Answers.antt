@@ -1,4 +1,4 @@
--- `json::scalar::read_number_value` meets its contract. Assumes nothing.
+-- `json_reader::scalar::read_number_value` meets its contract. Assumes nothing.
 use native.Mathlib.Omega.{arith}
 use Rattle.json_reader.proofs.Answers.{as_word}
 use Rattle.json_reader.proofs.Scalars.{number_none, number_beyond, number_full, number_read, number_broken, number_broken_full, number_bounded}

@@ -1,4 +1,4 @@
--- `json::scalar::read_scalar` meets its contract: the first byte tells. Assumes nothing.
+-- `json_reader::scalar::read_scalar` meets its contract: the first byte tells. Assumes nothing.
 use mathlib.Core.Path.{sym, ◌∙◌}
 use Rattle.json_reader.proofs.Literals.{true_literal, false_literal, null_literal, only_number}
 use Rattle.json_reader.proofs.scalar.read_scalar.Goals as goal

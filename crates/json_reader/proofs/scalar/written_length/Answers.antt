@@ -1,4 +1,4 @@
--- `json::scalar::written_length` meets its contract. Assumes nothing.
+-- `json_reader::scalar::written_length` meets its contract. Assumes nothing.
 use mathlib.Core.Path.{sym}
 use Rattle.json_reader.proofs.scalar.written_length.Goals as goal
 

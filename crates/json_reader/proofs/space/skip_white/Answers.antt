@@ -1,10 +1,7 @@
--- `json::space::skip_white` meets its contract. The loop's invariant is `Skipping`: what stands before is white space.
+-- `json_reader::space::skip_white` meets its contract. The loop's invariant is `Skipping`: what stands before is white space.
 -- Assumes nothing.
-use Prim.Native.Nat.{◌<◌}
-use mathlib.Core.Path.{◌≡◌, sym, ap, ◌∙◌}
+use mathlib.Core.Path.{sym, ap, ◌∙◌}
 use native.Mathlib.Omega.{arith}
-use mathlib.Core.Bool.{true}
-use lib.ListN.{length, get_or}
 use Rattle.definitions.specs.Bytes.{white}
 use Rattle.json_reader.proofs.White.{skipping, skipped, white_inside}
 use Rattle.json_reader.proofs.space.skip_white.Goals as goal
@@ -13,33 +10,27 @@ pub loop-i-init : goal.loop-i-init
 loop-i-init c = skipping c.requires
 
 pub overflow_add-i : goal.overflow_add-i
-overflow_add-i c = omega (
-  arith,
-  (let inside : c.loop-i.i < length c.args.doc.now =
-      white_inside c.args.doc.now c.loop-i.i (let is_so : white (get_or c.args.doc.now c.loop-i.i 256) ≡ true = sym (c.is_white.ensures.judged
-      ∙ ap white c.peek.ensures.read) ∙ c.loop-i-test.true in is_so) in inside),
-)
+overflow_add-i c =
+    let here = sym (c.is_white.ensures.judged ∙ ap white c.peek.ensures.read) ∙ c.loop-i-test.true in
+    omega (arith, white_inside c.args.doc.now c.loop-i.i here)
 
 pub loop-i-smaller : goal.loop-i-smaller
-loop-i-smaller c = omega (
-  arith,
-  (let inside : c.loop-i.i < length c.args.doc.now =
-      white_inside c.args.doc.now c.loop-i.i (let is_so : white (get_or c.args.doc.now c.loop-i.i 256) ≡ true = sym (c.is_white.ensures.judged
-      ∙ ap white c.peek.ensures.read) ∙ c.loop-i-test.true in is_so) in inside),
-)
+loop-i-smaller c =
+    let here = sym (c.is_white.ensures.judged ∙ ap white c.peek.ensures.read) ∙ c.loop-i-test.true in
+    omega (arith, white_inside c.args.doc.now c.loop-i.i here)
 
 pub loop-i-preserved : goal.loop-i-preserved
-loop-i-preserved c = skipped c.loop-i.invariant (let is_so : white (get_or c.args.doc.now c.loop-i.i 256) ≡ true = sym (c.is_white.ensures.judged
-    ∙ ap white c.peek.ensures.read) ∙ c.loop-i-test.true in is_so)
+loop-i-preserved c =
+    skipped c.loop-i.invariant (sym (c.is_white.ensures.judged ∙ ap white c.peek.ensures.read) ∙ c.loop-i-test.true)
 
 pub returns : goal.returns
 returns c =
+    let inv = c.loop-i.invariant in
     record {
-      skipped = let inv = c.loop-i.invariant in
-          record {
-            run = inv.run;
-            from = inv.from;
-            within = inv.within;
-            stops = sym (c.is_white.ensures.judged ∙ ap white c.peek.ensures.read) ∙ c.loop-i-test.false;
-          };
+      skipped = record {
+        run = inv.run;
+        from = inv.from;
+        within = inv.within;
+        stops = sym (c.is_white.ensures.judged ∙ ap white c.peek.ensures.read) ∙ c.loop-i-test.false;
+      };
     }

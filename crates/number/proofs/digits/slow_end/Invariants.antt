@@ -1,11 +1,6 @@
--- The invariants of `number::digits::slow_end` and what falls in its loops. Assumes nothing.
-use Prim.Native.Nat.{◌-◌}
-use lib.ListN.{length}
+-- The invariant of the loop of `number::digits::slow_end`. Assumes nothing.
 use Rattle.number.specs.NumberCode.{AllDigits}
 use Rattle.number.proofs.digits.slow_end.Given as goal
 
 abbrev pub invariant-loop-i : goal.invariant-loop-i
 invariant-loop-i l = AllDigits l.doc l.at l.i
-
-abbrev pub decreases-loop-i : goal.decreases-loop-i
-decreases-loop-i l = length l.doc - l.i

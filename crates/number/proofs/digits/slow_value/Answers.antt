@@ -1,34 +1,30 @@
 -- `number::digits::slow_value` meets its contract. The loop's invariant is what it ensures, up to here. Assumes nothing.
-use native.Mathlib.Nat.{le_refl}
+use Prim.Native.Nat.{◌+◌, ◌-◌, ◌<◌}
+use mathlib.Core.Path.{◌≡◌, sym, subst}
 use native.Mathlib.Omega.{arith}
+use Rattle.number.specs.NumberCode.{Digit}
 use Rattle.number.proofs.DigitRuns.{digit_of}
-use Rattle.number.proofs.DigitValues.{taken_none, taken_next, taken_up_to}
+use Rattle.number.proofs.DigitValues.{taken_none, taken_next, part_byte, part_length}
 use Rattle.number.proofs.digits.slow_value.Goals as goal
 
-pub loop-i-init : goal.loop-i-init
-loop-i-init c = (le_refl _, c.requires.behind, taken_none)
-
-pub bounds-doc-i : goal.bounds-doc-i
-bounds-doc-i c =
-    omega (arith, c.requires.within, c.loop-i-test.true)
+pub loop-b-init : goal.loop-b-init
+loop-b-init c = taken_none
 
 pub shifted_on-coefficient-requires : goal.shifted_on-coefficient-requires
 shifted_on-coefficient-requires c =
-    digit_of _ (c.requires.each _ c.loop-i.invariant.0 c.loop-i-test.true)
+    let a = c.args in
+    let l : c.loop-b.b-index < a.end - a.at = omega (arith, part_length c.requires, c.loop-b-test.true) in
+    subst Digit (sym (part_byte a.doc.now a.at (a.end - a.at) c.loop-b.b-index l))
+    (digit_of _ (c.requires.each (a.at + c.loop-b.b-index) (omega arith) (omega arith)))
 
-pub overflow_add-i : goal.overflow_add-i
-overflow_add-i c =
-    omega (arith, c.requires.within, c.loop-i-test.true)
-
-pub loop-i-smaller : goal.loop-i-smaller
-loop-i-smaller c = omega (arith, c.loop-i-test.true)
-
-pub loop-i-preserved : goal.loop-i-preserved
-loop-i-preserved c = (
-  omega (arith, c.loop-i.invariant.0),
-  omega (arith, c.loop-i-test.true),
-  taken_next c.loop-i.invariant.0 c.loop-i.invariant.2 c.shifted_on-coefficient.ensures,
-)
+pub loop-b-preserved : goal.loop-b-preserved
+loop-b-preserved c =
+    let a = c.args in
+    let l : c.loop-b.b-index < a.end - a.at = omega (arith, part_length c.requires, c.loop-b-test.true) in
+    taken_next c.loop-b.invariant (rw (part_byte a.doc.now a.at (a.end - a.at) c.loop-b.b-index l) at c.shifted_on-coefficient.ensures)
 
 pub returns : goal.returns
-returns c = taken_up_to c.loop-i.invariant.1 c.loop-i-test.false c.loop-i.invariant.2
+returns c =
+    let a = c.args in
+    let end : c.loop-b.b-index ≡ a.end - a.at = omega (arith, part_length c.requires, c.loop-b-test.false, c.loop-b.auto.b-index-end) in
+    rw end at c.loop-b.invariant

@@ -1,4 +1,5 @@
 -- `number::numeral::extended` meets its contract, phase by phase. Assumes nothing.
+use mathlib.Core.Logic.{inl, inr}
 use mathlib.Core.Path.{refl}
 use Rattle.definitions.specs.Number.{extend, shifted}
 use Rattle.number.proofs.Caps.{shifted_cap, scaled_cap}
@@ -12,15 +13,18 @@ shifted_on-requires-in-InFrac c = rw c.in-InFrac.is at c.requires
 
 pub returns-in-Begin : goal.returns-in-Begin
 unfolding extend
-returns-in-Begin c n s = rw c.in-Begin.is s
+returns-in-Begin c n s =
+    elim c.in-Begin.is [
+      | inl e ↦ rw e s
+      | inr (inl e) ↦ rw e s
+      | inr (inr (inl e)) ↦ rw e s
+      | inr (inr (inr (inl e))) ↦ rw e s
+      | inr (inr (inr (inr e))) ↦ rw e s
+    ]
 
 pub returns-in-AfterMinus : goal.returns-in-AfterMinus
 unfolding extend
 returns-in-AfterMinus c n s = rw c.in-AfterMinus.is (record { negative = refl; coefficient = s.coefficient; scale = s.scale; exponent = s.exponent })
-
-pub returns-in-AfterZero : goal.returns-in-AfterZero
-unfolding extend
-returns-in-AfterZero c n s = rw c.in-AfterZero.is s
 
 pub returns-in-InInt : goal.returns-in-InInt
 unfolding extend shifted
@@ -32,10 +36,6 @@ returns-in-InInt c n s =
       scale = s.scale;
       exponent = s.exponent;
     })
-
-pub returns-in-AfterPoint : goal.returns-in-AfterPoint
-unfolding extend
-returns-in-AfterPoint c n s = rw c.in-AfterPoint.is s
 
 pub returns-in-InFrac : goal.returns-in-InFrac
 unfolding extend shifted
@@ -51,11 +51,3 @@ returns-in-InFrac c n s =
 pub returns-in-AfterE : goal.returns-in-AfterE
 unfolding extend
 returns-in-AfterE c n s = rw c.in-AfterE.is (record { negative = s.negative; coefficient = s.coefficient; scale = s.scale; exponent = refl })
-
-pub returns-in-AfterSign : goal.returns-in-AfterSign
-unfolding extend
-returns-in-AfterSign c n s = rw c.in-AfterSign.is s
-
-pub returns-in-InExp : goal.returns-in-InExp
-unfolding extend
-returns-in-InExp c n s = rw c.in-InExp.is s

@@ -1,17 +1,14 @@
 -- `number::phase::after_e_step` meets its contract, a row at a time. Assumes nothing.
+use mathlib.Core.Logic.{inl, inr}
+use native.Mathlib.Omega.{arith}
 use Rattle.definitions.specs.Number.{next}
 use Rattle.number.proofs.Rows.{looked, known, in_one, past_one}
 use Rattle.number.proofs.phase.after_e_step.Goals as goal
 
-pub returns-then-b-eq45 : goal.returns-then-b-eq45
+pub returns-in-45 : goal.returns-in-45
 unfolding next
-returns-then-b-eq45 c = looked (in_one c.if-b-eq45.true)
+returns-in-45 c = elim c.in-45.is [ inl e ↦ looked (past_one (omega arith) (in_one e)) | inr e ↦ looked (in_one e) ]
 
-pub returns-then-b-eq43 : goal.returns-then-b-eq43
+pub returns-in_default : goal.returns-in_default
 unfolding next
-returns-then-b-eq43 c = looked (past_one c.if-b-eq45.false (in_one c.if-b-eq43.true))
-
-pub returns : goal.returns
-unfolding next
-returns c =
-    looked (past_one c.if-b-eq45.false (past_one c.if-b-eq43.false (known c.digit_step.ensures)))
+returns-in_default c = looked (past_one (grind arith) (past_one (grind arith) (known c.digit_step.ensures)))

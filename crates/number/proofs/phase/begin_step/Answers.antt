@@ -1,12 +1,13 @@
 -- `number::phase::begin_step` meets its contract, a row at a time. Assumes nothing.
 use Rattle.definitions.specs.Number.{next}
+use native.Mathlib.Omega.{arith}
 use Rattle.number.proofs.Rows.{looked, known, in_one, past_one}
 use Rattle.number.proofs.phase.begin_step.Goals as goal
 
-pub returns-then-b-eq45 : goal.returns-then-b-eq45
+pub returns-in-45 : goal.returns-in-45
 unfolding next
-returns-then-b-eq45 c = looked (in_one c.if-b-eq45.true)
+returns-in-45 c = looked (in_one c.in-45.is)
 
-pub returns : goal.returns
+pub returns-in_default : goal.returns-in_default
 unfolding next
-returns c = looked (past_one c.if-b-eq45.false (known c.int_step.ensures))
+returns-in_default c = looked (past_one (omega arith) (known c.int_step.ensures))

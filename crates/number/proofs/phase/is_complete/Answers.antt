@@ -1,39 +1,31 @@
 -- `number::phase::is_complete` meets its contract, phase by phase. Assumes nothing.
+use mathlib.Core.Path.{◌≡◌, refl}
+use mathlib.Core.Bool.{false}
+use mathlib.Core.Logic.{inl, inr}
 use Rattle.definitions.specs.Number.{complete}
+use Rattle.number.specs.NumberCode.{phase_of}
+use Rattle.number.specs.declared.phase.NumberPhase.{NumberPhase}
+use Rattle.number.specs.declared.phase.NumberPhase.TheVariants.{Begin, AfterMinus, AfterZero, InInt, AfterPoint, InFrac, AfterE, AfterSign, InExp}
 use Rattle.number.proofs.phase.is_complete.Goals as goal
-
-pub returns-in-Begin : goal.returns-in-Begin
-unfolding complete
-returns-in-Begin c = rw c.in-Begin.is
-
-pub returns-in-AfterMinus : goal.returns-in-AfterMinus
-unfolding complete
-returns-in-AfterMinus c = rw c.in-AfterMinus.is
 
 pub returns-in-AfterZero : goal.returns-in-AfterZero
 unfolding complete
-returns-in-AfterZero c = rw c.in-AfterZero.is
+returns-in-AfterZero c =
+    elim c.in-AfterZero.is [ inl e ↦ rw e | inr (inl e) ↦ rw e | inr (inr (inl e)) ↦ rw e | inr (inr (inr e)) ↦ rw e ]
 
-pub returns-in-InInt : goal.returns-in-InInt
+other
+    : (p : NumberPhase) → (p ≡ AfterZero → ⊥) → (p ≡ InInt → ⊥) → (p ≡ InFrac → ⊥) → (p ≡ InExp → ⊥)
+    → false ≡ complete (phase_of p)
 unfolding complete
-returns-in-InInt c = rw c.in-InInt.is
+other Begin z i f e = refl
+other AfterMinus z i f e = refl
+other AfterZero z i f e = absurd (z refl)
+other InInt z i f e = absurd (i refl)
+other AfterPoint z i f e = refl
+other InFrac z i f e = absurd (f refl)
+other AfterE z i f e = refl
+other AfterSign z i f e = refl
+other InExp z i f e = absurd (e refl)
 
-pub returns-in-AfterPoint : goal.returns-in-AfterPoint
-unfolding complete
-returns-in-AfterPoint c = rw c.in-AfterPoint.is
-
-pub returns-in-InFrac : goal.returns-in-InFrac
-unfolding complete
-returns-in-InFrac c = rw c.in-InFrac.is
-
-pub returns-in-AfterE : goal.returns-in-AfterE
-unfolding complete
-returns-in-AfterE c = rw c.in-AfterE.is
-
-pub returns-in-AfterSign : goal.returns-in-AfterSign
-unfolding complete
-returns-in-AfterSign c = rw c.in-AfterSign.is
-
-pub returns-in-InExp : goal.returns-in-InExp
-unfolding complete
-returns-in-InExp c = rw c.in-InExp.is
+pub returns-in_default : goal.returns-in_default
+returns-in_default c = let h = c.in_default in other c.args.phase h.not-AfterZero h.not-InInt h.not-InFrac h.not-InExp

@@ -1,22 +1,23 @@
 -- `number::phase::may_follow` meets its contract. Assumes nothing.
 use mathlib.Core.Path.{sym, ◌∙◌}
 use mathlib.Core.Bool.{true≢false}
+use native.Mathlib.Omega.{arith}
+use Rattle.number.specs.NumberCode.{Quiet}
+use Rattle.number.proofs.phase.may_follow.Goals.{in-46, in_default}
 use Rattle.number.proofs.phase.may_follow.Goals as goal
 
-pub returns-then-b-eq46 : goal.returns-then-b-eq46
-returns-then-b-eq46 c e = absurd (true≢false e)
+pub returns-then-matches : goal.returns-then-matches
+returns-then-matches c e = absurd (true≢false (sym c.if-matches.true ∙ e))
 
-pub returns-then-b-eq101 : goal.returns-then-b-eq101
-returns-then-b-eq101 c e = absurd (true≢false e)
-
-pub returns-then-b-eq69 : goal.returns-then-b-eq69
-returns-then-b-eq69 c e = absurd (true≢false e)
-
-pub returns : goal.returns
-returns c e =
-    record {
-      no_digit = sym c.is_digit.ensures ∙ e;
-      no_point = c.if-b-eq46.false;
-      no_e = c.if-b-eq101.false;
-      no_upper_e = c.if-b-eq69.false;
-    }
+pub returns-else-matches : goal.returns-else-matches
+returns-else-matches c e =
+    elim c.match-matches.branch as (λ _. Quiet c.args.b) [
+      | in-46 w ↦ absurd (true≢false (sym w.matches-is ∙ c.if-matches.false))
+      | in_default w ↦
+          record {
+            no_digit = sym c.is_digit.ensures ∙ e;
+            no_point = grind arith;
+            no_e = grind arith;
+            no_upper_e = grind arith;
+          }
+    ]

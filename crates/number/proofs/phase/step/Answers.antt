@@ -1,4 +1,5 @@
 -- `number::phase::step` meets its contract: each phase's function looks up that phase's table. Assumes nothing.
+use mathlib.Core.Logic.{inl, inr}
 use Rattle.definitions.specs.Number.{next}
 use Rattle.number.proofs.phase.step.Goals as goal
 
@@ -32,8 +33,4 @@ returns-in-AfterE c = rw c.in-AfterE.is c.after_e_step.ensures
 
 pub returns-in-AfterSign : goal.returns-in-AfterSign
 unfolding next
-returns-in-AfterSign c = rw c.in-AfterSign.is c.digit_step-in-AfterSign.ensures
-
-pub returns-in-InExp : goal.returns-in-InExp
-unfolding next
-returns-in-InExp c = rw c.in-InExp.is c.digit_step-in-InExp.ensures
+returns-in-AfterSign c = elim c.in-AfterSign.is [ inl e ↦ rw e c.digit_step-in-AfterSign.ensures | inr e ↦ rw e c.digit_step-in-AfterSign.ensures ]

@@ -4,4 +4,4 @@ use lib.ListN.{length}
 use Rattle.running.proofs.places.+run_place.Given as goal
 
 abbrev pub decreases-run_place : goal.decreases-run_place
-decreases-run_place l = length l.forms.now - l.row
+decreases-run_place l = length l.t.now.forms.now - l.row

@@ -1,9 +1,6 @@
 -- `running::singles::give_count` meets its contract. Assumes nothing.
-use mathlib.Core.Path.{sym, subst}
-use native.Mathlib.Omega.{arith}
-use Rattle.running.specs.Singles.{Gives}
 use mathlib.Core.Bool.{false}
-use Rattle.running.proofs.SingleRows.{few_begun, done_fits, count_few, count_word, count_given}
+use Rattle.running.proofs.SingleRows.{few_begun, count_few, count_word, count_given}
 use Rattle.running.proofs.singles.give_count.Goals as goal
 
 pub number_head-requires : goal.number_head-requires
@@ -17,14 +14,9 @@ pub put-begun-requires : goal.put-begun-requires
 put-begun-requires c =
     few_begun c.requires.giving
 
-pub done-requires : goal.done-requires
-done-requires c =
-    done_fits c.requires.giving (omega arith) (omega (arith, c.put-begun.ensures.put.counted))
-
 pub returns : goal.returns
 returns c =
     record {
-      given = subst (Gives _ _ _ _ _ _) (sym c.done.ensures.packed)
-          (count_given c.requires.giving c.requires.there c.count_items-n.ensures.counted c.number_head.ensures.made
-          c.put-begun.ensures.put (count_few c.requires.there c.count_items-n.ensures.counted));
+      given = count_given c.requires.giving c.requires.there c.count_items-n.ensures.counted c.number_head.ensures.made
+          c.put-begun.ensures.put (count_few c.requires.there c.count_items-n.ensures.counted);
     }

@@ -1,9 +1,6 @@
 -- `running::singles::give_int` meets its contract. Assumes nothing.
-use Rattle.running.proofs.SingleRows.{few_begun, done_fits}
+use Rattle.running.proofs.SingleRows.{few_begun}
 use Rattle.running.proofs.WholeRows.{unscaled_given, scale_most, whole_word, whole_given}
-use mathlib.Core.Path.{sym, subst}
-use native.Mathlib.Omega.{arith}
-use Rattle.running.specs.Singles.{Gives}
 use Rattle.running.proofs.singles.give_int.Goals as goal
 
 pub give_kept-requires : goal.give_kept-requires
@@ -25,17 +22,12 @@ pub put-begun-requires : goal.put-begun-requires
 put-begun-requires c =
     few_begun c.requires.giving
 
-pub done-requires : goal.done-requires
-done-requires c =
-    done_fits c.requires.giving (omega arith) (omega (arith, c.put-begun.ensures.put.counted))
-
 pub returns : goal.returns
 returns c =
     record {
-      given = subst (Gives _ _ _ _ _ _) (sym c.done.ensures.packed)
-          (whole_given c.row_scale-scale.ensures.read c.if-scale-eq0.false
+      given = whole_given c.row_scale-scale.ensures.read c.if-scale-eq0.false
           c.row_payload.ensures.read
           c.whole_part-n.ensures c.row_negative.ensures.read
           c.number_bits-bits.ensures.made c.requires.giving
-          c.number_head.ensures.made c.put-begun.ensures.put);
+          c.number_head.ensures.made c.put-begun.ensures.put;
     }

@@ -3,14 +3,14 @@
 -- The loops' invariants are `EachLoop` and `PackLoop`. Assumes nothing.
 use Prim.Native.Nat.{◌+◌}
 use native.Mathlib.Omega.{arith}
-use mathlib.Core.Path.{refl, sym, ap, ◌∙◌, subst}
+use mathlib.Core.Path.{refl, sym, ap, ◌∙◌}
 use lib.ListN.{length-set}
 use Rattle.running.specs.Walk.{Runs, Follows}
-use Rattle.running.proofs.Words.{refused_same}
+use Rattle.reading.proofs.Passed.{passed}
 use Rattle.running.proofs.FormRuns.{row_within, stopped, some_literal, literal_ran, giving, operand_ready, operand_refused, following, followed}
 use Rattle.running.proofs.FormRuns.{narrowed, some_bound, count_followed, value_followed, when_room}
 use Rattle.running.proofs.WhenRuns.{when_within, when_yes_ready, when_no_ready, when_yes, when_no, choose_within, test_ready, test_refused}
-use Rattle.running.proofs.WhenRuns.{choose_stuck, yes_ready, no_ready, chose_yes, chose_no, ready_as, runs_as, row_behind, row_third}
+use Rattle.running.proofs.WhenRuns.{choose_stuck, yes_ready, no_ready, chose_yes, chose_no, row_behind, row_third}
 use Rattle.running.proofs.EachRuns as each
 use Rattle.running.proofs.PackRuns as pack
 use Rattle.running.proofs.walk.+run_each_run_form_run_if_run_on_run_pack_run_when.Goals as goal
@@ -51,28 +51,31 @@ pub run_each-overflow_add-part : goal.run_each-overflow_add-part
 run_each-overflow_add-part t c =
     omega (arith, (each.each_within c.requires).1, c.well_formed)
 
-pub run_each-run_form-r-requires : goal.run_each-run_form-r-requires
-run_each-run_form-r-requires t c = (
+pub run_each-run_form-requires : goal.run_each-run_form-requires
+run_each-run_form-requires t c = (
   omega (arith, c.decreases, c.size.ensures.read, (each.each_within c.requires).0),
   each.part_ready c.requires c.loop-i.invariant c.loop-i-test.true
-      (row_behind c.args.forms.now (c.args.c.row + 3) c.size.result c.size.ensures.read),
+      (row_behind c.args.t.now.forms.now (c.args.c.row + 3) c.size.result c.size.ensures.read),
 )
 
-pub run_each-shape_of-bindings-in_default : goal.run_each-shape_of-bindings-in_default
-run_each-shape_of-bindings-in_default t c =
-    c.run_form-r.auto.bindings ∙ length-set c.loop-i.bindings c.args.c.bound c.loop-i.i
+pub run_each-shape_of-bindings-in_err-done : goal.run_each-shape_of-bindings-in_err-done
+run_each-shape_of-bindings-in_err-done t c =
+    c.run_form.auto.bindings ∙ length-set c.loop-i.bindings c.args.c.bound c.loop-i.i
     ∙ c.loop-i.invariant.same_bindings
 
-pub run_each-shape_of-results-in_default : goal.run_each-shape_of-results-in_default
-run_each-shape_of-results-in_default t c =
-    c.run_form-r.auto.results ∙ c.loop-i.invariant.same_results
+pub run_each-shape_of-results-in_err-done : goal.run_each-shape_of-results-in_err-done
+run_each-shape_of-results-in_err-done t c =
+    c.run_form.auto.results ∙ c.loop-i.invariant.same_results
 
-pub run_each-returns-in_default : goal.run_each-returns-in_default
-run_each-returns-in_default t c =
+pub run_each-returns-in_err-done : goal.run_each-returns-in_err-done
+run_each-returns-in_err-done t c =
     record {
-      ran = each.part_refused c.requires c.loop-i.invariant c.loop-i-test.true
-          (row_behind c.args.forms.now (c.args.c.row + 3) c.size.result c.size.ensures.read)
-          c.run_form-r.ensures.ran (sym c.opened.ensures.told ∙ c.in_default.is);
+      ran = passed (Follows c.args.t.now.forms.now c.args.t.now.nodes.now c.args.t.now.pool.now c.args.bindings.now c.run_form.new.bindings
+          c.args.results.now c.run_form.new.results c.args.t.now.limit c.args.c c.args.at c.args.behind)
+          c.from_residual.ensures
+          (each.part_refused c.requires c.loop-i.invariant c.loop-i-test.true
+          (row_behind c.args.t.now.forms.now (c.args.c.row + 3) c.size.result c.size.ensures.read)
+          c.run_form.ensures.ran c.in_err-done.was);
     }
 
 pub run_each-overflow_add-i-in-loop-i : goal.run_each-overflow_add-i-in-loop-i
@@ -91,19 +94,14 @@ run_each-loop-i-smaller t c =
 pub run_each-loop-i-preserved : goal.run_each-loop-i-preserved
 run_each-loop-i-preserved t c =
     each.part_done c.requires c.loop-i.invariant c.loop-i-test.true
-    (row_behind c.args.forms.now (c.args.c.row + 3) c.size.result c.size.ensures.read)
-    c.run_form-r.ensures.ran (sym c.opened.ensures.told ∙ c.in-Done.is)
-    (c.run_form-r.auto.bindings ∙ length-set c.loop-i.bindings c.args.c.bound c.loop-i.i)
-    c.run_form-r.auto.results c.row_size-i.ensures.sized
+    (row_behind c.args.t.now.forms.now (c.args.c.row + 3) c.size.result c.size.ensures.read)
+    c.run_form.ensures.ran c.in_ok-done.was
+    (c.run_form.auto.bindings ∙ length-set c.loop-i.bindings c.args.c.bound c.loop-i.i)
+    c.run_form.auto.results c.row_size-i.ensures.sized
 
 pub run_each-close_list-requires : goal.run_each-close_list-requires
 run_each-close_list-requires t c =
     each.closable c.requires c.loop-i.invariant c.loop-i-test.false
-
-pub run_each-done-requires : goal.run_each-done-requires
-run_each-done-requires t c =
-    let most = each.loop_bounds c.requires c.loop-i.invariant in
-    (omega arith, omega (arith, most.1), omega (arith, most.0))
 
 pub run_each-shape_of-bindings : goal.run_each-shape_of-bindings
 run_each-shape_of-bindings t c =
@@ -116,81 +114,72 @@ run_each-shape_of-results t c =
 pub run_each-returns : goal.run_each-returns
 run_each-returns t c =
     record {
-      ran = subst (Follows _ _ _ _ _ _ _ _ _ _ _) (sym c.done.ensures.packed)
-          (each.each_ends c.requires c.loop-i.invariant c.loop-i-test.false c.close_list.ensures.closed);
+      ran = each.each_ends c.requires c.loop-i.invariant c.loop-i-test.false c.close_list.ensures.closed;
     }
 
-pub run_form-returns-then-limit-c : goal.run_form-returns-then-limit-c
-run_form-returns-then-limit-c t c =
+pub run_form-returns-then-t-c : goal.run_form-returns-then-t-c
+run_form-returns-then-t-c t c =
     record {
-      ran = subst (Runs _ _ _ _ _ _ _ _ _) (sym c.refused.ensures.packed.0)
-          (stopped c.if-limit-c.true c.place-place.ensures.read);
+      ran = stopped c.if-t-c.true c.place.ensures.read;
     }
 
 pub run_form-run_pack-requires : goal.run_form-run_pack-requires
 run_form-run_pack-requires t c = (
   omega (arith, c.decreases),
-  record { ready = c.requires; left = c.if-limit-c.false; coded = sym c.code-code.ensures.read ∙ c.if-code-eq-PACK.true },
+  record { ready = c.requires; left = c.if-t-c.false; coded = sym c.code.ensures.read ∙ c.in-17.is },
 )
-
-pub run_form-returns-then-code-eq-PACK : goal.run_form-returns-then-code-eq-PACK
-run_form-returns-then-code-eq-PACK t c =
-    record { ran = c.run_pack.ensures.ran }
 
 pub run_form-run_if-requires : goal.run_form-run_if-requires
 run_form-run_if-requires t c = (
   omega (arith, c.decreases),
-  record { ready = c.requires; left = c.if-limit-c.false; coded = sym c.code-code.ensures.read ∙ c.if-code-eq-IF.true },
+  record { ready = c.requires; left = c.if-t-c.false; coded = sym c.code.ensures.read ∙ c.in-11.is },
 )
-
-pub run_form-returns-then-code-eq-IF : goal.run_form-returns-then-code-eq-IF
-run_form-returns-then-code-eq-IF t c =
-    record { ran = c.run_if.ensures.ran }
 
 pub run_form-give_literal-requires : goal.run_form-give_literal-requires
 run_form-give_literal-requires t c =
     record {
-      giving = giving c.requires (omega arith) (omega (arith, c.if-limit-c.false));
-      there = some_literal c.code-code.ensures.read c.if-code-gt-IF.true c.if-code-eq-PACK.false c.requires;
+      giving = giving c.requires (omega arith) (omega (arith, c.if-t-c.false));
+      there = some_literal c.code.ensures.read c.if-code-gt-IF.true (λ e. omega arith) c.requires;
     }
 
-pub run_form-returns-then-code-gt-IF : goal.run_form-returns-then-code-gt-IF
-run_form-returns-then-code-gt-IF t c =
+pub run_form-returns-in_default : goal.run_form-returns-in_default
+run_form-returns-in_default t c =
     record {
-      ran = literal_ran c.code-code.ensures.read c.if-code-gt-IF.true c.if-code-eq-PACK.false c.if-limit-c.false
+      ran = literal_ran c.code.ensures.read c.if-code-gt-IF.true (λ e. omega arith) c.if-t-c.false
           c.give_literal.ensures.given;
     }
 
 pub run_form-overflow_add-c : goal.run_form-overflow_add-c
 run_form-overflow_add-c t c =
-    omega (arith, c.if-limit-c.false, c.requires.small.steps)
+    omega (arith, c.if-t-c.false, c.requires.small.steps)
 
-pub run_form-run_operand-r-requires : goal.run_form-run_operand-r-requires
-run_form-run_operand-r-requires t c =
-    operand_ready c.code-code.ensures.read c.if-code-gt-IF.false c.if-code-eq-IF.false c.requires
+pub run_form-run_operand-requires : goal.run_form-run_operand-requires
+run_form-run_operand-requires t c =
+    operand_ready c.code.ensures.read c.if-code-gt-IF.false (λ e. omega arith) c.requires
 
-pub run_form-returns-in_default : goal.run_form-returns-in_default
-run_form-returns-in_default t c =
+pub run_form-returns-in_err-found-in_default-2 : goal.run_form-returns-in_err-found-in_default-2
+run_form-returns-in_err-found-in_default-2 t c =
     record {
-      ran = subst (Runs _ _ _ _ _ _ _ _ _) (sym (refused_same _ (sym c.looked.ensures.told ∙ c.in_default.is)))
-          (operand_refused c.code-code.ensures.read c.if-code-gt-IF.false c.if-code-eq-IF.false
-          c.run_operand-r.ensures.seen c.if-limit-c.false (sym c.looked.ensures.told ∙ c.in_default.is));
+      ran = passed (Runs c.args.t.now.forms.now c.args.t.now.nodes.now c.args.t.now.pool.now c.args.bindings.now c.args.bindings.now c.args.results.now
+          c.args.results.now c.args.t.now.limit c.args.c) c.from_residual.ensures
+          (operand_refused c.code.ensures.read c.if-code-gt-IF.false (λ e. omega arith)
+          c.run_operand.ensures.seen c.if-t-c.false c.in_err-found-in_default-2.was);
     }
 
 pub run_form-run_on-requires : goal.run_form-run_on-requires
 run_form-run_on-requires t c = (
   omega (arith, c.decreases),
-  following c.code-code.ensures.read c.if-code-gt-IF.false c.if-code-eq-IF.false
-      c.run_operand-r.ensures.seen c.if-limit-c.false
-      (sym c.looked.ensures.told ∙ c.in-At.is) c.requires,
+  following c.code.ensures.read c.if-code-gt-IF.false (λ e. omega arith)
+      c.run_operand.ensures.seen c.if-t-c.false
+      c.in_ok-found-in_default-2.was c.requires,
 )
 
-pub run_form-returns : goal.run_form-returns
-run_form-returns t c =
+pub run_form-returns-in_ok-found-in_default-2 : goal.run_form-returns-in_ok-found-in_default-2
+run_form-returns-in_ok-found-in_default-2 t c =
     record {
-      ran = followed c.code-code.ensures.read c.if-code-gt-IF.false c.if-code-eq-IF.false
-          c.run_operand-r.ensures.seen
-          c.if-limit-c.false (sym c.looked.ensures.told ∙ c.in-At.is) c.run_on.ensures.ran;
+      ran = followed c.code.ensures.read c.if-code-gt-IF.false (λ e. omega arith)
+          c.run_operand.ensures.seen
+          c.if-t-c.false c.in_ok-found-in_default-2.was c.run_on.ensures.ran;
     }
 
 pub run_if-overflow_add-first : goal.run_if-overflow_add-first
@@ -201,129 +190,119 @@ pub run_if-overflow_add-test : goal.run_if-overflow_add-test
 run_if-overflow_add-test t c =
     omega (arith, c.requires.left, c.requires.ready.small.steps)
 
-pub run_if-run_form-r-requires : goal.run_if-run_form-r-requires
-run_if-run_form-r-requires t c =
+pub run_if-run_form-requires : goal.run_if-run_form-requires
+run_if-run_form-requires t c =
     (omega (arith, c.decreases, (choose_within c.requires).0), test_ready c.requires)
 
-pub run_if-returns-in_default : goal.run_if-returns-in_default
-run_if-returns-in_default t c =
+pub run_if-returns-in_err-done : goal.run_if-returns-in_err-done
+run_if-returns-in_err-done t c =
     record {
-      ran = test_refused c.requires c.run_form-r.ensures.ran c.run_form-r.auto.bindings
-          c.run_form-r.auto.results (sym c.opened.ensures.told ∙ c.in_default.is);
+      ran = passed (Runs c.args.t.now.forms.now c.args.t.now.nodes.now c.args.t.now.pool.now c.args.bindings.now c.run_form.new.bindings
+          c.args.results.now c.run_form.new.results c.args.t.now.limit c.args.c)
+          c.from_residual.ensures
+          (test_refused c.requires c.run_form.ensures.ran c.run_form.auto.bindings
+          c.run_form.auto.results c.in_err-done.was);
     }
 
 pub run_if-overflow_add-second : goal.run_if-overflow_add-second
 run_if-overflow_add-second t c =
     omega (arith, c.size.ensures.read, (choose_within c.requires).1, c.well_formed)
 
-pub run_if-run_form-requires : goal.run_if-run_form-requires
-run_if-run_form-requires t c = (
-  omega (arith, c.decreases, ap (λ x. x.row) c.branch-part.ensures.made, c.size.ensures.read, (choose_within c.requires).1),
-  ready_as c.branch-part.ensures.made (yes_ready c.requires c.run_form-r.ensures.ran c.run_form-r.auto.bindings
-      c.run_form-r.auto.results (sym c.opened.ensures.told ∙ c.in-Done.is)
-      (row_behind c.args.forms.now (c.args.c.row + 3) c.size.result c.size.ensures.read)),
+pub run_if-run_form-requires-then-done-eq-TRUE : goal.run_if-run_form-requires-then-done-eq-TRUE
+run_if-run_form-requires-then-done-eq-TRUE t c = (
+  omega (arith, c.decreases, c.size.ensures.read, (choose_within c.requires).1),
+  yes_ready c.requires c.run_form.ensures.ran c.run_form.auto.bindings
+      c.run_form.auto.results c.in_ok-done.was
+      (row_behind c.args.t.now.forms.now (c.args.c.row + 3) c.size.result c.size.ensures.read),
 )
 
-pub run_if-returns-then-kind-eq-TRUE : goal.run_if-returns-then-kind-eq-TRUE
-run_if-returns-then-kind-eq-TRUE t c =
+pub run_if-returns-then-done-eq-TRUE : goal.run_if-returns-then-done-eq-TRUE
+run_if-returns-then-done-eq-TRUE t c =
     record {
-      ran = chose_yes c.requires c.run_form-r.ensures.ran c.run_form-r.auto.bindings
-          c.run_form-r.auto.results (sym c.opened.ensures.told ∙ c.in-Done.is)
-          (runs_as c.branch-part.ensures.made c.run_form.ensures.ran) c.if-kind-eq-TRUE.true
-          (row_behind c.args.forms.now (c.args.c.row + 3) c.size.result c.size.ensures.read);
+      ran = chose_yes c.requires c.run_form.ensures.ran c.run_form.auto.bindings
+          c.run_form.auto.results c.in_ok-done.was
+          c.run_form-then-done-eq-TRUE.ensures.ran c.if-done-eq-TRUE.true
+          (row_behind c.args.t.now.forms.now (c.args.c.row + 3) c.size.result c.size.ensures.read);
     }
 
-pub run_if-overflow_add-second-then-kind-eq-FALSE : goal.run_if-overflow_add-second-then-kind-eq-FALSE
-run_if-overflow_add-second-then-kind-eq-FALSE t c =
+pub run_if-overflow_add-part : goal.run_if-overflow_add-part
+run_if-overflow_add-part t c =
     omega (
       arith,
-      (row_third c.args.forms.now (c.args.c.row + 3) (c.args.c.row + 3 + c.size.result) c.size-then-kind-eq-FALSE.result
-          (row_behind c.args.forms.now (c.args.c.row + 3) c.size.result c.size.ensures.read) c.size-then-kind-eq-FALSE.ensures.read),
+      (row_third c.args.t.now.forms.now (c.args.c.row + 3) (c.args.c.row + 3 + c.size.result) c.size-then-done-eq-FALSE.result
+          (row_behind c.args.t.now.forms.now (c.args.c.row + 3) c.size.result c.size.ensures.read) c.size-then-done-eq-FALSE.ensures.read),
       (choose_within c.requires).2,
       c.well_formed,
     )
 
-pub run_if-run_form-requires-then-kind-eq-FALSE : goal.run_if-run_form-requires-then-kind-eq-FALSE
-run_if-run_form-requires-then-kind-eq-FALSE t c = (
+pub run_if-run_form-requires-then-done-eq-FALSE : goal.run_if-run_form-requires-then-done-eq-FALSE
+run_if-run_form-requires-then-done-eq-FALSE t c = (
   omega (
     arith,
     c.decreases,
-    ap (λ x. x.row) c.branch-part-then-kind-eq-FALSE.ensures.made,
-    (row_third c.args.forms.now (c.args.c.row + 3) (c.args.c.row + 3 + c.size.result)
-        c.size-then-kind-eq-FALSE.result
-        (row_behind c.args.forms.now (c.args.c.row + 3) c.size.result c.size.ensures.read)
-        c.size-then-kind-eq-FALSE.ensures.read),
-    (row_behind c.args.forms.now (c.args.c.row + 3) c.size.result c.size.ensures.read),
+    (row_third c.args.t.now.forms.now (c.args.c.row + 3) (c.args.c.row + 3 + c.size.result)
+        c.size-then-done-eq-FALSE.result
+        (row_behind c.args.t.now.forms.now (c.args.c.row + 3) c.size.result c.size.ensures.read)
+        c.size-then-done-eq-FALSE.ensures.read),
+    (row_behind c.args.t.now.forms.now (c.args.c.row + 3) c.size.result c.size.ensures.read),
     (choose_within c.requires).2,
   ),
-  ready_as c.branch-part-then-kind-eq-FALSE.ensures.made
-      (no_ready c.requires c.run_form-r.ensures.ran c.run_form-r.auto.bindings
-      c.run_form-r.auto.results (sym c.opened.ensures.told ∙ c.in-Done.is)
-      (row_third c.args.forms.now (c.args.c.row + 3) (c.args.c.row + 3 + c.size.result)
-      c.size-then-kind-eq-FALSE.result
-      (row_behind c.args.forms.now (c.args.c.row + 3) c.size.result c.size.ensures.read)
-      c.size-then-kind-eq-FALSE.ensures.read)),
+  no_ready c.requires c.run_form.ensures.ran c.run_form.auto.bindings
+      c.run_form.auto.results c.in_ok-done.was
+      (row_third c.args.t.now.forms.now (c.args.c.row + 3) (c.args.c.row + 3 + c.size.result)
+      c.size-then-done-eq-FALSE.result
+      (row_behind c.args.t.now.forms.now (c.args.c.row + 3) c.size.result c.size.ensures.read)
+      c.size-then-done-eq-FALSE.ensures.read),
 )
 
-pub run_if-returns-then-kind-eq-FALSE : goal.run_if-returns-then-kind-eq-FALSE
-run_if-returns-then-kind-eq-FALSE t c =
+pub run_if-returns-then-done-eq-FALSE : goal.run_if-returns-then-done-eq-FALSE
+run_if-returns-then-done-eq-FALSE t c =
     record {
-      ran = chose_no c.requires c.run_form-r.ensures.ran c.run_form-r.auto.bindings c.run_form-r.auto.results
-          (sym c.opened.ensures.told ∙ c.in-Done.is)
-          (runs_as c.branch-part-then-kind-eq-FALSE.ensures.made c.run_form-then-kind-eq-FALSE.ensures.ran)
-          c.if-kind-eq-FALSE.true (row_third c.args.forms.now (c.args.c.row + 3)
-          (c.args.c.row + 3 + c.size.result) c.size-then-kind-eq-FALSE.result
-          (row_behind c.args.forms.now (c.args.c.row + 3) c.size.result c.size.ensures.read)
-          c.size-then-kind-eq-FALSE.ensures.read);
+      ran = chose_no c.requires c.run_form.ensures.ran c.run_form.auto.bindings c.run_form.auto.results
+          c.in_ok-done.was
+          c.run_form-then-done-eq-FALSE.ensures.ran
+          c.if-done-eq-FALSE.true (row_third c.args.t.now.forms.now (c.args.c.row + 3)
+          (c.args.c.row + 3 + c.size.result) c.size-then-done-eq-FALSE.result
+          (row_behind c.args.t.now.forms.now (c.args.c.row + 3) c.size.result c.size.ensures.read)
+          c.size-then-done-eq-FALSE.ensures.read);
     }
 
 pub run_if-returns : goal.run_if-returns
 run_if-returns t c =
     record {
-      ran = subst (Runs _ _ _ _ _ _ _ _ _) (sym c.refused.ensures.packed.0)
-          (choose_stuck c.requires c.run_form-r.ensures.ran c.run_form-r.auto.bindings
-          c.run_form-r.auto.results (sym c.opened.ensures.told ∙ c.in-Done.is)
-          c.if-kind-eq-TRUE.false c.if-kind-eq-FALSE.false c.place-place.ensures.read);
+      ran = choose_stuck c.requires c.run_form.ensures.ran c.run_form.auto.bindings
+          c.run_form.auto.results c.in_ok-done.was
+          c.if-done-eq-TRUE.false c.if-done-eq-FALSE.false c.place.ensures.read;
     }
 
 pub run_on-run_when-requires : goal.run_on-run_when-requires
 run_on-run_when-requires t c = (
   omega (arith, c.decreases),
-  narrowed c.requires c.code-code.ensures.read (omega (arith, c.if-code-eq-WHEN.true)) (omega (arith, c.if-code-eq-WHEN.true)),
+  narrowed c.requires c.code.ensures.read (omega (arith, c.in-10.is)) (omega (arith, c.in-10.is)),
 )
-
-pub run_on-returns-then-code-eq-WHEN : goal.run_on-returns-then-code-eq-WHEN
-run_on-returns-then-code-eq-WHEN t c =
-    record { ran = c.run_when.ensures.ran }
 
 pub run_on-run_each-requires : goal.run_on-run_each-requires
 run_on-run_each-requires t c = (
   omega (arith, c.decreases),
-  narrowed c.requires c.code-code.ensures.read (omega (arith, c.if-code-eq-EACH.true)) (omega (arith, c.if-code-eq-EACH.true)),
+  narrowed c.requires c.code.ensures.read (omega (arith, c.in-9.is)) (omega (arith, c.in-9.is)),
 )
-
-pub run_on-returns-then-code-eq-EACH : goal.run_on-returns-then-code-eq-EACH
-run_on-returns-then-code-eq-EACH t c =
-    record { ran = c.run_each.ensures.ran }
 
 pub run_on-give_count-requires : goal.run_on-give_count-requires
 run_on-give_count-requires t c =
     record { giving = giving c.requires.ready c.requires.counted c.requires.left; there = some_bound c.requires }
 
-pub run_on-returns-then-code-eq-COUNT : goal.run_on-returns-then-code-eq-COUNT
-run_on-returns-then-code-eq-COUNT t c =
-    record { ran = count_followed c.code-code.ensures.read c.if-code-eq-COUNT.true c.give_count.ensures.given }
+pub run_on-returns-in-8 : goal.run_on-returns-in-8
+run_on-returns-in-8 t c =
+    record { ran = count_followed c.code.ensures.read c.in-8.is c.give_count.ensures.given }
 
 pub run_on-give_value-requires : goal.run_on-give_value-requires
 run_on-give_value-requires t c =
     record { giving = giving c.requires.ready c.requires.counted c.requires.left; there = some_bound c.requires }
 
-pub run_on-returns : goal.run_on-returns
-run_on-returns t c =
+pub run_on-returns-in_default : goal.run_on-returns-in_default
+run_on-returns-in_default t c =
     record {
-      ran = value_followed c.requires c.code-code.ensures.read
-          (omega (arith, c.requires.early, c.code-code.ensures.read, c.if-code-eq-WHEN.false, c.if-code-eq-EACH.false, c.if-code-eq-COUNT.false))
-          c.give_value.ensures.given;
+      ran = value_followed c.requires c.code.ensures.read (omega (arith, c.requires.early, c.code.ensures.read)) c.give_value.ensures.given;
     }
 
 pub run_pack-overflow_add-end : goal.run_pack-overflow_add-end
@@ -346,25 +325,28 @@ pub run_pack-loop-row-init : goal.run_pack-loop-row-init
 run_pack-loop-row-init t c =
     pack.pack_begins c.requires (ap (λ n. c.args.c.row + n) c.size.ensures.read)
 
-pub run_pack-run_form-r-requires : goal.run_pack-run_form-r-requires
-run_pack-run_form-r-requires t c = (
+pub run_pack-run_form-requires : goal.run_pack-run_form-requires
+run_pack-run_form-requires t c = (
   omega (arith, c.decreases, c.loop-row.invariant.later, pack.pair_within c.requires c.loop-row.invariant c.loop-row-test.true),
   pack.part_ready c.requires c.loop-row.invariant c.loop-row-test.true c.name-name.ensures.read,
 )
 
-pub run_pack-shape_of-bindings-in_default : goal.run_pack-shape_of-bindings-in_default
-run_pack-shape_of-bindings-in_default t c =
-    c.run_form-r.auto.bindings ∙ c.loop-row.invariant.same_bindings
+pub run_pack-shape_of-bindings-in_err-done : goal.run_pack-shape_of-bindings-in_err-done
+run_pack-shape_of-bindings-in_err-done t c =
+    c.run_form.auto.bindings ∙ c.loop-row.invariant.same_bindings
 
-pub run_pack-shape_of-results-in_default : goal.run_pack-shape_of-results-in_default
-run_pack-shape_of-results-in_default t c =
-    c.run_form-r.auto.results ∙ c.loop-row.invariant.same_results
+pub run_pack-shape_of-results-in_err-done : goal.run_pack-shape_of-results-in_err-done
+run_pack-shape_of-results-in_err-done t c =
+    c.run_form.auto.results ∙ c.loop-row.invariant.same_results
 
-pub run_pack-returns-in_default : goal.run_pack-returns-in_default
-run_pack-returns-in_default t c =
+pub run_pack-returns-in_err-done : goal.run_pack-returns-in_err-done
+run_pack-returns-in_err-done t c =
     record {
-      ran = pack.part_refused c.requires c.loop-row.invariant c.loop-row-test.true c.name-name.ensures.read
-          c.run_form-r.ensures.ran (sym c.opened.ensures.told ∙ c.in_default.is);
+      ran = passed (Runs c.args.t.now.forms.now c.args.t.now.nodes.now c.args.t.now.pool.now c.args.bindings.now c.run_form.new.bindings
+          c.args.results.now c.run_form.new.results c.args.t.now.limit c.args.c)
+          c.from_residual.ensures
+          (pack.part_refused c.requires c.loop-row.invariant c.loop-row-test.true c.name-name.ensures.read
+          c.run_form.ensures.ran c.in_err-done.was);
     }
 
 pub run_pack-overflow_add-row-in-loop-row : goal.run_pack-overflow_add-row-in-loop-row
@@ -378,17 +360,12 @@ run_pack-loop-row-smaller t c =
 pub run_pack-loop-row-preserved : goal.run_pack-loop-row-preserved
 run_pack-loop-row-preserved t c =
     pack.part_done c.requires c.loop-row.invariant c.loop-row-test.true c.name-name.ensures.read
-    c.run_form-r.ensures.ran (sym c.opened.ensures.told ∙ c.in-Done.is) c.run_form-r.auto.bindings
-    c.run_form-r.auto.results c.size-row.ensures.read
+    c.run_form.ensures.ran c.in_ok-done.was c.run_form.auto.bindings
+    c.run_form.auto.results c.size-row.ensures.read
 
 pub run_pack-close_record-requires : goal.run_pack-close_record-requires
 run_pack-close_record-requires t c =
     pack.closable c.requires c.loop-row.invariant c.loop-row-test.false
-
-pub run_pack-done-requires : goal.run_pack-done-requires
-run_pack-done-requires t c =
-    let most = pack.loop_bounds c.requires c.loop-row.invariant in
-    (omega arith, omega (arith, most.1), omega (arith, most.0))
 
 pub run_pack-shape_of-bindings : goal.run_pack-shape_of-bindings
 run_pack-shape_of-bindings t c =
@@ -401,16 +378,15 @@ run_pack-shape_of-results t c =
 pub run_pack-returns : goal.run_pack-returns
 run_pack-returns t c =
     record {
-      ran = subst (Runs _ _ _ _ _ _ _ _ _) (sym c.done.ensures.packed)
-          (pack.pack_ends c.requires c.loop-row.invariant c.loop-row-test.false c.close_record.ensures.closed);
+      ran = pack.pack_ends c.requires c.loop-row.invariant c.loop-row-test.false c.close_record.ensures.closed;
     }
 
-pub run_when-offset_bounds-bindings-bound : goal.run_when-offset_bounds-bindings-bound
-run_when-offset_bounds-bindings-bound t c =
+pub run_when-offset_bounds-bindings-c : goal.run_when-offset_bounds-bindings-c
+run_when-offset_bounds-bindings-c t c =
     omega (arith, when_room c.requires, c.well_formed)
 
-pub run_when-bounds-bindings-bound : goal.run_when-bounds-bindings-bound
-run_when-bounds-bindings-bound t c =
+pub run_when-bounds-bindings-c : goal.run_when-bounds-bindings-c
+run_when-bounds-bindings-c t c =
     when_room c.requires
 
 pub run_when-overflow_add-place : goal.run_when-overflow_add-place
@@ -427,10 +403,10 @@ run_when-overflow_add-bound t c =
 
 pub run_when-run_form-requires : goal.run_when-run_form-requires
 run_when-run_form-requires t c = (
-  omega (arith, c.decreases, ap (λ x. x.row) c.branch-part.ensures.made, c.size.ensures.read, (when_within c.requires).0),
-  ready_as c.branch-part.ensures.made (when_yes_ready
-      (row_behind c.args.forms.now (c.args.c.row + 3) c.size.result c.size.ensures.read)
-      refl c.requires),
+  omega (arith, c.decreases, c.size.ensures.read, (when_within c.requires).0),
+  when_yes_ready
+      (row_behind c.args.t.now.forms.now (c.args.c.row + 3) c.size.result c.size.ensures.read)
+      refl c.requires,
 )
 
 pub run_when-shape_of-bindings-then-is_kind : goal.run_when-shape_of-bindings-then-is_kind
@@ -440,43 +416,37 @@ run_when-shape_of-bindings-then-is_kind t c =
 pub run_when-returns-then-is_kind : goal.run_when-returns-then-is_kind
 run_when-returns-then-is_kind t c =
     record {
-      ran = when_yes (row_behind c.args.forms.now (c.args.c.row + 3) c.size.result c.size.ensures.read) refl
+      ran = when_yes (row_behind c.args.t.now.forms.now (c.args.c.row + 3) c.size.result c.size.ensures.read) refl
           c.operand.ensures.read c.is_kind.ensures.told c.requires c.if-is_kind.true
-          (runs_as c.branch-part.ensures.made c.run_form.ensures.ran);
+          c.run_form.ensures.ran;
     }
 
-pub run_when-overflow_add-first-2 : goal.run_when-overflow_add-first-2
-run_when-overflow_add-first-2 t c =
+pub run_when-overflow_add-part : goal.run_when-overflow_add-part
+run_when-overflow_add-part t c =
     omega (
       arith,
-      (row_third c.args.forms.now (c.args.c.row + 3) (c.args.c.row + 3 + c.size.result) c.size-2.result
-          (row_behind c.args.forms.now (c.args.c.row + 3) c.size.result c.size.ensures.read) c.size-2.ensures.read),
+      (row_third c.args.t.now.forms.now (c.args.c.row + 3) (c.args.c.row + 3 + c.size.result) c.size-2.result
+          (row_behind c.args.t.now.forms.now (c.args.c.row + 3) c.size.result c.size.ensures.read) c.size-2.ensures.read),
       (when_within c.requires).1,
       c.well_formed,
     )
-
-pub run_when-overflow_add-bound-2 : goal.run_when-overflow_add-bound-2
-run_when-overflow_add-bound-2 t c =
-    omega (arith, when_room c.requires, c.well_formed)
 
 pub run_when-run_form-requires-2 : goal.run_when-run_form-requires-2
 run_when-run_form-requires-2 t c = (
   omega (
     arith,
     c.decreases,
-    ap (λ x. x.row) c.branch-part-2.ensures.made,
-    (row_third c.args.forms.now (c.args.c.row + 3) (c.args.c.row + 3 + c.size.result)
+    (row_third c.args.t.now.forms.now (c.args.c.row + 3) (c.args.c.row + 3 + c.size.result)
         c.size-2.result
-        (row_behind c.args.forms.now (c.args.c.row + 3) c.size.result c.size.ensures.read)
+        (row_behind c.args.t.now.forms.now (c.args.c.row + 3) c.size.result c.size.ensures.read)
         c.size-2.ensures.read),
-    (row_behind c.args.forms.now (c.args.c.row + 3) c.size.result c.size.ensures.read),
+    (row_behind c.args.t.now.forms.now (c.args.c.row + 3) c.size.result c.size.ensures.read),
     (when_within c.requires).1,
   ),
-  ready_as c.branch-part-2.ensures.made
-      (when_no_ready (row_behind c.args.forms.now (c.args.c.row + 3) c.size.result c.size.ensures.read)
-      (row_behind c.args.forms.now (c.args.c.row + 3 + c.size.result) c.size-2.result
+  when_no_ready (row_behind c.args.t.now.forms.now (c.args.c.row + 3) c.size.result c.size.ensures.read)
+      (row_behind c.args.t.now.forms.now (c.args.c.row + 3 + c.size.result) c.size-2.result
       c.size-2.ensures.read)
-      c.requires),
+      c.requires,
 )
 
 pub run_when-shape_of-bindings : goal.run_when-shape_of-bindings
@@ -486,10 +456,10 @@ run_when-shape_of-bindings t c =
 pub run_when-returns : goal.run_when-returns
 run_when-returns t c =
     record {
-      ran = when_no (row_behind c.args.forms.now (c.args.c.row + 3) c.size.result c.size.ensures.read)
-          (row_behind c.args.forms.now (c.args.c.row + 3 + c.size.result) c.size-2.result
+      ran = when_no (row_behind c.args.t.now.forms.now (c.args.c.row + 3) c.size.result c.size.ensures.read)
+          (row_behind c.args.t.now.forms.now (c.args.c.row + 3 + c.size.result) c.size-2.result
           c.size-2.ensures.read)
           c.operand.ensures.read c.is_kind.ensures.told c.requires
           c.if-is_kind.false
-          (runs_as c.branch-part-2.ensures.made c.run_form-2.ensures.ran);
+          c.run_form-2.ensures.ran;
     }

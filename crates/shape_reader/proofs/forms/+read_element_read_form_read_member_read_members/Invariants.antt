@@ -18,7 +18,7 @@ decreases-read_members l = 3 * l.left + 2
 
 abbrev pub invariant-read_members-loop-from : goal.invariant-read_members-loop-from
 invariant-read_members-loop-from l =
-    MembersSoFar l.left l.values l.text l.initial.shapes l.initial.pool l.shapes l.pool l.kinds.kinds l.initial.here l.here l.first l.latest
+    MembersSoFar l.left l.values l.text l.initial.shapes l.initial.pool l.shapes l.pool l.kinds.kinds l.initial.here l.here l.latest
 
 abbrev pub decreases-read_members-loop-from : goal.decreases-read_members-loop-from
 decreases-read_members-loop-from l = length l.text - l.here.at

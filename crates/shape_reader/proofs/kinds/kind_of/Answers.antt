@@ -1,5 +1,6 @@
 -- `shape_reader::kinds::kind_of` meets its contract. Assumes nothing.
 use mathlib.Core.Path.{refl}
+use native.Mathlib.Omega.{arith}
 use Rattle.definitions.specs.Bytes.{bytes, order, same}
 use Rattle.definitions.specs.Shape.{Kind, all_kinds}
 use Rattle.definitions.specs.ShapeText.{kind_name, kind_words}
@@ -43,14 +44,13 @@ unfolding kind_words all_kinds kind_name bytes kind_bit word_value joined fits
 returns-in_default c =
     record {
       told = let t = c.word_value.ensures.told in
-          let r = c.in_default.in_default-own.rest in
           kind_missed {rows = kind_words}
-          (misses_one (t.other (kind_name Kind.null) refl r.0.0.0.0.0.0.1)
-          (misses_one (t.other (kind_name Kind.bool) refl r.0.0.0.0.0.1)
-          (misses_one (t.other (kind_name Kind.int) refl r.0.0.0.0.1)
-          (misses_one (t.other (kind_name Kind.dec) refl r.0.0.0.1)
-          (misses_one (t.other (kind_name Kind.text) refl r.0.0.1)
-          (misses_one (t.other (kind_name Kind.list) refl r.0.1)
-          (misses_one (t.other (kind_name Kind.rec) refl r.1)
+          (misses_one (t.other (kind_name Kind.null) refl (λ e. omega (arith, c.in_default, e)))
+          (misses_one (t.other (kind_name Kind.bool) refl (λ e. omega (arith, c.in_default, e)))
+          (misses_one (t.other (kind_name Kind.int) refl (λ e. omega (arith, c.in_default, e)))
+          (misses_one (t.other (kind_name Kind.dec) refl (λ e. omega (arith, c.in_default, e)))
+          (misses_one (t.other (kind_name Kind.text) refl (λ e. omega (arith, c.in_default, e)))
+          (misses_one (t.other (kind_name Kind.list) refl (λ e. omega (arith, c.in_default, e)))
+          (misses_one (t.other (kind_name Kind.rec) refl (λ e. omega (arith, c.in_default, e)))
           misses_none)))))));
     }

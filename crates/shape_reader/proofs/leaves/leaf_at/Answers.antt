@@ -1,6 +1,6 @@
 -- `shape_reader::leaves::leaf_at` meets its contract. Assumes nothing.
 use native.Mathlib.Omega.{arith}
-use Rattle.shape_reader.proofs.LeafForms.{shape_stands, null_stands, others_small, others_leaf, null_others}
+use Rattle.shape_reader.proofs.LeafForms.{shape_stands, null_stands, others_leaf, null_others}
 use Rattle.shape_reader.proofs.leaves.leaf_at.Goals as goal
 
 pub returns-then-x-ne465676103200 : goal.returns-then-x-ne465676103200
@@ -18,18 +18,13 @@ returns-then-x-eq45545652842016 c =
       };
     }
 
-pub overflow_add-all : goal.overflow_add-all
-overflow_add-all c =
-    omega (arith, others_small c.other_kinds-2.ensures.told c.in-Of.is)
-
-pub returns-in-Of : goal.returns-in-Of
-returns-in-Of c =
+pub returns : goal.returns
+returns c =
     record {
       told = record {
         answer = (
           shape_stands c.eight_at.ensures.told c.if-eight_at-ne111533344977704.false,
-          null_others c.args.at c.eight_at-x.ensures.told c.if-x-ne465676103200.false
-              c.other_kinds-2.ensures.told c.in-Of.is,
+          null_others c.args.at c.eight_at-x.ensures.told c.if-x-ne465676103200.false c.in_ok-others.ensures.told,
         );
       };
     }

@@ -1,14 +1,14 @@
 -- `shape_reader::members::close_member` meets its contract. Assumes nothing.
-use native.Mathlib.Omega.{arith}
-use Rattle.shape_reader.proofs.MemberReading.{member_unclosed, closed, member_closed}
+use Rattle.reading.proofs.Passed.{passed}
+use Rattle.shape_reader.specs.ShapeParts.{ClosesMember}
+use Rattle.shape_reader.proofs.MemberReading.{member_unclosed, member_closed}
 use Rattle.shape_reader.proofs.members.close_member.Goals as goal
 
-pub overflow_add-to : goal.overflow_add-to
-overflow_add-to c =
-    omega (arith, (closed c.args.c c.next_closing.ensures.read c.in-At.is).within, c.well_formed.0.0)
+pub returns-in_err-place : goal.returns-in_err-place
+returns-in_err-place c =
+    record {
+      read = passed (ClosesMember c.args.text.now c.args.c) c.from_residual.ensures (member_unclosed c.args.c c.in_err-place.ensures.read);
+    }
 
-pub returns-in-At : goal.returns-in-At
-returns-in-At c = record { read = member_closed c.args.c c.next_closing.ensures.read c.in-At.is }
-
-pub returns-in-Missing : goal.returns-in-Missing
-returns-in-Missing c = record { read = member_unclosed c.args.c c.next_closing.ensures.read c.in-Missing.is }
+pub returns : goal.returns
+returns c = record { read = member_closed c.args.c c.in_ok-place.ensures.read }

@@ -45,7 +45,7 @@ write_text-j-requires c = (
 
 pub overflow_add-around : goal.overflow_add-around
 overflow_add-around c =
-    omega (arith, c.requires.room, length_label c.requires.text c.args.around, c.well_formed.0.0)
+    omega (arith, c.requires.room, length_label c.requires.text c.args.around)
 
 pub write_line-requires : goal.write_line-requires
 write_line-requires c =

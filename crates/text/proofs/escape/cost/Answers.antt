@@ -7,16 +7,12 @@ use Rattle.text.proofs.escape.cost.Goals as goal
 pub returns-then-needs_no_escape : goal.returns-then-needs_no_escape
 returns-then-needs_no_escape c = record { counted = sym (ap length (c.needs_no_escape.ensures.told c.if-needs_no_escape.true)) }
 
-pub returns-then-short_form-ne0 : goal.returns-then-short_form-ne0
-returns-then-short_form-ne0 c = record { counted = sym (ap length (escaped_short _ c.short_form.result c.short_form.ensures.found c.if-short_form-ne0.true)) }
+pub returns-in-Some : goal.returns-in-Some
+returns-in-Some c = record { counted = sym (ap length (escaped_short c.args.b c.in-Some.field-0 (sym c.in-Some.ensures.found))) }
 
-pub returns-then-b-lt32 : goal.returns-then-b-lt32
-returns-then-b-lt32 c =
-    record {
-      counted = sym (ap length (escaped_hex _ c.short_form.result c.short_form.ensures.found c.if-short_form-ne0.false c.if-b-lt32.true)
-          ∙ length_hex_escape _);
-    }
+pub returns-in-None : goal.returns-in-None
+returns-in-None c =
+    record { counted = sym (ap length (escaped_hex c.args.b (sym c.in-None.ensures.found) c.if-b-lt32.true) ∙ length_hex_escape c.args.b) }
 
-pub returns-else-b-lt32 : goal.returns-else-b-lt32
-returns-else-b-lt32 c =
-    record { counted = sym (ap length (escaped_itself _ c.short_form.result c.short_form.ensures.found c.if-short_form-ne0.false c.if-b-lt32.false)) }
+pub returns-in-None-2 : goal.returns-in-None-2
+returns-in-None-2 c = record { counted = sym (ap length (escaped_itself c.args.b (sym c.in-None.ensures.found) c.if-b-lt32.false)) }

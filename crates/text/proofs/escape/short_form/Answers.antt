@@ -1,12 +1,6 @@
 -- `text::escape::short_form` meets its contract: a row of `short_escapes` for each answer. Assumes nothing.
 use mathlib.Core.Path.{refl}
-use Rattle.definitions.specs.Bytes.{bytes, look, between}
-use Rattle.definitions.specs.Plain.{short_escapes}
-use Rattle.text.specs.TextParts.{short_form}
-use Rattle.laws.specs.Ranges.{in_one}
-use Rattle.text.proofs.Tables.{value_at}
-use Rattle.text.proofs.Escaped.{short_misses}
-use mathlib.Core.Path.{refl}
+use native.Mathlib.Omega.{arith}
 use Rattle.definitions.specs.Bytes.{bytes, look, between}
 use Rattle.definitions.specs.Plain.{short_escapes}
 use Rattle.text.specs.TextParts.{short_form}
@@ -45,16 +39,4 @@ returns-in-9 c = record { found = value_at short_form _ _ _ c.in-9.is refl }
 pub returns-in_default : goal.returns-in_default
 unfolding short_escapes
 returns-in_default c =
-    record {
-      found = let r = c.in_default.in_default-own.rest in
-          short_misses c.args.b (
-            λ i. r.0.0.0.0.0.0.1 (in_one i),
-            (
-              λ i. r.0.0.0.0.0.1 (in_one i),
-              (
-                λ i. r.0.0.0.0.1 (in_one i),
-                (λ i. r.0.0.0.1 (in_one i), (λ i. r.0.0.1 (in_one i), (λ i. r.0.1 (in_one i), (λ i. r.1 (in_one i), tt)))),
-              ),
-            ),
-          );
-    }
+    record { found = short_misses c.args.b (grind arith, (grind arith, (grind arith, (grind arith, (grind arith, (grind arith, (grind arith, tt))))))) }

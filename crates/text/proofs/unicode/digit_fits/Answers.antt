@@ -1,39 +1,43 @@
 -- `text::unicode::digit_fits` meets its contract: a lemma of `Digits` for each answer. Assumes nothing.
-use mathlib.Core.Bool.{true, false}
-use Rattle.text.proofs.Digits.{fits_low_first, fits_low_second, fits_first, fits_second, fits_other, fits_later, fits_at}
+use mathlib.Core.Bool.{true, false, not}
+use mathlib.Core.Path.{refl, ap, ◌∙◌}
+use borrow.Author.Tests.{ne_eqb}
+use Rattle.text.proofs.Digits.{fits_low_first, fits_low_second, fits_alone, fits_second, fits_other, fits_later, fits_at}
 use native.Mathlib.Omega.{arith}
 use Rattle.text.proofs.unicode.digit_fits.Goals as goal
 
-pub returns-then-low : goal.returns-then-low
-returns-then-low c =
+pub returns-in-true-eq0 : goal.returns-in-true-eq0
+returns-in-true-eq0 c =
     record {
       judged = let a = c.args in
-          fits_at a.low true a.n 0 a.c a.d c.if-low.true c.if-n-eq0.true (fits_low_first a.c a.d);
+          fits_at a.low true a.n 0 a.c a.d c.in-true-eq0.is-0 c.in-true-eq0.is-1 (fits_low_first a.c a.d);
     }
 
-pub returns-then-n-eq0 : goal.returns-then-n-eq0
-returns-then-n-eq0 c = record { judged = let a = c.args in fits_at a.low false a.n 0 a.c a.d c.if-low.false c.if-n-eq0.true (fits_first a.c a.d) }
-
-pub returns-then-low-2 : goal.returns-then-low-2
-returns-then-low-2 c =
+pub returns-in-true-eq1 : goal.returns-in-true-eq1
+returns-in-true-eq1 c =
     record {
       judged = let a = c.args in
-          fits_at a.low true a.n 1 a.c a.d c.if-low-2.true c.if-n-eq1.true (fits_low_second a.c a.d);
+          fits_at a.low true a.n 1 a.c a.d c.in-true-eq1.is-0 c.in-true-eq1.is-1 (fits_low_second a.c a.d);
     }
 
-pub returns-then-c-eq13 : goal.returns-then-c-eq13
-returns-then-c-eq13 c =
+pub returns-then-c-ne13 : goal.returns-then-c-ne13
+returns-then-c-ne13 c =
     record {
       judged = let a = c.args in
-          fits_at a.low false a.n 1 a.c a.d c.if-low-2.false c.if-n-eq1.true (fits_second a.c a.d c.if-c-eq13.true);
+          let e = c.if-c-ne13.true in
+          fits_at a.low false a.n 1 a.c a.d c.in-false-eq1.is-0 c.in-false-eq1.is-1 (ap not (ne_eqb a.c 13 e) ∙ fits_other a.c a.d e);
     }
 
-pub returns-then-n-eq1 : goal.returns-then-n-eq1
-returns-then-n-eq1 c =
+pub returns-else-c-ne13 : goal.returns-else-c-ne13
+returns-else-c-ne13 c =
     record {
       judged = let a = c.args in
-          fits_at a.low false a.n 1 a.c a.d c.if-low-2.false c.if-n-eq1.true (fits_other a.c a.d c.if-c-eq13.false);
+          fits_at a.low false a.n 1 a.c a.d c.in-false-eq1.is-0 c.in-false-eq1.is-1 (fits_second a.c a.d c.if-c-ne13.false);
     }
 
-pub returns : goal.returns
-returns c = record { judged = let a = c.args in fits_later a.low a.n a.c a.d (omega arith) }
+pub returns-in_default : goal.returns-in_default
+returns-in_default c = record { judged = let a = c.args in fits_later a.low a.n a.c a.d (grind arith) }
+
+pub returns-in_default-2 : goal.returns-in_default-2
+returns-in_default-2 c =
+    record { judged = let a = c.args in fits_at a.low false a.n a.n a.c a.d c.in_default.is-0 refl (fits_alone a.n a.c a.d (grind arith)) }

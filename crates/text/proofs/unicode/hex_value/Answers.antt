@@ -4,23 +4,23 @@ use Rattle.text.proofs.Tables.{hex_0, hex_upper_a, hex_a, hex_none}
 use native.Mathlib.Omega.{arith}
 use Rattle.text.proofs.unicode.hex_value.Goals as goal
 
-pub returns-then-b-lt48 : goal.returns-then-b-lt48
-returns-then-b-lt48 c = record { valued = hex_none _ (inl (omega arith)) }
+pub returns-in-48-to-57 : goal.returns-in-48-to-57
+returns-in-48-to-57 c = record { valued = hex_0 _ (omega arith) (omega arith) }
 
-pub returns-then-b-le57 : goal.returns-then-b-le57
-returns-then-b-le57 c = record { valued = hex_0 _ (omega arith) (omega arith) }
+pub returns-in-65-to-70 : goal.returns-in-65-to-70
+returns-in-65-to-70 c = record { valued = hex_upper_a _ (omega arith) (omega arith) }
 
-pub returns-then-b-lt65 : goal.returns-then-b-lt65
-returns-then-b-lt65 c = record { valued = hex_none _ (inr (inl (omega arith))) }
+pub returns-in-97-to-102 : goal.returns-in-97-to-102
+returns-in-97-to-102 c = record { valued = hex_a _ (omega arith) (omega arith) }
 
-pub returns-then-b-le70 : goal.returns-then-b-le70
-returns-then-b-le70 c = record { valued = hex_upper_a _ (omega arith) (omega arith) }
+pub returns-in_default : goal.returns-in_default
+returns-in_default c = record { valued = hex_none _ (inl (omega arith)) }
 
-pub returns-then-b-lt97 : goal.returns-then-b-lt97
-returns-then-b-lt97 c = record { valued = hex_none _ (inr (inr (inl (omega arith)))) }
+pub returns-in_default-2 : goal.returns-in_default-2
+returns-in_default-2 c = record { valued = hex_none _ (inr (inl (omega arith))) }
 
-pub returns-then-b-le102 : goal.returns-then-b-le102
-returns-then-b-le102 c = record { valued = hex_a _ (omega arith) (omega arith) }
+pub returns-in_default-3 : goal.returns-in_default-3
+returns-in_default-3 c = record { valued = hex_none _ (inr (inr (inl (omega arith)))) }
 
-pub returns : goal.returns
-returns c = record { valued = hex_none _ (inr (inr (inr (omega arith)))) }
+pub returns-in_default-4 : goal.returns-in_default-4
+returns-in_default-4 c = record { valued = hex_none _ (inr (inr (inr (omega arith)))) }

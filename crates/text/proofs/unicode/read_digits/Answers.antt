@@ -1,29 +1,29 @@
--- `text::unicode::read_digits` meets its contract. The loop's invariant: n digits are read (`DigitsSoFar`). The measure is how many are left.
--- Assumes nothing.
+-- `text::unicode::read_digits` meets its contract. The loop's invariant: n digits are read (`DigitsSoFar`). Assumes nothing.
 use mathlib.Core.Path.{sym, ap, ◌∙◌}
 use Rattle.text.specs.TextParts.{hex_value}
-use Rattle.text.proofs.Digits.{so_far_small, digits_start, digits_next, digits_wrong, digits_unfit, digits_done}
-use native.Mathlib.Omega.{arith}
-use Rattle.text.proofs.Digits.{so_far_small, digits_start, digits_next, digits_wrong, digits_unfit, digits_done}
+use Rattle.text.proofs.Digits.{so_far_small, digit_small, digits_start, digits_next, digits_wrong, digits_unfit, digits_done}
 use native.Mathlib.Omega.{arith}
 use Rattle.text.proofs.unicode.read_digits.Goals as goal
 
 pub loop-n-init : goal.loop-n-init
 loop-n-init c = let a = c.args in digits_start a.doc.now a.at a.low c.requires
 
-pub overflow_add-at : goal.overflow_add-at
-overflow_add-at c = omega arith
-
-pub overflow_add-result : goal.overflow_add-result
-overflow_add-result c = omega arith
-
-pub returns-then-d-gt15 : goal.returns-then-d-gt15
-returns-then-d-gt15 c =
+pub returns-in_default : goal.returns-in_default
+returns-in_default c =
     record {
       read = let l = c.loop-n in
           let a = c.args in
-          digits_wrong a.doc.now a.at a.low l.n l.c l.invariant c.loop-n-test.true c.hex_value-d.result
-          (c.hex_value-d.ensures.valued ∙ ap hex_value c.peek.ensures.read) c.if-d-gt15.true;
+          digits_wrong a.doc.now a.at a.low l.n l.c l.invariant c.loop-n-test.true
+          (sym (c.in_default.ensures.valued ∙ ap hex_value c.peek.ensures.read));
+    }
+
+pub returns-then-not-digit_fits : goal.returns-then-not-digit_fits
+returns-then-not-digit_fits c =
+    record {
+      read = let l = c.loop-n in
+          let a = c.args in
+          digits_unfit a.doc.now a.at a.low l.n l.c l.invariant c.loop-n-test.true
+          (sym (c.in-Some.ensures.valued ∙ ap hex_value c.peek.ensures.read)) (sym c.if-not-digit_fits.ensures.judged);
     }
 
 pub overflow_mul-c : goal.overflow_mul-c
@@ -36,35 +36,14 @@ pub overflow_add-c : goal.overflow_add-c
 overflow_add-c c =
     let l = c.loop-n in
     let a = c.args in
-    omega (arith, so_far_small a.low l.n l.c l.invariant.range)
-
-pub overflow_add-n : goal.overflow_add-n
-overflow_add-n c = omega arith
-
-pub loop-n-smaller : goal.loop-n-smaller
-loop-n-smaller c = omega arith
+    omega (arith, so_far_small a.low l.n l.c l.invariant.range, digit_small c.peek.result (sym c.in-Some.ensures.valued))
 
 pub loop-n-preserved : goal.loop-n-preserved
 loop-n-preserved c =
     let l = c.loop-n in
     let a = c.args in
-    digits_next a.doc.now a.at a.low l.n l.c l.invariant c.loop-n-test.true c.hex_value-d.result
-    (c.hex_value-d.ensures.valued ∙ ap hex_value c.peek.ensures.read) c.if-d-gt15.false (sym c.digit_fits.ensures.judged ∙ c.if-digit_fits.true)
-
-pub overflow_add-result-else-digit_fits : goal.overflow_add-result-else-digit_fits
-overflow_add-result-else-digit_fits c = omega arith
-
-pub returns-else-digit_fits : goal.returns-else-digit_fits
-returns-else-digit_fits c =
-    record {
-      read = let l = c.loop-n in
-          let a = c.args in
-          digits_unfit a.doc.now a.at a.low l.n l.c l.invariant c.loop-n-test.true c.hex_value-d.result
-          (c.hex_value-d.ensures.valued ∙ ap hex_value c.peek.ensures.read) c.if-d-gt15.false (sym c.digit_fits.ensures.judged ∙ c.if-digit_fits.false);
-    }
-
-pub overflow_add-result-2 : goal.overflow_add-result-2
-overflow_add-result-2 c = omega arith
+    digits_next a.doc.now a.at a.low l.n l.c l.invariant c.loop-n-test.true
+    (sym (c.in-Some.ensures.valued ∙ ap hex_value c.peek.ensures.read)) (sym c.if-not-digit_fits.ensures.judged)
 
 pub returns : goal.returns
 returns c =

@@ -1,49 +1,44 @@
 -- `text::unicode::read_unicode` meets its contract: `Surrogates` says how reading goes on behind four digits. Assumes nothing.
-use mathlib.Core.Path.{refl, subst}
+use mathlib.Core.Path.{refl}
 use mathlib.Core.Logic.{inl, inr}
-use mathlib.Core.Bool.{false}
 use mathlib.Core.Option.{none}
+use native.Mathlib.Omega.{arith}
 use Rattle.definitions.specs.Bytes.{found}
-use Rattle.text.specs.TextParts.{DigitsRead, ReadsDigits}
+use Rattle.definitions.specs.Text.{Inside}
+use Rattle.text.specs.TextParts.{ReadsCode}
+use Rattle.text.proofs.Passed.{passed}
 use Rattle.text.proofs.Surrogates.{alone_read, high_code}
 use Rattle.text.proofs.unicode.read_unicode.Goals as goal
 
-pub returns-then-value-lt55296 : goal.returns-then-value-lt55296
-returns-then-value-lt55296 c =
+pub returns-in_err-code : goal.returns-in_err-code
+unfolding found
+returns-in_err-code c =
     record {
-      read = let a = c.args in
-          alone_read a.doc.now a.at c.in-Read.value c.in-Read.next
-          (subst (ReadsDigits a.doc.now a.at false) c.in-Read.is c.read_digits.ensures.read) (inl c.if-value-lt55296.true);
-    }
-
-pub returns-then-value-gt56319 : goal.returns-then-value-gt56319
-returns-then-value-gt56319 c =
-    record {
-      read = let a = c.args in
-          alone_read a.doc.now a.at c.in-Read.value c.in-Read.next
-          (subst (ReadsDigits a.doc.now a.at false) c.in-Read.is c.read_digits.ensures.read) (inr c.if-value-gt56319.true);
+      read = passed (ReadsCode c.args.doc.now (Inside.digits none 0 0) c.args.at) c.from_residual.result c.from_residual.ensures.1
+          (c.in_err-code.ensures.read none refl);
     }
 
 pub read_low-requires : goal.read_low-requires
-read_low-requires c =
-    let a = c.args in
-    let d
-    : DigitsRead a.doc.now a.at false c.in-Read.value c.in-Read.next =
-    subst (ReadsDigits a.doc.now a.at false) c.in-Read.is c.read_digits.ensures.read in
-    (d.within, c.if-value-lt55296.false, c.if-value-gt56319.false)
+read_low-requires c = (c.in_ok-code.ensures.read.within, omega arith, omega arith)
 
-pub returns-else-value-gt56319 : goal.returns-else-value-gt56319
-returns-else-value-gt56319 c =
+pub returns-in-55296-to-56319 : goal.returns-in-55296-to-56319
+returns-in-55296-to-56319 c =
     record {
       read = let a = c.args in
-          high_code a.doc.now a.at c.in-Read.value c.in-Read.next (subst (ReadsDigits a.doc.now a.at false) c.in-Read.is c.read_digits.ensures.read)
-          c.if-value-lt55296.false c.if-value-gt56319.false c.read_low.result c.read_low.ensures.read;
+          high_code a.doc.now a.at c.in_ok-code.code.value c.in_ok-code.code.next c.in_ok-code.ensures.read
+          (omega arith) (omega arith) c.read_low.result c.read_low.ensures.read;
     }
 
-pub returns-in-Wrong : goal.returns-in-Wrong
-unfolding found
-returns-in-Wrong c =
+pub returns-in_default : goal.returns-in_default
+returns-in_default c =
     record {
       read = let a = c.args in
-          subst (ReadsDigits a.doc.now a.at false) c.in-Wrong.is c.read_digits.ensures.read none refl;
+          alone_read a.doc.now a.at c.in_ok-code.code.value c.in_ok-code.code.next c.in_ok-code.ensures.read (inl (omega arith));
+    }
+
+pub returns-in_default-2 : goal.returns-in_default-2
+returns-in_default-2 c =
+    record {
+      read = let a = c.args in
+          alone_read a.doc.now a.at c.in_ok-code.code.value c.in_ok-code.code.next c.in_ok-code.ensures.read (inr (omega arith));
     }

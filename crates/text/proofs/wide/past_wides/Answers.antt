@@ -7,25 +7,13 @@ use Rattle.text.proofs.wide.past_wides.Goals as goal
 pub loop-m-init : goal.loop-m-init
 loop-m-init c = c.requires
 
-pub overflow_mul-m : goal.overflow_mul-m
-overflow_mul-m c = omega arith
-
-pub overflow_shl-x : goal.overflow_shl-x
-overflow_shl-x c = omega arith
-
-pub returns-then-k-eq0 : goal.returns-then-k-eq0
-returns-then-k-eq0 c = record { found = c.loop-m.invariant }
-
 pub overflow_add-m : goal.overflow_add-m
-overflow_add-m c = omega (arith, c.loop-m-test.true, c.wide_length-k.ensures.found.1)
+overflow_add-m c = omega (arith, c.loop-m-test.true, c.in-Some.ensures.found.2)
 
 pub loop-m-smaller : goal.loop-m-smaller
-loop-m-smaller c = omega (arith, c.loop-m-test.true, c.if-k-eq0.false)
+loop-m-smaller c = omega (arith, c.loop-m-test.true, c.in-Some.ensures.found.1)
 
 pub loop-m-preserved : goal.loop-m-preserved
 loop-m-preserved c =
-    let e = c.wide_length-k.ensures.found in
-    front_next c.loop-m.invariant c.loop-m-test.true e.1 e.0
-
-pub returns : goal.returns
-returns c = record { found = c.loop-m.invariant }
+    let e = c.in-Some.ensures.found in
+    front_next c.loop-m.invariant c.loop-m-test.true e.2 e.0

@@ -4,6 +4,7 @@ use mathlib.Core.Logic.{inl, inr}
 use Rattle.definitions.specs.Text.{Inside}
 use Rattle.text.proofs.Characters.{tails_start, tails_wrong, tails_next, tails_done}
 use native.Mathlib.Omega.{arith}
+use Rattle.text.proofs.wide.tails_end.Goals.{then-b-from-via-then-b-from, then-b-from-via-else-b-from+then-to-b}
 use Rattle.text.proofs.wide.tails_end.Goals as goal
 
 pub loop-from-init : goal.loop-from-init
@@ -15,16 +16,8 @@ returns-then-b-from c =
       read = let l = c.loop-from in
           let a = c.args in
           tails_wrong a.doc.now (Inside.tail a.lo a.hi a.more) a.at l.i l.from l.to l.left c.peek-b.result l.invariant
-          c.peek-b.ensures.read (inl c.if-b-from.true);
-    }
-
-pub returns-then-to-b : goal.returns-then-to-b
-returns-then-to-b c =
-    record {
-      read = let l = c.loop-from in
-          let a = c.args in
-          tails_wrong a.doc.now (Inside.tail a.lo a.hi a.more) a.at l.i l.from l.to l.left c.peek-b.result l.invariant
-          c.peek-b.ensures.read (inr c.if-to-b.true);
+          c.peek-b.ensures.read
+          (elim c.then-b-from.branch [ then-b-from-via-then-b-from w ↦ inl w.if-b-from.true | then-b-from-via-else-b-from+then-to-b w ↦ inr w.if-to-b.true ]);
     }
 
 pub overflow_add-i : goal.overflow_add-i

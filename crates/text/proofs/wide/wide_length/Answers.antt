@@ -1,25 +1,17 @@
 -- `text::wide::wide_length` meets its contract: of the table's rows, each by its first two bytes (`Stands`). Assumes nothing.
-use Rattle.text.proofs.Stands.{front_none, wide_2, wide_3, wide_4}
+use Rattle.text.proofs.Stands.{wide_2, wide_3, wide_4}
 use native.Mathlib.Omega.{arith}
 use Rattle.text.proofs.wide.wide_length.Goals as goal
 
-pub returns-then-two-lt49664 : goal.returns-then-two-lt49664
-returns-then-two-lt49664 c = record { found = (front_none c.args.x, omega arith) }
-
-pub returns-then-two-ne2 : goal.returns-then-two-ne2
-returns-then-two-ne2 c = record { found = (front_none c.args.x, omega arith) }
-
 pub returns-then-two-lt57344 : goal.returns-then-two-lt57344
-returns-then-two-lt57344 c = record { found = (wide_2 c.args.x c.ranges.x.fits c.if-two-lt49664.false c.if-two-ne2.false c.if-two-lt57344.true, omega arith) }
-
-pub returns-then-x-ne2 : goal.returns-then-x-ne2
-returns-then-x-ne2 c = record { found = (front_none c.args.x, omega arith) }
-
-pub returns-then-two-lt57504 : goal.returns-then-two-lt57504
-returns-then-two-lt57504 c = record { found = (front_none c.args.x, omega arith) }
-
-pub returns-then-two-eq1901 : goal.returns-then-two-eq1901
-returns-then-two-eq1901 c = record { found = (front_none c.args.x, omega arith) }
+returns-then-two-lt57344 c =
+    record {
+      found = (
+        wide_2 c.args.x c.ranges.x.fits c.if-two-lt49664.false c.if-two-ne2.false c.if-two-lt57344.true,
+        omega arith,
+        omega arith,
+      );
+    }
 
 pub returns-then-two-lt61440 : goal.returns-then-two-lt61440
 returns-then-two-lt61440 c =
@@ -28,17 +20,9 @@ returns-then-two-lt61440 c =
         wide_3 c.args.x c.ranges.x.fits c.if-two-ne2.false c.if-x-ne2.false c.if-two-lt57504.false
             c.if-two-lt61440.true c.if-two-eq1901.false,
         omega arith,
+        omega arith,
       );
     }
-
-pub returns-then-x-ne2-2 : goal.returns-then-x-ne2-2
-returns-then-x-ne2-2 c = record { found = (front_none c.args.x, omega arith) }
-
-pub returns-then-two-lt61584 : goal.returns-then-two-lt61584
-returns-then-two-lt61584 c = record { found = (front_none c.args.x, omega arith) }
-
-pub returns-then-two-gt62607 : goal.returns-then-two-gt62607
-returns-then-two-gt62607 c = record { found = (front_none c.args.x, omega arith) }
 
 pub returns : goal.returns
 returns c =
@@ -46,6 +30,7 @@ returns c =
       found = (
         wide_4 c.args.x c.ranges.x.fits c.if-two-ne2.false c.if-x-ne2.false c.if-x-ne2-2.false
             c.if-two-lt61584.false c.if-two-gt62607.false,
+        omega arith,
         omega arith,
       );
     }

@@ -1,60 +1,54 @@
--- `text::write::word_length` meets its contract. The loop's invariant: what the first i bytes are in plain JSON is counted, and x is what is left.
--- Assumes nothing.
-use Prim.Native.Nat.{ℕ, ◌+◌}
+-- `text::write::word_length` meets its contract. The loop's invariant: what the first bytes are in plain JSON is counted. Assumes nothing.
+use Prim.Native.Nat.{◌+◌}
 use mathlib.Core.Path.{◌≡◌, sym, ap, ◌∙◌}
-use lib.ListN.{length, take}
 use native.Mathlib.Omega.{arith}
+use lib.ListN.{length, take}
+use Rattle.definitions.specs.Bytes.{Bytes}
 use Rattle.definitions.specs.Plain.{escaped_all}
 use Rattle.pool.specs.Pool.{unpacked}
 use Rattle.text.proofs.Escaped.{escaped_none}
-use Rattle.text.proofs.Words.{not_shifted, shifted_byte, shifted_on, word_part, word_count}
+use Rattle.text.proofs.Writing.{escaped_part}
+use Rattle.text.proofs.Words.{escaped_count, escaped_whole}
 use Rattle.text.proofs.write.word_length.Goals as goal
 
-pub loop-i-init : goal.loop-i-init
-loop-i-init c = (omega arith, sym (ap length escaped_none), not_shifted c.args.word, omega arith)
-
-pub overflow_cast-x : goal.overflow_cast-x
-overflow_cast-x c = omega (arith, c.loop-i.invariant.3)
+pub loop-b-init : goal.loop-b-init
+loop-b-init c = sym (ap length escaped_none)
 
 pub overflow_add-written : goal.overflow_add-written
+unfolding unpacked
 overflow_add-written c =
-    let l = c.loop-i in
+    let a = c.args in
+    let l = c.loop-b in
+    let s = take a.n c.to_be_bytes.result in
+    let e : length (escaped_all s) ≡ length (escaped_all (take a.n (unpacked a.word))) =
+    ap (λ (t : Bytes). length (escaped_all (take a.n t))) c.to_be_bytes.ensures in
     omega (
       arith,
       c.cost-written.ensures.counted,
-      l.invariant.1,
-      word_count c.args.word l.i _ (omega arith) (shifted_byte l.invariant.2 (omega arith) l.invariant.3),
-      word_part c.args.word (l.i + 1) c.args.n (omega arith),
+      l.invariant,
+      escaped_count s l.b-index c.loop-b-test.true,
+      escaped_part (l.b-index + 1) s,
+      e,
       c.requires.1,
     )
 
-pub loop-i-preserved : goal.loop-i-preserved
-loop-i-preserved c =
-    let l = c.loop-i in (
-      omega arith,
-      omega (
-        arith,
-        c.cost-written.ensures.counted,
-        l.invariant.1,
-        word_count c.args.word l.i _ (omega arith) (shifted_byte l.invariant.2 (omega arith) l.invariant.3),
-      ),
-      shifted_on l.invariant.2,
-      omega arith,
+pub loop-b-preserved : goal.loop-b-preserved
+loop-b-preserved c =
+    let l = c.loop-b in
+    omega (
+      arith,
+      c.cost-written.ensures.counted,
+      l.invariant,
+      escaped_count (take c.args.n c.to_be_bytes.result) l.b-index c.loop-b-test.true,
     )
 
 pub returns : goal.returns
+unfolding unpacked
 returns c =
     record {
-      counted = let l = c.loop-i in
-          let a = c.args in
-          let e : l.i ≡ a.n = omega (arith, l.invariant.0, c.loop-i-test.false) in
-          l.invariant.1 ∙ ap (λ (k : ℕ). length (escaped_all (take k (unpacked a.word)))) e;
+      counted = let a = c.args in
+          let l = c.loop-b in
+          l.invariant
+          ∙ ap length (escaped_whole (take a.n c.to_be_bytes.result) l.b-index c.loop-b-test.false)
+          ∙ ap (λ (t : Bytes). length (escaped_all (take a.n t))) c.to_be_bytes.ensures;
     }
-
-pub overflow_add-i : goal.overflow_add-i
-overflow_add-i c =
-    omega arith
-
-pub loop-i-smaller : goal.loop-i-smaller
-loop-i-smaller c =
-    omega arith

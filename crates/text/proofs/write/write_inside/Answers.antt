@@ -33,8 +33,8 @@ shape_of-out-then-not-is_bare c =
 pub returns-then-not-is_bare : goal.returns-then-not-is_bare
 returns-then-not-is_bare c = record { written = onward_rest c.loop-left.invariant c.requires.1 c.write_mixed.ensures.written }
 
-pub store_eight-j-requires : goal.store_eight-j-requires
-store_eight-j-requires c =
+pub store-j-requires : goal.store-j-requires
+store-j-requires c =
     let x = get_or c.args.pool.now c.loop-left.k 0 in
     omega (
       arith,
@@ -57,7 +57,7 @@ loop-left-preserved c =
     let x = get_or c.args.pool.now c.loop-left.k 0 in
     onward_word c.loop-left.invariant c.requires.1 c.loop-left-test.true
     (writes_as (sym (bare_whole x (c.is_bare.ensures.told c.if-not-is_bare.false)))
-    c.store_eight-j.ensures.stored)
+    c.store-j.ensures.stored)
 
 pub write_end-requires : goal.write_end-requires
 write_end-requires c =

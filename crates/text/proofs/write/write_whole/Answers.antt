@@ -9,8 +9,8 @@ use Rattle.text.specs.WritesLaws.{writes_as}
 use Rattle.text.proofs.Onward.{take_unpacked, bare_whole}
 use Rattle.text.proofs.write.write_whole.Goals as goal
 
-pub store_eight-requires : goal.store_eight-requires
-store_eight-requires c =
+pub store-requires : goal.store-requires
+store-requires c =
     omega (
       arith,
       c.requires,
@@ -22,7 +22,7 @@ pub returns-then-is_bare : goal.returns-then-is_bare
 returns-then-is_bare c =
     record {
       written = writes_as (sym (bare_whole c.args.x (c.is_bare.ensures.told c.if-is_bare.true)))
-          c.store_eight.ensures.stored;
+          c.store.ensures.stored;
     }
 
 pub write_word-requires : goal.write_word-requires

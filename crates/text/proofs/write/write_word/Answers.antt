@@ -1,62 +1,48 @@
--- `text::write::write_word` meets its contract. The loop's invariant: the first i bytes are written, and x is what is left. Assumes nothing.
-use Prim.Native.Nat.{ℕ}
+-- `text::write::write_word` meets its contract. The loop's invariant: the first bytes are written. Assumes nothing.
+use Prim.Native.Nat.{◌+◌, ◌≤◌}
 use mathlib.Core.List.{[]}
-use mathlib.Core.Path.{◌≡◌, refl, sym, ap}
-use lib.ListN.{take}
+use mathlib.Core.Path.{refl, sym, ap, ◌∙◌}
 use native.Mathlib.Omega.{arith}
+use lib.ListN.{length, take}
+use Rattle.definitions.specs.Bytes.{Bytes}
 use Rattle.definitions.specs.Plain.{escaped_all}
 use Rattle.pool.specs.Pool.{unpacked}
 use Rattle.text.proofs.Escaped.{escaped_none}
 use Rattle.text.proofs.Writing.{writes_none, writes_same}
-use Rattle.text.proofs.Words.{not_shifted, shifted_byte, shifted_on, word_length, word_room, word_written}
+use Rattle.text.proofs.Words.{escaped_whole, byte_room, byte_written}
 use Rattle.text.proofs.write.write_word.Goals as goal
 
-pub loop-i-init : goal.loop-i-init
-loop-i-init c =
-    let a = c.args in
-    (omega arith, writes_same (escaped_all []) a.at (writes_none a.out.now a.at) (sym escaped_none) refl, not_shifted a.word, omega arith)
-
-pub overflow_cast-x : goal.overflow_cast-x
-overflow_cast-x c = omega (arith, c.loop-i.invariant.3)
+pub loop-b-init : goal.loop-b-init
+loop-b-init c = writes_same (escaped_all []) c.args.at (writes_none c.args.out.now c.args.at) (sym escaped_none) refl
 
 pub write_byte-j-requires : goal.write_byte-j-requires
+unfolding unpacked
 write_byte-j-requires c =
-    let l = c.loop-i in
-    let t = c.loop-i-test.true in
-    word_room c.args.word c.args.n l.i l.invariant.1 c.requires.1 c.requires.0 _ t (shifted_byte l.invariant.2 (omega arith) l.invariant.3)
+    let a = c.args in
+    let l = c.loop-b in
+    let s = take a.n c.to_be_bytes.result in
+    let room : a.at + length (escaped_all s) ≤ length a.out.now =
+    omega (arith, ap (λ (t : Bytes). length (escaped_all (take a.n t))) c.to_be_bytes.ensures, c.requires.1) in
+    byte_room s l.b-index l.invariant room c.loop-b-test.true
 
-pub loop-i-preserved : goal.loop-i-preserved
-loop-i-preserved c =
-    let l = c.loop-i in
-    let t = c.loop-i-test.true in (
-      omega arith,
-      word_written c.args.word c.args.n l.i l.invariant.1 c.requires.1 c.requires.0 _ t
-          (shifted_byte l.invariant.2 (omega arith) l.invariant.3)
-          c.write_byte-j.ensures.written,
-      shifted_on l.invariant.2,
-      omega arith,
-    )
-
-pub shape_of-out : goal.shape_of-out
-shape_of-out c =
-    let l = c.loop-i in
-    word_length c.args.word c.args.n l.i l.invariant.1 c.requires.1 c.requires.0 l.invariant.0
+pub loop-b-preserved : goal.loop-b-preserved
+unfolding unpacked
+loop-b-preserved c =
+    let a = c.args in
+    let l = c.loop-b in
+    let s = take a.n c.to_be_bytes.result in
+    let room : a.at + length (escaped_all s) ≤ length a.out.now =
+    omega (arith, ap (λ (t : Bytes). length (escaped_all (take a.n t))) c.to_be_bytes.ensures, c.requires.1) in
+    byte_written s l.b-index l.invariant room c.loop-b-test.true c.write_byte-j.ensures.written
 
 pub returns : goal.returns
+unfolding unpacked
 returns c =
     record {
-      written = let l = c.loop-i in
-          let a = c.args in
-          let e : l.i ≡ a.n = omega (arith, l.invariant.0, c.loop-i-test.false) in
-          writes_same (escaped_all (take a.n (unpacked a.word))) l.j l.invariant.1
-          (ap (λ (k : ℕ). escaped_all (take k (unpacked a.word))) e)
+      written = let a = c.args in
+          let l = c.loop-b in
+          writes_same (escaped_all (take a.n (unpacked a.word))) l.j l.invariant
+          (escaped_whole (take a.n c.to_be_bytes.result) l.b-index c.loop-b-test.false
+          ∙ ap (λ (t : Bytes). escaped_all (take a.n t)) c.to_be_bytes.ensures)
           refl;
     }
-
-pub overflow_add-i : goal.overflow_add-i
-overflow_add-i c =
-    omega arith
-
-pub loop-i-smaller : goal.loop-i-smaller
-loop-i-smaller c =
-    omega arith

@@ -1,22 +1,40 @@
 -- `tokens::expect::next_bracket` meets its contract. Assumes nothing.
+use Rattle.std.proofs.Common.{arith, rules}
+use Rattle.std.proofs.lemmas.Grind.{common_steps}
 use Rattle.tokens.specs.Expecting.{an_opening, a_closing}
-use Rattle.tokens.proofs.Expected.{first_opening, first_closing, lacks_first}
+use Rattle.tokens.proofs.Lexing.{found_opening, found_closing}
+use Rattle.tokens.proofs.Expected.{misses}
 use Rattle.tokens.proofs.expect.next_bracket.Goals as goal
 
-pub returns-then-b-eq40 : goal.returns-then-b-eq40
-returns-then-b-eq40 c = record { read = record { answer = first_opening c.skip_space-place.ensures.skipped c.first_byte-b.ensures.told c.if-b-eq40.true } }
-
-pub returns-then-b-eq41 : goal.returns-then-b-eq41
-returns-then-b-eq41 c = record { read = record { answer = first_closing c.skip_space-place.ensures.skipped c.first_byte-b.ensures.told c.if-b-eq41.true } }
-
-pub returns : goal.returns
-returns c =
+pub returns-in-Some-eq40 : goal.returns-in-Some-eq40
+returns-in-Some-eq40 c =
     record {
-      read = let skipped = c.skip_space-place.ensures.skipped in
+      read =
+          record {
+            answer =
+                found_opening c.skip_space-place.ensures.skipped (grind (arith, common_steps)) (grind (arith, common_steps));
+          };
+    }
+
+pub returns-in-Some-eq41 : goal.returns-in-Some-eq41
+returns-in-Some-eq41 c =
+    record {
+      read =
+          record {
+            answer =
+                found_closing c.skip_space-place.ensures.skipped (grind (arith, common_steps)) (grind (arith, common_steps));
+          };
+    }
+
+pub returns-in_default : goal.returns-in_default
+returns-in_default c =
+    record {
+      read =
+          let s = c.skip_space-place.ensures.skipped in
           record {
             answer = (
-              lacks_first skipped c.first_byte-b.ensures.told an_opening 0x28 (λ y e. e) c.if-b-eq40.false,
-              lacks_first skipped c.first_byte-b.ensures.told a_closing 0x29 (λ y e. e) c.if-b-eq41.false,
+              misses an_opening s (λ l e. search (rules, common_steps)) c.misplaced.ensures.place c.misplaced.ensures.cause,
+              misses a_closing s (λ l e. search (rules, common_steps)) c.misplaced.ensures.place c.misplaced.ensures.cause,
             );
           };
     }

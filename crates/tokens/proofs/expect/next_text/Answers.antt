@@ -1,56 +1,40 @@
 -- `tokens::expect::next_text` meets its contract. Assumes nothing.
-use Prim.Native.Nat.{◌+◌}
-use mathlib.Core.Path.{refl, subst}
+use mathlib.Core.Path.{refl}
 use lib.ListN.{length}
-use Rattle.text.specs.TextRead.{TextAnswer}
-use Rattle.text.specs.declared.TextRead.{TextRead}
-use Rattle.tokens.specs.Expecting.{a_text}
+use Rattle.reading.proofs.Passed.{passed}
+use Rattle.tokens.specs.Expecting.{ExpectsText}
 use Rattle.tokens.proofs.Lexing.{found_text, text_room, lacks_broken}
-use Rattle.tokens.proofs.Expected.{first_quote, lacks_first}
+use Rattle.tokens.proofs.Expected.{no_text_next, misses_at}
 use Rattle.tokens.proofs.expect.next_text.Goals as goal
 
-pub returns-then-first_byte-ne34 : goal.returns-then-first_byte-ne34
-returns-then-first_byte-ne34 c =
+pub returns-in_err-place : goal.returns-in_err-place
+returns-in_err-place c =
     record {
-      read = record {
-        answer = lacks_first c.skip_space-place.ensures.skipped c.first_byte.ensures.told a_text 0x22 (λ y e. e) c.if-first_byte-ne34.true;
-        kept = record { size = refl; front = refl };
-      };
+      read = passed (ExpectsText c.args.text.now c.args.at c.args.pool.now c.args.pool.now c.args.w) c.from_residual.ensures
+          (record { answer = no_text_next c.in_err-place.ensures.stands; kept = record { size = refl; front = refl } });
     }
 
 pub read_text-requires : goal.read_text-requires
 read_text-requires c =
-    let (l, q) = first_quote c.skip_space-place.ensures.skipped c.first_byte.ensures.told c.if-first_byte-ne34.false in
-    text_room c.skip_space-place.ensures.skipped l c.args.w (length c.args.pool.now) c.requires.1
+    let (s, l, e) = c.in_ok-place.ensures.stands.answer in
+    text_room s l c.args.w (length c.args.pool.now) c.requires.1
 
-pub returns-in-Closed : goal.returns-in-Closed
-returns-in-Closed c =
+pub returns-in-Ok : goal.returns-in-Ok
+returns-in-Ok c =
     record {
-      read = let (l, q) = first_quote c.skip_space-place.ensures.skipped c.first_byte.ensures.told c.if-first_byte-ne34.false in
+      read = let (s, l, e) = c.in_ok-place.ensures.stands.answer in
           record {
-            answer =
-                found_text c.skip_space-place.ensures.skipped l q
-                (subst
-                (λ (r : TextRead).
-                TextAnswer c.args.text.now (c.skip_space-place.result + 1) c.read_text.new.pool c.args.w r)
-                c.in-Closed.is
-                c.read_text.ensures.read.answer);
+            answer = found_text s l e c.in-Ok.ensures.read.answer;
             kept = record { size = c.read_text.ensures.read.kept; front = c.read_text.ensures.read.front };
           };
     }
 
-pub returns-in-Broken : goal.returns-in-Broken
-returns-in-Broken c =
+pub returns-in-Err : goal.returns-in-Err
+returns-in-Err c =
     record {
-      read = let (l, q) = first_quote c.skip_space-place.ensures.skipped c.first_byte.ensures.told c.if-first_byte-ne34.false in
+      read = let (s, l, e) = c.in_ok-place.ensures.stands.answer in
           record {
-            answer =
-                lacks_broken c.skip_space-place.ensures.skipped l q
-                (subst
-                (λ (r : TextRead).
-                TextAnswer c.args.text.now (c.skip_space-place.result + 1) c.read_text.new.pool c.args.w r)
-                c.in-Broken.is
-                c.read_text.ensures.read.answer);
+            answer = misses_at (lacks_broken s l e c.in-Err.ensures.read.answer) c.misplaced.ensures.place c.misplaced.ensures.cause;
             kept = record { size = c.read_text.ensures.read.kept; front = c.read_text.ensures.read.front };
           };
     }

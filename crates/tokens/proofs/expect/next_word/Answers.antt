@@ -2,7 +2,7 @@
 use native.Mathlib.Omega.{arith}
 use Rattle.tokens.specs.Expecting.{a_word}
 use Rattle.tokens.proofs.Lexing.{found_word, no_word_there}
-use Rattle.tokens.proofs.Expected.{lacks}
+use Rattle.tokens.proofs.Expected.{misses}
 use Rattle.tokens.proofs.expect.next_word.Goals as goal
 
 pub returns-then-place-end : goal.returns-then-place-end
@@ -18,6 +18,7 @@ returns-else-place-end c =
       read =
           record {
             answer =
-                lacks a_word c.skip_space-place.ensures.skipped (no_word_there c.word_end-end.ensures.ended (omega (arith, c.if-place-end.false)));
+                misses a_word c.skip_space-place.ensures.skipped (no_word_there c.word_end-end.ensures.ended (omega (arith, c.if-place-end.false)))
+                c.misplaced.ensures.place c.misplaced.ensures.cause;
           };
     }

@@ -1,10 +1,7 @@
 -- `tokens::standing::stands` meets its contract. Assumes nothing.
 use native.Mathlib.Omega.{arith}
-use Rattle.tokens.proofs.Eight.{word_told, no_word_told}
+use Rattle.tokens.proofs.Eight.{word_told}
 use Rattle.tokens.proofs.standing.stands.Goals as goal
-
-pub returns-then-text-at-lt8 : goal.returns-then-text-at-lt8
-returns-then-text-at-lt8 c = record { told = no_word_told }
 
 pub returns-then-eight_at-size : goal.returns-then-eight_at-size
 returns-then-eight_at-size c =
@@ -12,6 +9,3 @@ returns-then-eight_at-size c =
       told = word_told c.eight_at.ensures.told (omega (arith, c.if-text-at-lt8.false, c.requires.0)) c.requires.1
           c.if-eight_at-size.true c.is_border.ensures.told;
     }
-
-pub returns : goal.returns
-returns c = record { told = no_word_told }
