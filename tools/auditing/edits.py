@@ -9,8 +9,9 @@ from .sources import Source, sources
 GATE = "docs/GATE.md"
 # Crates whose edits are of rules and statements: any number of them.
 RULES = (CITED, "laws")
-# Any other crate has at most so many, and one whose check takes longer than this has one.
-MOST, SLOW = 2, 20
+# Any other crate has at most so many, one whose check takes longer than SLOW seconds has one, and one whose check takes no longer than
+# QUICK so many more that each new function has an edit of its own, which holds one mistake.
+MOST, SLOW, QUICK, MOST_OF_QUICK = 2, 20, 10, 5
 # Each public function has this many of its own code.
 EACH = 2
 AGAINST = re.compile(r"^# against: (\w+)\s*$", re.M)
@@ -175,11 +176,18 @@ def counted(root, found):
         if count != str(here):
             yield f"{GATE}:{number}", f"{name} has {here} must-fail edits, and not {count}"
     for crate in sorted({edit.crate for edit in found}):
-        here, allowed = sum(edit.crate == crate for edit in found), 1 if seconds.get(crate, 0) > SLOW else MOST
+        here, allowed = sum(edit.crate == crate for edit in found), most_of(seconds.get(crate, 0))
         if crate not in seconds:
             yield GATE, f"its table of crates has no row for {crate}"
         elif crate not in (*RULES, *PUBLIC) and here > allowed:
             yield f"crates/{crate}/must-fail", f"{here} edits, and at most {allowed} where a check takes {seconds[crate]} s"
+
+
+def most_of(seconds):
+    """How many edits a crate may have whose check takes so long."""
+    if seconds > SLOW:
+        return 1
+    return MOST_OF_QUICK if seconds <= QUICK else MOST
 
 
 def worthless(root, there):
