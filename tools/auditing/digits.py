@@ -13,6 +13,8 @@ PATHS = {"crate", "u64", *FILES}
 
 GHOST_USE = re.compile(r"\bghost\s+(?:pub\s+)?use\b[^;]*;")
 DIVIDES = re.compile(r"[/%]=?")
+# A method, or a loop over an iterator, is code of another crate.
+METHOD = re.compile(r"\.\s*(\w+)\s*(?:::<[^()]*>\s*)?\(|\b(for)\b")
 PATH = re.compile(r"(?<!:)\b(\w+)::(?:(\w+)|\{([^{}]*)\})?")
 
 
@@ -31,6 +33,8 @@ def undivided(root):
         code = code_of(source)
         for m in DIVIDES.finditer(code):
             yield source.place(m.start()), f"`{m[0]}` in the number writer, which divides nothing"
+        for m in METHOD.finditer(code):
+            yield source.place(m.start()), f"the number writer calls `{m[1] or m[2]}`, which is not held to have no division"
         for m in PATH.finditer(code):
             for first in [m[1]] if m[1] != "crate" else heads(m[3]) if m[3] else [m[2]]:
                 if first not in PATHS:

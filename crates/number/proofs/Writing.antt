@@ -1,5 +1,5 @@
 -- Writing a part at a place of a buffer, and how `write_digits`, `write_rest` and `store_eight` fill it from the right. Assumes nothing.
-use Prim.Native.Nat.{ℕ, zero, suc, ◌+◌, ◌-◌, ◌*◌, ◌/◌, ◌%◌, ◌^◌, ◌≤◌, ◌<◌}
+use Prim.Native.Nat.{ℕ, zero, suc, ◌+◌, ◌*◌, ◌/◌, ◌%◌, ◌^◌, ◌≤◌, ◌<◌}
 use native.Mathlib.Nat.{add-zero, add-suc, le_refl}
 use native.Mathlib.Numerals.{add-one}
 use native.Mathlib.Omega.{arith}
@@ -8,9 +8,6 @@ use mathlib.Core.List.{[], ◌∷◌, ◌++◌, append_assoc, append-nil}
 use lib.Bits.{bit_and, and_mask}
 use lib.Pow.{shr-shr}
 use lib.ListN.{length, get_or, take, drop, set, length-set, length-append, length-drop, take-append-drop}
-use borrow.Rule.Slice.PartMut.{put_mid}
-use Rattle.std.proofs.lemmas.List.{take_all}
-use Rattle.std.proofs.lemmas.Slice.{put_mid-paste}
 use lib.Seq.{length-take-le, take-suc, take-take, take-append-le, drop_at, set_at}
 use Rattle.definitions.specs.Bytes.{Bytes, bytes}
 use Rattle.definitions.specs.Number.{Number}
@@ -167,74 +164,22 @@ module _ {o : Bytes} {at count x : ℕ} {out : Bytes} {word : ℕ} where
   pub places_end : Placing o at count x out 0 word → (n : ℕ) → Lows count x n → out ≡ written o at (last_digits count n [])
   places_end p n l = filled (p.digits n l).1
 
--- ---- all eight bytes of a word
+-- where each byte is taken from x itself, i bytes up
+module _ {o : Bytes} {at count x : ℕ} {out : Bytes} (fits : at + count ≤ length o) where
+  pub places_next
+      : {left : ℕ} (i : ℕ) → Placing o at count x out (suc left) (x / 2 ^ (8 * i))
+      → Placing o at count x (set out (at + left) (bit_and (x / 2 ^ (8 * i)) 255)) left (x / 2 ^ (8 * suc i))
+  places_next {left} i p =
+      subst (Placing o at count x (set out (at + left) (bit_and (x / 2 ^ (8 * i)) 255)) left) shifted (places_on fits p)
+    where
+      shifted : x / 2 ^ (8 * i) / 2 ^ 8 ≡ x / 2 ^ (8 * suc i)
+      shifted = shr-shr x (8 * i) 8 ∙ ap (λ (s : ℕ). x / 2 ^ s) (let q : 8 * i + 8 ≡ 8 * suc i = omega arith in q)
 
-word_digits
-    : (x n : ℕ) → Lows 8 x n
-    → x / 2 ^ 56 % 256
-    ∷ x / 2 ^ 48 % 256
-    ∷ x / 2 ^ 40 % 256
-    ∷ x / 2 ^ 32 % 256
-    ∷ x / 2 ^ 24 % 256
-    ∷ x / 2 ^ 16 % 256
-    ∷ x / 2 ^ 8 % 256
-    ∷ x % 256
-    ∷ []
-    ≡ last_digits 8 n []
-unfolding last_digits
-word_digits x n l =
-    ap₂ ◌∷◌ (byte s7 l.1.1.1.1.1.1.1.0)
-    (ap₂ ◌∷◌ (byte s6 l.1.1.1.1.1.1.0)
-    (ap₂ ◌∷◌ (byte s5 l.1.1.1.1.1.0)
-    (ap₂ ◌∷◌ (byte s4 l.1.1.1.1.0)
-    (ap₂ ◌∷◌ (byte s3 l.1.1.1.0)
-    (ap₂ ◌∷◌ (byte s2 l.1.1.0)
-    (ap₂ ◌∷◌ l.1.0 (ap₂ ◌∷◌ l.0 refl)))))))
-  where
-    byte : {y z d : ℕ} → y ≡ z → z % 256 ≡ d → y % 256 ≡ d
-    byte e f = ap (λ (k : ℕ). k % 256) e ∙ f
-
-    shifted : (i : ℕ) {y : ℕ} → x / 2 ^ (8 * i) ≡ y → x / 2 ^ (8 * suc i) ≡ y / 256
-    shifted i e =
-        ap (λ (s : ℕ). x / 2 ^ s) (let q : 8 * suc i ≡ 8 * i + 8 = omega arith in q) ∙ sym (shr-shr x (8 * i) 8) ∙ ap (λ (y : ℕ). y / 256) e
-
-    s2 : x / 2 ^ 16 ≡ x / 256 / 256
-    s2 = shifted 1 refl
-
-    s3 : x / 2 ^ 24 ≡ x / 256 / 256 / 256
-    s3 = shifted 2 s2
-
-    s4 : x / 2 ^ 32 ≡ x / 256 / 256 / 256 / 256
-    s4 = shifted 3 s3
-
-    s5 : x / 2 ^ 40 ≡ x / 256 / 256 / 256 / 256 / 256
-    s5 = shifted 4 s4
-
-    s6 : x / 2 ^ 48 ≡ x / 256 / 256 / 256 / 256 / 256 / 256
-    s6 = shifted 5 s5
-
-    s7 : x / 2 ^ 56 ≡ x / 256 / 256 / 256 / 256 / 256 / 256 / 256
-    s7 = shifted 6 s6
-
--- put in place of as many
-pub places_word
-    : (o : Bytes) (at x : ℕ) {w s : Bytes}
-    → w
-    ≡ x / 2 ^ 56 % 256
-    ∷ x / 2 ^ 48 % 256
-    ∷ x / 2 ^ 40 % 256
-    ∷ x / 2 ^ 32 % 256
-    ∷ x / 2 ^ 24 % 256
-    ∷ x / 2 ^ 16 % 256
-    ∷ x / 2 ^ 8 % 256
-    ∷ x % 256
-    ∷ []
-    → s ≡ w → (n : ℕ) → Lows 8 x n → put_mid at (at + 8 - at) o s ≡ written o at (last_digits 8 n [])
-places_word o at x e f n l =
-    let g = f ∙ e ∙ word_digits x n l in
-    let z = length_last 8 n [] in
-    put_mid-paste at (at + 8 - at) o _ (last_digits 8 n []) 8 g (omega arith) (sym z)
-    ∙ ap₂ (λ (s : Bytes) (k : ℕ). take at o ++ s ++ drop (at + k) o) (take_all 8 (last_digits 8 n []) (omega (arith, z))) (sym z)
+  pub places_last
+      : (i n : ℕ) → Placing o at count x out 1 (x / 2 ^ (8 * i)) → Lows count x n
+      → set out at (bit_and (x / 2 ^ (8 * i)) 255) ≡ written o at (last_digits count n [])
+  places_last i n p l =
+      ap (λ (k : ℕ). set out k (bit_and (x / 2 ^ (8 * i)) 255)) (sym (add-zero at)) ∙ places_end (places_next i p) n l
 
 -- ---- digits right before others
 

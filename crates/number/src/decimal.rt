@@ -52,7 +52,7 @@ pub fn whole_length(coefficient: u64, scale: u64) -> usize
 {
     let digits = decimal_length(coefficient);
     let behind = scale as usize;
-    digits.saturating_sub(behind).max(1)
+    if behind < digits { digits - behind } else { 1 }
 }
 
 pub fn minus_length(negative: bool) -> usize

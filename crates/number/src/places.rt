@@ -6,23 +6,33 @@ ghost use Rattle.number.specs.NumberWrite.{written};
 
 use crate::groups::Groups;
 
-// Writes the eight digits of a word, its lowest byte the last: the compiler makes one store of them.
+// Writes the eight digits of a word, its lowest byte the last. The compiler makes one store of them where they are taken from
+// the low end of the word: so the last byte comes first.
 fn store_eight(out: &mut [u8], at: usize, x: u64)
     requires { at + 8 ≤ length out.old }
     ensures { (n : ℕ) → Lows 8 x n → out.new ≡ written out.old at (last_digits 8 n []) }
 {
-    out[at..at + 8].copy_from_slice(&x.to_be_bytes());
+    out[at + 7] = (x & 255) as u8;
+    out[at + 6] = ((x >> 8) & 255) as u8;
+    out[at + 5] = ((x >> 16) & 255) as u8;
+    out[at + 4] = ((x >> 24) & 255) as u8;
+    out[at + 3] = ((x >> 32) & 255) as u8;
+    out[at + 2] = ((x >> 40) & 255) as u8;
+    out[at + 1] = ((x >> 48) & 255) as u8;
+    out[at] = ((x >> 56) & 255) as u8;
 }
 
-// Writes the last digits of a word, so many of them, from the right. Not by `text`'s store: the audit lets the number writer call no other crate.
+// Writes the last digits of a word, so many of them, from the right.
 fn write_rest(out: &mut [u8], at: usize, count: usize, x: u64)
     requires { at + count ≤ length out.old }
     ensures { (n : ℕ) → Lows count x n → out.new ≡ written out.old at (last_digits count n []) }
 {
+    let mut left = count;
     let mut word = x;
-    for i in (0..count).rev() {
-        out[at + i] = (word & 255) as u8;
-        word >>= 8;
+    while 0 < left {
+        left -= 1;
+        out[at + left] = (word & 255) as u8;
+        word = word >> 8;
     }
 }
 

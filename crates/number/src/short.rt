@@ -27,10 +27,12 @@ pub fn write_digits(out: &mut [u8], at: usize, count: usize, value: u64) -> u64
     requires { (value < 10 ^ 8) × (at + count ≤ length out.old) }
     ensures { Writes out.old at (last_digits count value []) out.new (value / 10 ^ count) result }
 {
+    let mut left = count;
     let mut n = value;
-    for i in (0..count).rev() {
+    while 0 < left {
+        left -= 1;
         let q = over_1(n);
-        out[at + i] = last_digit(n, q);
+        out[at + left] = last_digit(n, q);
         n = q;
     }
     n
