@@ -142,6 +142,10 @@ abbrev pub TellsLiteral : (code operand payload kinds : ℕ) → Type 0
 TellsLiteral code operand payload kinds =
     (p : List ℕ) (v : Value) → 9 ≤ code → code ≡ literal_code v → operand ≡ number_bits v → LiteralPayload p v payload → kind_bits (shape_of v) ≡ kinds
 
+-- the refusal of a place becomes that of a result
+abbrev pub PassesUp : Located → Checked → Type 0
+PassesUp l x = (why : Refusal) → l ≡ Err why → x ≡ Err why
+
 -- ---- forms without results inside
 
 pub data Simple : Result → Type 0 where

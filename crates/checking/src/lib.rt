@@ -29,12 +29,18 @@ fn check_each(
     ensures checked { GivesForm forms.now shapes.now pool.now bindings.old bindings.new
         row bound result }
 {
-    let found = places::locate(forms, row + 3, shapes, pool, bindings)?;
-    bindings::bind_element(bindings, bound, shapes, found);
+    let found = places::locate(forms, row + 3, shapes, pool, bindings);
+    let Ok(of) = found else {
+        return simple::refusal(found);
+    };
+    bindings::bind_element(bindings, bound, shapes, of);
     let body = row + 3 + forms::size(forms, row + 3);
-    check_form(forms, body, shapes, pool, bindings, bound + 1)?;
+    let part = check_form(forms, body, shapes, pool, bindings, bound + 1);
+    let Ok(_) = part else {
+        return part;
+    };
     let place = forms::place(forms, row);
-    simple::want(found.kinds, kinds::LISTS, Shape::LIST, place)
+    simple::want(of.kinds, kinds::LISTS, Shape::LIST, place)
 }
 
 // Checks `when`: its place, then each result with what K leaves of the place bound.
@@ -53,30 +59,25 @@ fn check_when(
     ensures checked { GivesForm forms.now shapes.now pool.now bindings.old bindings.new
         row bound result }
 {
-    let found = places::locate(forms, row + 3, shapes, pool, bindings)?;
+    let found = places::locate(forms, row + 3, shapes, pool, bindings);
+    let Ok(of) = found else {
+        return simple::refusal(found);
+    };
     let test = forms::operand(forms, row);
     let first = row + 3 + forms::size(forms, row + 3);
-    let cut = kinds::cut(found.kinds, test);
-    bindings::bind(
-        bindings,
-        bound,
-        Binding {
-            kinds: cut,
-            ..found
-        },
-    );
-    let a = check_form(forms, first, shapes, pool, bindings, bound + 1)?;
+    let cut = kinds::cut(of.kinds, test);
+    bindings::bind(bindings, bound, Binding { kinds: cut, ..of });
+    let part = check_form(forms, first, shapes, pool, bindings, bound + 1);
+    let Ok(a) = part else {
+        return part;
+    };
     let second = first + forms::size(forms, first);
-    let rest = kinds::taken_out(found.kinds, test);
-    bindings::bind(
-        bindings,
-        bound,
-        Binding {
-            kinds: rest,
-            ..found
-        },
-    );
-    let b = check_form(forms, second, shapes, pool, bindings, bound + 1)?;
+    let rest = kinds::taken_out(of.kinds, test);
+    bindings::bind(bindings, bound, Binding { kinds: rest, ..of });
+    let part = check_form(forms, second, shapes, pool, bindings, bound + 1);
+    let Ok(b) = part else {
+        return part;
+    };
     Ok(a.union(b))
 }
 
@@ -96,11 +97,20 @@ fn check_if(
     ensures checked { GivesForm forms.now shapes.now pool.now bindings.old bindings.new
         row bound result }
 {
-    let a = check_form(forms, row + 3, shapes, pool, bindings, bound)?;
+    let part = check_form(forms, row + 3, shapes, pool, bindings, bound);
+    let Ok(a) = part else {
+        return part;
+    };
     let second = row + 3 + forms::size(forms, row + 3);
-    let b = check_form(forms, second, shapes, pool, bindings, bound)?;
+    let part = check_form(forms, second, shapes, pool, bindings, bound);
+    let Ok(b) = part else {
+        return part;
+    };
     let third = second + forms::size(forms, second);
-    let c = check_form(forms, third, shapes, pool, bindings, bound)?;
+    let part = check_form(forms, third, shapes, pool, bindings, bound);
+    let Ok(c) = part else {
+        return part;
+    };
     let place = forms::place(forms, row);
     simple::want(a, Shape::BOOL, b.union(c), place)
 }
@@ -124,7 +134,10 @@ fn check_pack(
     let end = row + forms::size(forms, row);
     let mut i = row + 3;
     while i < end {
-        check_form(forms, i, shapes, pool, bindings, bound)?;
+        let part = check_form(forms, i, shapes, pool, bindings, bound);
+        let Ok(_) = part else {
+            return part;
+        };
         i += forms::size(forms, i); // a row tells where the next begins
     }
     Ok(Shape::REC)

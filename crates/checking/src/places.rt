@@ -56,6 +56,9 @@ pub fn locate(
     if forms::code(forms, row) == forms::IT {
         return Ok(bindings::bound(bindings, operand as usize));
     }
-    let of = locate(forms, row + 3, shapes, pool, bindings)?;
+    let part = locate(forms, row + 3, shapes, pool, bindings);
+    let Ok(of) = part else {
+        return part;
+    };
     member(shapes, of, pool, operand, forms::place(forms, row))
 }

@@ -1,10 +1,21 @@
 // Forms without results inside: what they want of their place, and what they give.
 ghost use Rattle.std.specs.Prelude.{◌≡◌, ◌%◌, ◌<◌, get_or};
-ghost use Rattle.checking.specs.CheckContracts.{TellsWant, TellsConversion, TellsLiteral, SimpleAsked, GivesSimple};
+ghost use Rattle.checking.specs.CheckContracts.{TellsWant, TellsConversion, TellsLiteral, PassesUp, SimpleAsked, GivesSimple};
 
+use crate::bindings::Binding;
 use crate::{kinds, places};
 use reading::{Cause, Refusal};
 use shapes::Shape;
+
+// The refusal of a place.
+pub fn refusal(found: Result<Binding, Refusal>) -> Result<Shape, Refusal>
+    ensures passed { PassesUp found result }
+{
+    match found {
+        Ok(of) => Ok(of.kinds),
+        Err(why) => Err(why),
+    }
+}
 
 // What a form gives where the kinds are among those that it wants; else refusal 9 at its place.
 pub fn want(kinds: Shape, wanted: Shape, given: Shape, place: usize) -> Result<Shape, Refusal>
@@ -58,16 +69,19 @@ fn check_place(
     requires placed { code < 9 }
     ensures checked { GivesSimple forms.now shapes.now pool.now bindings.now row result }
 {
-    let found = places::locate(forms, row + 3, shapes, pool, bindings)?;
+    let found = places::locate(forms, row + 3, shapes, pool, bindings);
+    let Ok(of) = found else {
+        return refusal(found);
+    };
     let place = forms::place(forms, row);
     if code == forms::KEEP {
-        return Ok(found.kinds);
+        return Ok(of.kinds);
     }
     if code == forms::COUNT {
-        return want(found.kinds, kinds::LISTS, Shape::INT, place);
+        return want(of.kinds, kinds::LISTS, Shape::INT, place);
     }
     let converted = conversion_kinds(code);
-    want(found.kinds, converted, converted, place)
+    want(of.kinds, converted, converted, place)
 }
 
 // Checks a form that has no results inside.

@@ -50,7 +50,10 @@ pub fn run_place(t: &Tables, row: usize, bindings: &[u64], steps: usize) -> Resu
             steps: steps + 1,
         });
     }
-    let inner = run_place(t, row + 3, bindings, steps + 1)?;
+    let part = run_place(t, row + 3, bindings, steps + 1);
+    let Ok(inner) = part else {
+        return part;
+    };
     let kind = nodes::row_kind(t.nodes, inner.row);
     if kind == nodes::NULL {
         return Ok(inner); // on null it reads null
@@ -73,7 +76,10 @@ pub fn run_operand(t: &Tables, bindings: &[u64], c: Cursor, steps: usize) -> Res
     ensures seen { SeesOperand t.now.forms.now t.now.nodes.now t.now.pool.now bindings.now t.now.limit c.row
         c.bound steps result }
 {
-    let found = run_place(t, c.row + 3, bindings, steps)?;
+    let part = run_place(t, c.row + 3, bindings, steps);
+    let Ok(found) = part else {
+        return part;
+    };
     if is_wanted(t.nodes, found.row, forms::code(t.forms, c.row)) {
         return Ok(found);
     }

@@ -1,8 +1,7 @@
 -- `checking::+check_each_check_form_check_if_check_pack_check_when` meets its contract. Assumes nothing.
 use native.Mathlib.Omega.{arith}
 use Prim.Native.Nat.{◌+◌}
-use mathlib.Core.Path.{sym, ap, ◌∙◌}
-use Rattle.reading.proofs.Passed.{passed}
+use mathlib.Core.Path.{sym, ap, subst, ◌∙◌}
 use Rattle.checking.specs.CheckContracts.{GivesForm}
 use Rattle.checking.proofs.FormWalk.{form_within}
 use Rattle.checking.proofs.EachWalk as each
@@ -19,18 +18,18 @@ pub check_each-overflow_add-row : goal.check_each-overflow_add-row
 check_each-overflow_add-row t c =
     omega (arith, form_within c.requires.form_asked, c.well_formed)
 
-pub check_each-locate-requires : goal.check_each-locate-requires
-check_each-locate-requires t c =
+pub check_each-locate-found-requires : goal.check_each-locate-found-requires
+check_each-locate-found-requires t c =
     each.each_place_asked c.args.forms.now c.args.shapes.now c.args.pool.now c.args.bindings.now
     c.args.row c.args.bound c.requires.each c.requires.form_asked
 
-pub check_each-returns-in_err-found : goal.check_each-returns-in_err-found
-check_each-returns-in_err-found t c =
+pub check_each-returns-in_default : goal.check_each-returns-in_default
+check_each-returns-in_default t c =
     record {
-      checked = passed (GivesForm c.args.forms.now c.args.shapes.now c.args.pool.now c.args.bindings.now c.args.bindings.now c.args.row c.args.bound)
-          c.from_residual.ensures
+      checked = subst (GivesForm c.args.forms.now c.args.shapes.now c.args.pool.now c.args.bindings.now c.args.bindings.now c.args.row c.args.bound)
+          (sym (c.refusal.ensures.passed _ c.in_default.is))
           (each.each_refused c.args.forms.now c.args.shapes.now c.args.pool.now c.args.bindings.now
-          c.args.row c.args.bound c.requires.each c.locate.result c.locate.ensures.found c.in_err-found.was);
+          c.args.row c.args.bound c.requires.each c.locate-found.result c.locate-found.ensures.found c.in_default.is);
     }
 
 pub check_each-bind_element-requires : goal.check_each-bind_element-requires
@@ -40,8 +39,8 @@ check_each-bind_element-requires t c =
           c.args.bindings.now c.args.row
           c.args.bound c.requires.each c.requires.form_asked).2;
       there = each.list_bound c.args.forms.now c.args.shapes.now c.args.pool.now c.args.bindings.now
-          c.args.row c.args.bound c.requires.each c.locate.result c.locate.ensures.found
-          c.in_ok-found.was c.requires.form_asked;
+          c.args.row c.args.bound c.requires.each c.locate-found.result c.locate-found.ensures.found
+          c.in-Ok.is c.requires.form_asked;
       small = c.requires.small;
     }
 
@@ -65,43 +64,43 @@ check_each-overflow_add-bound t c =
     c.args.row c.args.bound c.requires.each c.requires.form_asked in
     omega (arith, e.2, c.well_formed)
 
-pub check_each-check_form-requires : goal.check_each-check_form-requires
-check_each-check_form-requires t c =
+pub check_each-check_form-part-requires : goal.check_each-check_form-part-requires
+check_each-check_form-part-requires t c =
     let e = each.each_ends c.args.forms.now c.args.shapes.now c.args.pool.now c.args.bindings.now
     c.args.row c.args.bound c.requires.each c.requires.form_asked in (
       omega (arith, e.0, e.1, c.size.ensures.read, c.decreases),
       (
         each.body_asked c.args.forms.now c.args.shapes.now c.args.pool.now c.args.bindings.now
-            c.args.row c.args.bound c.requires.each c.locate.result c.locate.ensures.found
-            c.in_ok-found.was c.bind_element.new.bindings
+            c.args.row c.args.bound c.requires.each c.locate-found.result c.locate-found.ensures.found
+            c.in-Ok.is c.bind_element.new.bindings
             c.bind_element.ensures.element
             (ap (λ (x : ℕ). c.args.row + 3 + x) c.size.ensures.read) c.requires.form_asked,
         c.requires.small,
       ),
     )
 
-pub check_each-returns-in_err-check_form : goal.check_each-returns-in_err-check_form
-check_each-returns-in_err-check_form t c =
+pub check_each-returns-in_default-part : goal.check_each-returns-in_default-part
+check_each-returns-in_default-part t c =
     record {
-      checked = passed (GivesForm c.args.forms.now c.args.shapes.now c.args.pool.now c.args.bindings.now c.check_form.new.bindings c.args.row c.args.bound)
-          c.from_residual-in_err-check_form.ensures
+      checked = subst (GivesForm c.args.forms.now c.args.shapes.now c.args.pool.now c.args.bindings.now c.check_form-part.new.bindings c.args.row c.args.bound)
+          (sym c.in_default-part.is)
           (each.body_refused c.args.forms.now c.args.shapes.now c.args.pool.now c.args.bindings.now
-          c.args.row c.args.bound c.requires.each c.locate.result c.locate.ensures.found
-          c.in_ok-found.was c.bind_element.new.bindings c.bind_element.ensures.element
+          c.args.row c.args.bound c.requires.each c.locate-found.result c.locate-found.ensures.found
+          c.in-Ok.is c.bind_element.new.bindings c.bind_element.ensures.element
           (ap (λ (x : ℕ). c.args.row + 3 + x) c.size.ensures.read) c.requires.form_asked
-          c.check_form.new.bindings c.check_form.result c.check_form.ensures.checked
-          c.in_err-check_form.was);
+          c.check_form-part.new.bindings c.check_form-part.result c.check_form-part.ensures.checked
+          c.in_default-part.is);
     }
 
 pub check_each-returns : goal.check_each-returns
 check_each-returns t c =
     record {
       checked = each.each_told c.args.forms.now c.args.shapes.now c.args.pool.now c.args.bindings.now c.args.row
-          c.args.bound c.requires.each c.locate.result c.locate.ensures.found
-          c.in_ok-found.was c.bind_element.new.bindings c.bind_element.ensures.element
+          c.args.bound c.requires.each c.locate-found.result c.locate-found.ensures.found
+          c.in-Ok.is c.bind_element.new.bindings c.bind_element.ensures.element
           (ap (λ (x : ℕ). c.args.row + 3 + x) c.size.ensures.read) c.requires.form_asked
-          c.check_form.new.bindings c.check_form.result c.check_form.ensures.checked
-          c.in_ok-check_form.was c.place-place.ensures.read c.want.result c.want.ensures.told;
+          c.check_form-part.new.bindings c.check_form-part.result c.check_form-part.ensures.checked
+          c.in-Ok-part.is c.place-place.ensures.read c.want.result c.want.ensures.told;
     }
 
 pub check_form-check_each-requires : goal.check_form-check_each-requires
@@ -138,8 +137,8 @@ pub check_if-overflow_add-row : goal.check_if-overflow_add-row
 check_if-overflow_add-row t c =
     omega (arith, form_within c.requires.form_asked, c.well_formed)
 
-pub check_if-check_form-requires : goal.check_if-check_form-requires
-check_if-check_form-requires t c = (
+pub check_if-check_form-part-requires : goal.check_if-check_form-part-requires
+check_if-check_form-part-requires t c = (
   omega (arith, form_within c.requires.form_asked, c.decreases),
   (
     choose.first_asked c.args.forms.now c.args.shapes.now c.args.pool.now c.args.bindings.now
@@ -148,14 +147,14 @@ check_if-check_form-requires t c = (
   ),
 )
 
-pub check_if-returns-in_err-a : goal.check_if-returns-in_err-a
-check_if-returns-in_err-a t c =
+pub check_if-returns-in_default : goal.check_if-returns-in_default
+check_if-returns-in_default t c =
     record {
-      checked = passed (GivesForm c.args.forms.now c.args.shapes.now c.args.pool.now c.args.bindings.now c.check_form.new.bindings c.args.row c.args.bound)
-          c.from_residual.ensures
+      checked = subst (GivesForm c.args.forms.now c.args.shapes.now c.args.pool.now c.args.bindings.now c.check_form-part.new.bindings c.args.row c.args.bound)
+          (sym c.in_default.is)
           (choose.first_refused c.args.forms.now c.args.shapes.now c.args.pool.now c.args.bindings.now
-          c.args.row c.args.bound c.requires.choose c.requires.form_asked c.check_form.new.bindings
-          c.check_form.result c.check_form.ensures.checked c.in_err-a.was);
+          c.args.row c.args.bound c.requires.choose c.requires.form_asked c.check_form-part.new.bindings
+          c.check_form-part.result c.check_form-part.ensures.checked c.in_default.is);
     }
 
 pub check_if-overflow_add-second : goal.check_if-overflow_add-second
@@ -172,30 +171,31 @@ check_if-overflow_add-second-2 t c =
     c.args.row c.args.bound c.requires.choose c.requires.form_asked in
     omega (arith, e.0, c.size.ensures.read, c.well_formed)
 
-pub check_if-check_form-requires-2 : goal.check_if-check_form-requires-2
-check_if-check_form-requires-2 t c =
+pub check_if-check_form-part-requires-2 : goal.check_if-check_form-part-requires-2
+check_if-check_form-part-requires-2 t c =
     let e = choose.choose_ends c.args.forms.now c.args.shapes.now c.args.pool.now c.args.bindings.now
     c.args.row c.args.bound c.requires.choose c.requires.form_asked in (
       omega (arith, e.0, c.size.ensures.read, c.decreases),
       (
         choose.second_asked c.args.forms.now c.args.shapes.now c.args.pool.now c.args.bindings.now
-            c.args.row c.args.bound c.requires.choose c.requires.form_asked c.check_form.new.bindings
-            c.check_form.result c.check_form.ensures.checked c.in_ok-a.was
+            c.args.row c.args.bound c.requires.choose c.requires.form_asked c.check_form-part.new.bindings
+            c.check_form-part.result c.check_form-part.ensures.checked c.in-Ok.is
             (ap (λ (x : ℕ). c.args.row + 3 + x) c.size.ensures.read),
         c.requires.small,
       ),
     )
 
-pub check_if-returns-in_err-b : goal.check_if-returns-in_err-b
-check_if-returns-in_err-b t c =
+pub check_if-returns-in_default-part : goal.check_if-returns-in_default-part
+check_if-returns-in_default-part t c =
     record {
-      checked = passed (GivesForm c.args.forms.now c.args.shapes.now c.args.pool.now c.args.bindings.now c.check_form-2.new.bindings c.args.row c.args.bound)
-          c.from_residual-in_err-b.ensures
+      checked = subst (GivesForm c.args.forms.now c.args.shapes.now c.args.pool.now c.args.bindings.now c.check_form-part-2.new.bindings
+          c.args.row c.args.bound)
+          (sym c.in_default-part.is)
           (choose.second_refused c.args.forms.now c.args.shapes.now c.args.pool.now c.args.bindings.now
-          c.args.row c.args.bound c.requires.choose c.requires.form_asked c.check_form.new.bindings
-          c.check_form.result c.check_form.ensures.checked c.in_ok-a.was
-          (ap (λ (x : ℕ). c.args.row + 3 + x) c.size.ensures.read) c.check_form-2.new.bindings
-          c.check_form-2.result c.check_form-2.ensures.checked c.in_err-b.was);
+          c.args.row c.args.bound c.requires.choose c.requires.form_asked c.check_form-part.new.bindings
+          c.check_form-part.result c.check_form-part.ensures.checked c.in-Ok.is
+          (ap (λ (x : ℕ). c.args.row + 3 + x) c.size.ensures.read) c.check_form-part-2.new.bindings
+          c.check_form-part-2.result c.check_form-part-2.ensures.checked c.in_default-part.is);
     }
 
 pub check_if-overflow_add-third : goal.check_if-overflow_add-third
@@ -206,8 +206,8 @@ check_if-overflow_add-third t c =
     ∙ ap (λ (x : ℕ). x + size_at c.args.forms.now x) (ap (λ (x : ℕ). c.args.row + 3 + x) c.size.ensures.read)) in
     omega (arith, e.1, third, c.well_formed)
 
-pub check_if-check_form-requires-3 : goal.check_if-check_form-requires-3
-check_if-check_form-requires-3 t c =
+pub check_if-check_form-part-requires-3 : goal.check_if-check_form-part-requires-3
+check_if-check_form-part-requires-3 t c =
     let e = choose.choose_ends c.args.forms.now c.args.shapes.now c.args.pool.now c.args.bindings.now
     c.args.row c.args.bound c.requires.choose c.requires.form_asked in
     let third = (ap (λ (x : ℕ). c.args.row + 3 + c.size.result + x) c.size-2.ensures.read
@@ -215,44 +215,45 @@ check_if-check_form-requires-3 t c =
       omega (arith, e.1, third, c.decreases),
       (
         choose.third_asked c.args.forms.now c.args.shapes.now c.args.pool.now c.args.bindings.now
-            c.args.row c.args.bound c.requires.choose c.requires.form_asked c.check_form.new.bindings
-            c.check_form.result c.check_form.ensures.checked c.in_ok-a.was
-            (ap (λ (x : ℕ). c.args.row + 3 + x) c.size.ensures.read) c.check_form-2.new.bindings
-            c.check_form-2.result c.check_form-2.ensures.checked c.in_ok-b.was
+            c.args.row c.args.bound c.requires.choose c.requires.form_asked c.check_form-part.new.bindings
+            c.check_form-part.result c.check_form-part.ensures.checked c.in-Ok.is
+            (ap (λ (x : ℕ). c.args.row + 3 + x) c.size.ensures.read) c.check_form-part-2.new.bindings
+            c.check_form-part-2.result c.check_form-part-2.ensures.checked c.in-Ok-part.is
             (ap (λ (x : ℕ). c.args.row + 3 + c.size.result + x) c.size-2.ensures.read
             ∙ ap (λ (x : ℕ). x + size_at c.args.forms.now x) (ap (λ (x : ℕ). c.args.row + 3 + x) c.size.ensures.read)),
         c.requires.small,
       ),
     )
 
-pub check_if-returns-in_err-c : goal.check_if-returns-in_err-c
-check_if-returns-in_err-c t c =
+pub check_if-returns-in_default-part-2 : goal.check_if-returns-in_default-part-2
+check_if-returns-in_default-part-2 t c =
     record {
-      checked = passed (GivesForm c.args.forms.now c.args.shapes.now c.args.pool.now c.args.bindings.now c.check_form-3.new.bindings c.args.row c.args.bound)
-          c.from_residual-in_err-c.ensures
+      checked = subst (GivesForm c.args.forms.now c.args.shapes.now c.args.pool.now c.args.bindings.now c.check_form-part-3.new.bindings
+          c.args.row c.args.bound)
+          (sym c.in_default-part-2.is)
           (choose.third_refused c.args.forms.now c.args.shapes.now c.args.pool.now c.args.bindings.now
-          c.args.row c.args.bound c.requires.choose c.requires.form_asked c.check_form.new.bindings
-          c.check_form.result c.check_form.ensures.checked c.in_ok-a.was
-          (ap (λ (x : ℕ). c.args.row + 3 + x) c.size.ensures.read) c.check_form-2.new.bindings
-          c.check_form-2.result c.check_form-2.ensures.checked c.in_ok-b.was
+          c.args.row c.args.bound c.requires.choose c.requires.form_asked c.check_form-part.new.bindings
+          c.check_form-part.result c.check_form-part.ensures.checked c.in-Ok.is
+          (ap (λ (x : ℕ). c.args.row + 3 + x) c.size.ensures.read) c.check_form-part-2.new.bindings
+          c.check_form-part-2.result c.check_form-part-2.ensures.checked c.in-Ok-part.is
           (ap (λ (x : ℕ). c.args.row + 3 + c.size.result + x) c.size-2.ensures.read
           ∙ ap (λ (x : ℕ). x + size_at c.args.forms.now x) (ap (λ (x : ℕ). c.args.row + 3 + x) c.size.ensures.read))
-          c.check_form-3.new.bindings c.check_form-3.result c.check_form-3.ensures.checked
-          c.in_err-c.was);
+          c.check_form-part-3.new.bindings c.check_form-part-3.result c.check_form-part-3.ensures.checked
+          c.in_default-part-2.is);
     }
 
 pub check_if-returns : goal.check_if-returns
 check_if-returns t c =
     record {
       checked = choose.choose_told c.args.forms.now c.args.shapes.now c.args.pool.now c.args.bindings.now
-          c.args.row c.args.bound c.requires.choose c.requires.form_asked c.check_form.new.bindings
-          c.check_form.result c.check_form.ensures.checked c.in_ok-a.was
-          (ap (λ (x : ℕ). c.args.row + 3 + x) c.size.ensures.read) c.check_form-2.new.bindings
-          c.check_form-2.result c.check_form-2.ensures.checked c.in_ok-b.was
+          c.args.row c.args.bound c.requires.choose c.requires.form_asked c.check_form-part.new.bindings
+          c.check_form-part.result c.check_form-part.ensures.checked c.in-Ok.is
+          (ap (λ (x : ℕ). c.args.row + 3 + x) c.size.ensures.read) c.check_form-part-2.new.bindings
+          c.check_form-part-2.result c.check_form-part-2.ensures.checked c.in-Ok-part.is
           (ap (λ (x : ℕ). c.args.row + 3 + c.size.result + x) c.size-2.ensures.read
           ∙ ap (λ (x : ℕ). x + size_at c.args.forms.now x) (ap (λ (x : ℕ). c.args.row + 3 + x) c.size.ensures.read))
-          c.check_form-3.new.bindings c.check_form-3.result c.check_form-3.ensures.checked
-          c.in_ok-c.was c.place-place.ensures.read c.want.result c.union.ensures.made c.want.ensures.told;
+          c.check_form-part-3.new.bindings c.check_form-part-3.result c.check_form-part-3.ensures.checked
+          c.in-Ok-part-2.is c.place-place.ensures.read c.want.result c.union.ensures.made c.want.ensures.told;
     }
 
 pub check_pack-overflow_add-end : goal.check_pack-overflow_add-end
@@ -270,8 +271,8 @@ check_pack-loop-i-init t c =
     pack.pack_begins c.args.forms.now c.args.shapes.now c.args.pool.now c.args.bindings.now
     c.args.row c.args.bound c.requires.pack c.size.ensures.read c.requires.form_asked
 
-pub check_pack-check_form-requires : goal.check_pack-check_form-requires
-check_pack-check_form-requires t c = (
+pub check_pack-check_form-part-requires : goal.check_pack-check_form-part-requires
+check_pack-check_form-part-requires t c = (
   omega (arith, c.loop-i.invariant.behind, c.decreases, c.loop-i-test.true, form_within c.requires.form_asked),
   (
     pack.part_asked c.args.forms.now c.args.shapes.now c.args.pool.now c.args.bindings.now
@@ -282,15 +283,15 @@ check_pack-check_form-requires t c = (
   ),
 )
 
-pub check_pack-returns-in_err-check_form : goal.check_pack-returns-in_err-check_form
-check_pack-returns-in_err-check_form t c =
+pub check_pack-returns-in_default : goal.check_pack-returns-in_default
+check_pack-returns-in_default t c =
     record {
-      checked = passed (GivesForm c.args.forms.now c.args.shapes.now c.args.pool.now c.args.bindings.now c.check_form.new.bindings c.args.row c.args.bound)
-          c.from_residual.ensures
+      checked = subst (GivesForm c.args.forms.now c.args.shapes.now c.args.pool.now c.args.bindings.now c.check_form-part.new.bindings c.args.row c.args.bound)
+          (sym c.in_default.is)
           (pack.pack_refused c.args.forms.now c.args.shapes.now c.args.pool.now c.args.bindings.now
           c.args.row c.args.bound c.requires.pack c.size.ensures.read c.requires.form_asked c.loop-i.bindings
-          c.loop-i.i c.loop-i.invariant c.loop-i-test.true c.check_form.new.bindings
-          c.check_form.result c.check_form.ensures.checked c.in_err-check_form.was);
+          c.loop-i.i c.loop-i.invariant c.loop-i-test.true c.check_form-part.new.bindings
+          c.check_form-part.result c.check_form-part.ensures.checked c.in_default.is);
     }
 
 pub check_pack-overflow_add-i-in-loop-i : goal.check_pack-overflow_add-i-in-loop-i
@@ -313,8 +314,8 @@ pub check_pack-loop-i-preserved : goal.check_pack-loop-i-preserved
 check_pack-loop-i-preserved t c =
     pack.pack_next c.args.forms.now c.args.shapes.now c.args.pool.now c.args.bindings.now c.args.row
     c.args.bound c.requires.pack c.size.ensures.read c.requires.form_asked c.loop-i.bindings c.loop-i.i
-    c.loop-i.invariant c.loop-i-test.true c.check_form.new.bindings
-    c.check_form.result c.check_form.ensures.checked c.in_ok-check_form.was c.size-i.ensures.read
+    c.loop-i.invariant c.loop-i-test.true c.check_form-part.new.bindings
+    c.check_form-part.result c.check_form-part.ensures.checked c.in-Ok.is c.size-i.ensures.read
 
 pub check_pack-returns : goal.check_pack-returns
 check_pack-returns t c =
@@ -328,18 +329,18 @@ pub check_when-overflow_add-row : goal.check_when-overflow_add-row
 check_when-overflow_add-row t c =
     omega (arith, form_within c.requires.form_asked, c.well_formed)
 
-pub check_when-locate-requires : goal.check_when-locate-requires
-check_when-locate-requires t c =
+pub check_when-locate-found-requires : goal.check_when-locate-found-requires
+check_when-locate-found-requires t c =
     when.when_place_asked c.args.forms.now c.args.shapes.now c.args.pool.now c.args.bindings.now
     c.args.row c.args.bound c.requires.when c.requires.form_asked
 
-pub check_when-returns-in_err-found : goal.check_when-returns-in_err-found
-check_when-returns-in_err-found t c =
+pub check_when-returns-in_default : goal.check_when-returns-in_default
+check_when-returns-in_default t c =
     record {
-      checked = passed (GivesForm c.args.forms.now c.args.shapes.now c.args.pool.now c.args.bindings.now c.args.bindings.now c.args.row c.args.bound)
-          c.from_residual.ensures
+      checked = subst (GivesForm c.args.forms.now c.args.shapes.now c.args.pool.now c.args.bindings.now c.args.bindings.now c.args.row c.args.bound)
+          (sym (c.refusal.ensures.passed _ c.in_default.is))
           (when.when_refused c.args.forms.now c.args.shapes.now c.args.pool.now c.args.bindings.now
-          c.args.row c.args.bound c.requires.when c.locate.result c.locate.ensures.found c.in_err-found.was);
+          c.args.row c.args.bound c.requires.when c.locate-found.result c.locate-found.ensures.found c.in_default.is);
     }
 
 pub check_when-overflow_add-first : goal.check_when-overflow_add-first
@@ -361,11 +362,11 @@ check_when-bind-requires t c =
     let e = when.when_ends c.args.forms.now c.args.shapes.now c.args.pool.now c.args.bindings.now
     c.args.row c.args.bound c.requires.when c.requires.form_asked in
     let there = when.row_there c.args.forms.now c.args.shapes.now c.args.pool.now c.args.bindings.now
-    c.args.row c.args.bound c.requires.when c.locate.result c.locate.ensures.found
-    c.in_ok-found.was c.operand-test.ensures.read c.requires.form_asked in
+    c.args.row c.args.bound c.requires.when c.locate-found.result c.locate-found.ensures.found
+    c.in-Ok.is c.operand-test.ensures.read c.requires.form_asked in
     let few = when.few_cut c.args.forms.now c.args.shapes.now c.args.pool.now c.args.bindings.now
-    c.args.row c.args.bound c.requires.when c.locate.result c.locate.ensures.found
-    c.in_ok-found.was c.operand-test.ensures.read c.cut-cut.result.kinds c.cut-cut.ensures.told c.requires.form_asked in
+    c.args.row c.args.bound c.requires.when c.locate-found.result c.locate-found.ensures.found
+    c.in-Ok.is c.operand-test.ensures.read c.cut-cut.result.kinds c.cut-cut.ensures.told c.requires.form_asked in
     record { slot_in_bounds = e.2; fits = omega (arith, there, few, c.requires.small) }
 
 pub check_when-overflow_add-bound : goal.check_when-overflow_add-bound
@@ -374,32 +375,32 @@ check_when-overflow_add-bound t c =
     c.args.row c.args.bound c.requires.when c.requires.form_asked in
     omega (arith, e.2, c.well_formed)
 
-pub check_when-check_form-requires : goal.check_when-check_form-requires
-check_when-check_form-requires t c =
+pub check_when-check_form-part-requires : goal.check_when-check_form-part-requires
+check_when-check_form-part-requires t c =
     let e = when.when_ends c.args.forms.now c.args.shapes.now c.args.pool.now c.args.bindings.now
     c.args.row c.args.bound c.requires.when c.requires.form_asked in (
       omega (arith, e.0, c.size.ensures.read, c.decreases),
       (
         when.first_asked c.args.forms.now c.args.shapes.now c.args.pool.now c.args.bindings.now
-            c.args.row c.args.bound c.requires.when c.locate.result c.locate.ensures.found
-            c.in_ok-found.was c.operand-test.ensures.read c.requires.form_asked c.cut-cut.result.kinds
+            c.args.row c.args.bound c.requires.when c.locate-found.result c.locate-found.ensures.found
+            c.in-Ok.is c.operand-test.ensures.read c.requires.form_asked c.cut-cut.result.kinds
             c.cut-cut.ensures.told c.bind.new.bindings c.bind.ensures.put
             (ap (λ (x : ℕ). c.args.row + 3 + x) c.size.ensures.read),
         c.requires.small,
       ),
     )
 
-pub check_when-returns-in_err-a : goal.check_when-returns-in_err-a
-check_when-returns-in_err-a t c =
+pub check_when-returns-in_default-part : goal.check_when-returns-in_default-part
+check_when-returns-in_default-part t c =
     record {
-      checked = passed (GivesForm c.args.forms.now c.args.shapes.now c.args.pool.now c.args.bindings.now c.check_form.new.bindings c.args.row c.args.bound)
-          c.from_residual-in_err-a.ensures
+      checked = subst (GivesForm c.args.forms.now c.args.shapes.now c.args.pool.now c.args.bindings.now c.check_form-part.new.bindings c.args.row c.args.bound)
+          (sym c.in_default-part.is)
           (when.first_refused c.args.forms.now c.args.shapes.now c.args.pool.now c.args.bindings.now
-          c.args.row c.args.bound c.requires.when c.locate.result c.locate.ensures.found
-          c.in_ok-found.was c.operand-test.ensures.read c.requires.form_asked c.cut-cut.result.kinds
+          c.args.row c.args.bound c.requires.when c.locate-found.result c.locate-found.ensures.found
+          c.in-Ok.is c.operand-test.ensures.read c.requires.form_asked c.cut-cut.result.kinds
           c.cut-cut.ensures.told c.bind.new.bindings c.bind.ensures.put
-          (ap (λ (x : ℕ). c.args.row + 3 + x) c.size.ensures.read) c.check_form.new.bindings
-          c.check_form.result c.check_form.ensures.checked c.in_err-a.was);
+          (ap (λ (x : ℕ). c.args.row + 3 + x) c.size.ensures.read) c.check_form-part.new.bindings
+          c.check_form-part.result c.check_form-part.ensures.checked c.in_default-part.is);
     }
 
 pub check_when-overflow_add-second : goal.check_when-overflow_add-second
@@ -418,17 +419,17 @@ check_when-bind-requires-2 t c =
     let e = when.when_ends c.args.forms.now c.args.shapes.now c.args.pool.now c.args.bindings.now
     c.args.row c.args.bound c.requires.when c.requires.form_asked in
     let there = when.row_there c.args.forms.now c.args.shapes.now c.args.pool.now c.args.bindings.now
-    c.args.row c.args.bound c.requires.when c.locate.result c.locate.ensures.found
-    c.in_ok-found.was c.operand-test.ensures.read c.requires.form_asked in
+    c.args.row c.args.bound c.requires.when c.locate-found.result c.locate-found.ensures.found
+    c.in-Ok.is c.operand-test.ensures.read c.requires.form_asked in
     let few = when.few_out c.args.forms.now c.args.shapes.now c.args.pool.now c.args.bindings.now
-    c.args.row c.args.bound c.requires.when c.locate.result c.locate.ensures.found
-    c.in_ok-found.was c.operand-test.ensures.read c.taken_out-rest.result.kinds c.taken_out-rest.ensures.told c.requires.form_asked in record {
+    c.args.row c.args.bound c.requires.when c.locate-found.result c.locate-found.ensures.found
+    c.in-Ok.is c.operand-test.ensures.read c.taken_out-rest.result.kinds c.taken_out-rest.ensures.told c.requires.form_asked in record {
       slot_in_bounds = when.still_there c.args.forms.now c.args.shapes.now c.args.pool.now c.args.bindings.now
-          c.args.row c.args.bound c.requires.when c.locate.result c.locate.ensures.found
-          c.in_ok-found.was c.operand-test.ensures.read c.requires.form_asked c.cut-cut.result.kinds
+          c.args.row c.args.bound c.requires.when c.locate-found.result c.locate-found.ensures.found
+          c.in-Ok.is c.operand-test.ensures.read c.requires.form_asked c.cut-cut.result.kinds
           c.cut-cut.ensures.told c.bind.new.bindings c.bind.ensures.put
-          (ap (λ (x : ℕ). c.args.row + 3 + x) c.size.ensures.read) c.check_form.new.bindings
-          c.check_form.result c.check_form.ensures.checked;
+          (ap (λ (x : ℕ). c.args.row + 3 + x) c.size.ensures.read) c.check_form-part.new.bindings
+          c.check_form-part.result c.check_form-part.ensures.checked;
       fits = omega (arith, there, few, c.requires.small);
     }
 
@@ -438,8 +439,8 @@ check_when-overflow_add-bound-2 t c =
     c.args.row c.args.bound c.requires.when c.requires.form_asked in
     omega (arith, e.2, c.well_formed)
 
-pub check_when-check_form-requires-2 : goal.check_when-check_form-requires-2
-check_when-check_form-requires-2 t c =
+pub check_when-check_form-part-requires-2 : goal.check_when-check_form-part-requires-2
+check_when-check_form-part-requires-2 t c =
     let e = when.when_ends c.args.forms.now c.args.shapes.now c.args.pool.now c.args.bindings.now
     c.args.row c.args.bound c.requires.when c.requires.form_asked in
     let second = (ap (λ (x : ℕ). c.args.row + 3 + c.size.result + x) c.size-2.ensures.read
@@ -447,11 +448,11 @@ check_when-check_form-requires-2 t c =
       omega (arith, e.1, second, c.decreases),
       (
         when.second_asked c.args.forms.now c.args.shapes.now c.args.pool.now c.args.bindings.now
-            c.args.row c.args.bound c.requires.when c.locate.result c.locate.ensures.found
-            c.in_ok-found.was c.operand-test.ensures.read c.requires.form_asked c.cut-cut.result.kinds
+            c.args.row c.args.bound c.requires.when c.locate-found.result c.locate-found.ensures.found
+            c.in-Ok.is c.operand-test.ensures.read c.requires.form_asked c.cut-cut.result.kinds
             c.cut-cut.ensures.told c.bind.new.bindings c.bind.ensures.put
-            (ap (λ (x : ℕ). c.args.row + 3 + x) c.size.ensures.read) c.check_form.new.bindings
-            c.check_form.result c.check_form.ensures.checked c.in_ok-a.was
+            (ap (λ (x : ℕ). c.args.row + 3 + x) c.size.ensures.read) c.check_form-part.new.bindings
+            c.check_form-part.result c.check_form-part.ensures.checked c.in-Ok-part.is
             c.taken_out-rest.result.kinds c.taken_out-rest.ensures.told c.bind-2.new.bindings c.bind-2.ensures.put
             (ap (λ (x : ℕ). c.args.row + 3 + c.size.result + x) c.size-2.ensures.read
             ∙ ap (λ (x : ℕ). x + size_at c.args.forms.now x) (ap (λ (x : ℕ). c.args.row + 3 + x) c.size.ensures.read)),
@@ -459,36 +460,37 @@ check_when-check_form-requires-2 t c =
       ),
     )
 
-pub check_when-returns-in_err-b : goal.check_when-returns-in_err-b
-check_when-returns-in_err-b t c =
+pub check_when-returns-in_default-part-2 : goal.check_when-returns-in_default-part-2
+check_when-returns-in_default-part-2 t c =
     record {
-      checked = passed (GivesForm c.args.forms.now c.args.shapes.now c.args.pool.now c.args.bindings.now c.check_form-2.new.bindings c.args.row c.args.bound)
-          c.from_residual-in_err-b.ensures
+      checked = subst (GivesForm c.args.forms.now c.args.shapes.now c.args.pool.now c.args.bindings.now c.check_form-part-2.new.bindings
+          c.args.row c.args.bound)
+          (sym c.in_default-part-2.is)
           (when.second_refused c.args.forms.now c.args.shapes.now c.args.pool.now c.args.bindings.now
-          c.args.row c.args.bound c.requires.when c.locate.result c.locate.ensures.found
-          c.in_ok-found.was c.operand-test.ensures.read c.requires.form_asked c.cut-cut.result.kinds
+          c.args.row c.args.bound c.requires.when c.locate-found.result c.locate-found.ensures.found
+          c.in-Ok.is c.operand-test.ensures.read c.requires.form_asked c.cut-cut.result.kinds
           c.cut-cut.ensures.told c.bind.new.bindings c.bind.ensures.put
-          (ap (λ (x : ℕ). c.args.row + 3 + x) c.size.ensures.read) c.check_form.new.bindings
-          c.check_form.result c.check_form.ensures.checked c.in_ok-a.was c.taken_out-rest.result.kinds
+          (ap (λ (x : ℕ). c.args.row + 3 + x) c.size.ensures.read) c.check_form-part.new.bindings
+          c.check_form-part.result c.check_form-part.ensures.checked c.in-Ok-part.is c.taken_out-rest.result.kinds
           c.taken_out-rest.ensures.told c.bind-2.new.bindings c.bind-2.ensures.put
           (ap (λ (x : ℕ). c.args.row + 3 + c.size.result + x) c.size-2.ensures.read
           ∙ ap (λ (x : ℕ). x + size_at c.args.forms.now x) (ap (λ (x : ℕ). c.args.row + 3 + x) c.size.ensures.read))
-          c.check_form-2.new.bindings c.check_form-2.result c.check_form-2.ensures.checked
-          c.in_err-b.was);
+          c.check_form-part-2.new.bindings c.check_form-part-2.result c.check_form-part-2.ensures.checked
+          c.in_default-part-2.is);
     }
 
 pub check_when-returns : goal.check_when-returns
 check_when-returns t c =
     record {
       checked = when.when_told c.args.forms.now c.args.shapes.now c.args.pool.now c.args.bindings.now c.args.row
-          c.args.bound c.requires.when c.locate.result c.locate.ensures.found
-          c.in_ok-found.was c.operand-test.ensures.read c.requires.form_asked c.cut-cut.result.kinds
+          c.args.bound c.requires.when c.locate-found.result c.locate-found.ensures.found
+          c.in-Ok.is c.operand-test.ensures.read c.requires.form_asked c.cut-cut.result.kinds
           c.cut-cut.ensures.told c.bind.new.bindings c.bind.ensures.put
-          (ap (λ (x : ℕ). c.args.row + 3 + x) c.size.ensures.read) c.check_form.new.bindings
-          c.check_form.result c.check_form.ensures.checked c.in_ok-a.was c.taken_out-rest.result.kinds
+          (ap (λ (x : ℕ). c.args.row + 3 + x) c.size.ensures.read) c.check_form-part.new.bindings
+          c.check_form-part.result c.check_form-part.ensures.checked c.in-Ok-part.is c.taken_out-rest.result.kinds
           c.taken_out-rest.ensures.told c.bind-2.new.bindings c.bind-2.ensures.put
           (ap (λ (x : ℕ). c.args.row + 3 + c.size.result + x) c.size-2.ensures.read
           ∙ ap (λ (x : ℕ). x + size_at c.args.forms.now x) (ap (λ (x : ℕ). c.args.row + 3 + x) c.size.ensures.read))
-          c.check_form-2.new.bindings c.check_form-2.result c.check_form-2.ensures.checked
-          c.in_ok-b.was c.union.ensures.made;
+          c.check_form-part-2.new.bindings c.check_form-part-2.result c.check_form-part-2.ensures.checked
+          c.in-Ok-part-2.is c.union.ensures.made;
     }

@@ -1,6 +1,6 @@
 -- `checking::places::+locate` meets its contract. Assumes nothing.
 use native.Mathlib.Omega.{arith}
-use Rattle.reading.proofs.Passed.{passed}
+use mathlib.Core.Path.{sym, subst}
 use Rattle.checking.specs.CheckContracts.{GivesPlace}
 use Rattle.checking.proofs.PlaceWalk.{place_within, it_located, part_asked, part_refused, member_asked, part_found}
 use Rattle.checking.proofs.places.+locate.Goals as goal
@@ -16,32 +16,32 @@ pub overflow_add-row : goal.overflow_add-row
 overflow_add-row t c =
     omega (arith, place_within c.requires, c.well_formed)
 
-pub locate-requires : goal.locate-requires
-locate-requires t c = (
+pub locate-part-requires : goal.locate-part-requires
+locate-part-requires t c = (
   omega (arith, place_within c.requires, c.decreases),
   part_asked c.args.forms.now c.args.shapes.now c.args.pool.now c.args.bindings.now c.args.row
       c.code.ensures.read c.payload-operand.ensures.read c.if-code-eq-IT.false c.requires,
 )
 
-pub returns-in_err-of : goal.returns-in_err-of
-returns-in_err-of t c =
+pub returns-in_default : goal.returns-in_default
+returns-in_default t c =
     record {
-      found = passed (GivesPlace c.args.forms.now c.args.shapes.now c.args.pool.now c.args.bindings.now c.args.row) c.from_residual.ensures
+      found = subst (GivesPlace c.args.forms.now c.args.shapes.now c.args.pool.now c.args.bindings.now c.args.row) (sym c.in_default.is)
           (part_refused c.args.forms.now c.args.shapes.now c.args.pool.now c.args.bindings.now c.args.row
-          c.code.ensures.read c.payload-operand.ensures.read c.if-code-eq-IT.false c.locate.result c.locate.ensures.found
-          c.in_err-of.was);
+          c.code.ensures.read c.payload-operand.ensures.read c.if-code-eq-IT.false c.locate-part.result c.locate-part.ensures.found
+          c.in_default.is);
     }
 
 pub member-requires : goal.member-requires
 member-requires t c =
     member_asked c.args.forms.now c.args.shapes.now c.args.pool.now c.args.bindings.now c.args.row
-    c.code.ensures.read c.payload-operand.ensures.read c.if-code-eq-IT.false c.locate.result c.locate.ensures.found
-    c.in_ok-of.was c.requires
+    c.code.ensures.read c.payload-operand.ensures.read c.if-code-eq-IT.false c.locate-part.result c.locate-part.ensures.found
+    c.in-Ok.is c.requires
 
 pub returns : goal.returns
 returns t c =
     record {
       found = part_found c.args.forms.now c.args.shapes.now c.args.pool.now c.args.bindings.now c.args.row
-          c.code.ensures.read c.payload-operand.ensures.read c.if-code-eq-IT.false c.locate.result c.locate.ensures.found
-          c.in_ok-of.was c.member.result c.place.ensures.read c.member.ensures.found;
+          c.code.ensures.read c.payload-operand.ensures.read c.if-code-eq-IT.false c.locate-part.result c.locate-part.ensures.found
+          c.in-Ok.is c.member.result c.place.ensures.read c.member.ensures.found;
     }

@@ -1,7 +1,6 @@
 -- The proof of `run_place`, which calls itself at the row behind: the measure is what is left of the table. Assumes nothing.
 use native.Mathlib.Omega.{arith}
-use mathlib.Core.Path.{sym, ◌∙◌}
-use Rattle.reading.proofs.Passed.{passed}
+use mathlib.Core.Path.{sym, subst, ◌∙◌}
 use Rattle.running.specs.Walk.{SeesPlace}
 use Rattle.running.proofs.PlaceRuns.{stopped, it_within, it_seen, inner_ready, inner_within}
 use Rattle.running.proofs.PlaceRuns.{inner_refused, stuck, through, some_record, found}
@@ -38,33 +37,32 @@ pub overflow_add-row : goal.overflow_add-row
 overflow_add-row t c =
     omega (arith, c.well_formed, inner_within (λ e. c.if-code-eq-IT.false (c.code.ensures.read ∙ e)) c.requires)
 
-pub run_place-requires : goal.run_place-requires
-run_place-requires t c = (
+pub run_place-part-requires : goal.run_place-part-requires
+run_place-part-requires t c = (
   omega (arith, c.decreases, inner_within (λ e. c.if-code-eq-IT.false (c.code.ensures.read ∙ e)) c.requires),
   inner_ready (λ e. c.if-code-eq-IT.false (c.code.ensures.read ∙ e)) c.requires,
 )
 
-pub returns-in_err-inner : goal.returns-in_err-inner
-returns-in_err-inner t c =
+pub returns-in_default : goal.returns-in_default
+returns-in_default t c =
     record {
-      seen = passed (SeesPlace c.args.t.now.forms.now c.args.t.now.nodes.now c.args.t.now.pool.now c.args.bindings.now c.args.t.now.limit
-          c.args.row c.args.steps)
-          c.from_residual.ensures
-          (inner_refused (λ e. c.if-code-eq-IT.false (c.code.ensures.read ∙ e)) c.if-t-steps.false c.run_place.ensures.seen c.in_err-inner.was);
+      seen = subst (SeesPlace c.args.t.now.forms.now c.args.t.now.nodes.now c.args.t.now.pool.now c.args.bindings.now c.args.t.now.limit
+          c.args.row c.args.steps) (sym c.in_default.is)
+          (inner_refused (λ e. c.if-code-eq-IT.false (c.code.ensures.read ∙ e)) c.if-t-steps.false c.run_place-part.ensures.seen c.in_default.is);
     }
 
 pub returns-then-kind-eq-NULL : goal.returns-then-kind-eq-NULL
 returns-then-kind-eq-NULL t c =
     record {
       seen = through (λ e. c.if-code-eq-IT.false (c.code.ensures.read ∙ e)) c.if-t-steps.false
-          c.run_place.ensures.seen c.in_ok-inner.was c.row_kind-kind.ensures.read c.if-kind-eq-NULL.true;
+          c.run_place-part.ensures.seen c.in-Ok.is c.row_kind-kind.ensures.read c.if-kind-eq-NULL.true;
     }
 
 pub returns-then-kind-ne-RECORD : goal.returns-then-kind-ne-RECORD
 returns-then-kind-ne-RECORD t c =
     record {
       seen = stuck (λ e. c.if-code-eq-IT.false (c.code.ensures.read ∙ e)) c.if-t-steps.false
-          c.run_place.ensures.seen c.in_ok-inner.was
+          c.run_place-part.ensures.seen c.in-Ok.is
           c.row_kind-kind.ensures.read
           c.if-kind-eq-NULL.false c.if-kind-ne-RECORD.true c.place-then-kind-ne-RECORD.ensures.read;
     }
@@ -72,14 +70,14 @@ returns-then-kind-ne-RECORD t c =
 pub find_member-requires : goal.find_member-requires
 find_member-requires t c =
     some_record (λ e. c.if-code-eq-IT.false (c.code.ensures.read ∙ e)) c.if-t-steps.false
-    c.run_place.ensures.seen c.in_ok-inner.was
+    c.run_place-part.ensures.seen c.in-Ok.is
     c.row_kind-kind.ensures.read c.if-kind-ne-RECORD.false c.requires
 
 pub returns : goal.returns
 returns t c =
     record {
       seen = found (λ e. c.if-code-eq-IT.false (c.code.ensures.read ∙ e)) c.if-t-steps.false
-          c.run_place.ensures.seen c.in_ok-inner.was
+          c.run_place-part.ensures.seen c.in-Ok.is
           c.row_kind-kind.ensures.read c.if-kind-ne-RECORD.false
           c.payload-payload.ensures.read
           c.find_member.ensures.found;
