@@ -1,4 +1,5 @@
 pub mod Gaps
+pub mod Copies
 pub mod Heads
 pub mod Walks
 pub mod Rows

@@ -22,6 +22,18 @@ pub fn open_gap(part: &mut [u64], used: usize, gap: usize)
     part.copy_within(0..used, gap);
 }
 
+// Copies words of a second table to a place of a first. Not by `copy_from_slice`, which calls `memmove`: the archive for C needs no such name.
+fn copy_rows(shapes: &mut [u64], at: usize, second: &[u64], from: usize, count: usize)
+    requires count_in_bounds { at + count ≤ length shapes.old }
+    requires within { from + count ≤ length second.now }
+    ensures copied { shapes.new
+        ≡ take at shapes.old ++ take count (drop from second.now) ++ drop (at + count) shapes.old }
+{
+    for i in 0..count {
+        shapes[at + i] = second[from + i];
+    }
+}
+
 // Puts words of a second table at a place of a first, whose later words move up.
 fn put_rows(
     shapes: &mut [u64],
@@ -38,7 +50,7 @@ fn put_rows(
         return None;
     }
     open_gap(&mut shapes[at..], used - at, count);
-    shapes[at..at + count].copy_from_slice(&second[from..from + count]);
+    copy_rows(shapes, at, second, from, count);
     Some(count)
 }
 

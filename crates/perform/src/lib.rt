@@ -16,6 +16,7 @@ use reading::Cause;
 use running::Halt;
 
 // Writes a document as plain JSON.
+#[inline(always)]
 pub fn plain(
     format: Format,
     document: &[u8],
@@ -108,6 +109,7 @@ pub fn join(
 }
 
 // Whether a shape is below another.
+#[inline(always)]
 pub fn below(
     first: &[u8],
     second: &[u8],
@@ -126,6 +128,7 @@ pub fn below(
 }
 
 // Whether a shape admits a document.
+#[inline(always)]
 pub fn admits(
     format: Format,
     shape: &[u8],

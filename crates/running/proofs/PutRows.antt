@@ -1,11 +1,11 @@
 -- Rows put and copied, in lists. Assumes nothing.
-use Prim.Native.Nat.{ℕ, ◌+◌, ◌-◌, ◌*◌, ◌≤◌, ◌<◌}
+use Prim.Native.Nat.{ℕ, ◌+◌, ◌*◌, ◌≤◌, ◌<◌}
+use native.Mathlib.Numerals.{add-one}
 use native.Mathlib.Omega.{arith}
 use mathlib.Core.Path.{◌≡◌, refl, sym, ap, ◌∙◌}
-use mathlib.Core.List.{List, ◌∷◌, ◌++◌, append_assoc}
-use borrow.Rule.Slice.PartMut.{put_mid, Post-is}
-use lib.ListN.{length, take, drop}
-use lib.Seq.{length-take-le, take_at}
+use mathlib.Core.List.{List, ◌∷◌, ◌++◌}
+use lib.ListN.{length, get_or, take, drop, set, length-set, length-drop}
+use lib.Seq.{length-take-le, take_at, get_or-drop, paste, paste-zero, paste-suc}
 use Rattle.running.specs.Rows.{PutRow}
 use Rattle.nodes.specs.RowLaws.{with_row}
 
@@ -27,15 +27,31 @@ module _ (ns : List ℕ) (b h x m : ℕ) where
   pub row_left : length ns < 3 * b + 3 → PutRow ns ns b h x m (b + 1)
   row_left short = record { counted = refl; put = λ r. absurd (let z : ⊥ = omega (arith, r, short) in z); front = refl }
 
--- ---- words copied
+-- ---- words copied one by one
 
--- words from one table in the middle of another
-pub copied
-    : {words : List ℕ} (results : List ℕ) (to : ℕ) (nodes : List ℕ) (from n : ℕ) → words ≡ take (from + n - from) (drop from nodes)
-    → put_mid to (to + n - to) results words ≡ take to results ++ take n (drop from nodes) ++ drop (to + n) results
-copied results to nodes from n e =
-    let l : to ≤ to + n = omega arith in
-    let m : from + n - from ≡ n = omega arith in
-    ap (put_mid to (to + n - to) results) (e ∙ ap (λ (k : ℕ). take k (drop from nodes)) m)
-    ∙ ap (λ (t : List ℕ). take to results ++ (take n (drop from nodes) ++ t)) (Post-is to (to + n) results l)
-    ∙ sym (append_assoc (take to results) (take n (drop from nodes)) (drop (to + n) results))
+pub record Copying (results₀ : List ℕ) (to : ℕ) (nodes : List ℕ) (from count : ℕ) (results : List ℕ) (i : ℕ) : Type 0 where
+  pub written : results ≡ paste results₀ to (drop from nodes) i
+  pub within : i ≤ count
+  pub same : length results ≡ length results₀
+
+pub copies : (results : List ℕ) (to : ℕ) (nodes : List ℕ) (from count : ℕ) → Copying results to nodes from count results 0
+copies results to nodes from count = record { written = paste-zero results to (drop from nodes); within = omega arith; same = refl }
+
+module _ {results₀ : List ℕ} {to : ℕ} {nodes : List ℕ} {from count : ℕ} {results : List ℕ} {i : ℕ} (c : Copying results₀ to nodes from count results i) where
+  pub copies_on
+      : i < count → to + count ≤ length results₀ → from + count ≤ length nodes
+      → Copying results₀ to nodes from count (set results (to + i) (get_or nodes (from + i) 0)) (i + 1)
+  copies_on h room there =
+      record {
+        written = ap (λ (x : ℕ). set results (to + i) x) (sym (get_or-drop from nodes i 0))
+            ∙ ap (λ (l : List ℕ). set l (to + i) (get_or (drop from nodes) i 0)) c.written
+            ∙ paste-suc results₀ to (drop from nodes) i 0 (omega arith) (omega (arith, length-drop from nodes))
+            ∙ ap (λ (n : ℕ). paste results₀ to (drop from nodes) n) (sym (add-one i));
+        within = omega arith;
+        same = length-set results (to + i) (get_or nodes (from + i) 0) ∙ c.same;
+      }
+
+  pub copied : count ≤ i → results ≡ take to results₀ ++ take count (drop from nodes) ++ drop (to + count) results₀
+  copied h =
+      let all : i ≡ count = omega (arith, c.within) in
+      c.written ∙ ap (λ (n : ℕ). paste results₀ to (drop from nodes) n) all

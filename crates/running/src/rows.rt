@@ -1,5 +1,5 @@
 // Rows of results: put behind each other; those for which the table has no room are counted and not put.
-ghost use Rattle.std.specs.Prelude.{◌≡◌, List, ℕ, ◌+◌, ◌-◌, ◌*◌, ◌^◌, ◌≤◌, ◌<◌, max, length};
+ghost use Rattle.std.specs.Prelude.{◌≡◌, List, ◌++◌, ℕ, ◌+◌, ◌-◌, ◌*◌, ◌^◌, ◌≤◌, ◌<◌, max, length, take, drop};
 ghost use Rattle.definitions.specs.Bytes.{Bytes};
 ghost use Rattle.definitions.specs.Value.{Value, Items, Members, count};
 ghost use Rattle.definitions.specs.Plain.{plain_text};
@@ -23,6 +23,18 @@ pub fn put(results: &mut [u64], begun: usize, head: u64, payload: u64, name: u64
     begun + 1
 }
 
+// Copies words of the document's table into the results. Not by `copy_from_slice`, which calls `memmove`: the archive for C needs no such name.
+fn copy_words(results: &mut [u64], to: usize, nodes: &[u64], from: usize, count: usize)
+    requires count_in_bounds { to + count ≤ length results.old }
+    requires within { from + count ≤ length nodes.now }
+    ensures copied { results.new
+        ≡ take to results.old ++ take count (drop from nodes.now) ++ drop (to + count) results.old }
+{
+    for i in 0..count {
+        results[to + i] = nodes[from + i];
+    }
+}
+
 // Copies the value at a row of the document's table, under a name. Null is put: it may stand past the table's end.
 pub fn keep(results: &mut [u64], begun: usize, nodes: &[u64], at: usize, name: u64) -> usize
     requires { SomeBound nodes.now at begun }
@@ -36,9 +48,8 @@ pub fn keep(results: &mut [u64], begun: usize, nodes: &[u64], at: usize, name: u
     if results.len() < 3 * begun + size {
         return to;
     }
-    let row = 3 * begun;
-    results[row..row + size].copy_from_slice(&nodes[at..at + size]);
-    results[row + 2] = name;
+    copy_words(results, 3 * begun, nodes, at, size);
+    results[3 * begun + 2] = name;
     to
 }
 

@@ -70,6 +70,7 @@ pub fn give_value(
 }
 
 // Puts how many elements the value at a row of the document has.
+#[inline(always)]
 pub fn give_count(t: &Tables, results: &mut [u64], at: usize, c: Cursor, steps: usize) -> Done
     requires giving { Giving t.now.limit c steps }
     requires there { SomeBound t.now.nodes.now at 0 }

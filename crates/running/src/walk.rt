@@ -33,7 +33,10 @@ fn run_pack(
             begun,
             steps,
         };
-        let done = run_form(t, bindings, results, part)?;
+        let r = run_form(t, bindings, results, part);
+        let Ok(done) = r else {
+            return r;
+        };
         begun = done.begun;
         steps = done.steps;
         row += forms::size(t.forms, row); // a row tells where the next begins
@@ -61,7 +64,10 @@ fn run_if(t: &Tables, bindings: &mut [u64], results: &mut [u64], c: Cursor) -> R
         steps: c.steps + 1,
         ..c
     };
-    let done = run_form(t, bindings, results, test)?;
+    let r = run_form(t, bindings, results, test);
+    let Ok(done) = r else {
+        return r;
+    };
     let steps = done.steps;
     let second = first + forms::size(t.forms, first);
     if done.kind == nodes::TRUE {
@@ -88,6 +94,7 @@ fn run_if(t: &Tables, bindings: &mut [u64], results: &mut [u64], c: Cursor) -> R
 
 // Runs a branch of `when`, with the value at a row of the document bound.
 #[cycle(run_each_run_form_run_if_run_on_run_pack_run_when)]
+#[inline(always)]
 fn run_when(
     t: &Tables,
     bindings: &mut [u64],
@@ -124,6 +131,7 @@ fn run_when(
 
 // Runs the result of `each` for each element of the value at a row of the document, with the element bound.
 #[cycle(run_each_run_form_run_if_run_on_run_pack_run_when)]
+#[inline(always)]
 fn run_each(
     t: &Tables,
     bindings: &mut [u64],
@@ -152,7 +160,10 @@ fn run_each(
             begun,
             steps,
         };
-        let done = run_form(t, bindings, results, part)?;
+        let r = run_form(t, bindings, results, part);
+        let Ok(done) = r else {
+            return r;
+        };
         begun = done.begun;
         steps = done.steps;
         i += nodes::row_size(t.nodes, i); // a row tells where the next begins
@@ -210,8 +221,11 @@ pub fn run_form(
         forms::IF => run_if(t, bindings, results, c),
         code if forms::IF < code => Ok(give_literal(t, results, c)),
         _ => {
-            let found = run_operand(t, bindings, c, c.steps + 1)?;
-            run_on(t, bindings, results, c, found.row, found.steps)
+            let found = run_operand(t, bindings, c, c.steps + 1);
+            let Ok(at) = found else {
+                return Err(found.unwrap_err());
+            };
+            run_on(t, bindings, results, c, at.row, at.steps)
         }
     }
 }

@@ -60,6 +60,7 @@ fn read_member(
 
 // Reads the members of a shape of these kinds and its closing bracket, with so much nesting left inside the shape.
 #[cycle(read_element_read_form_read_member_read_members)]
+#[inline(always)]
 fn read_members(
     text: &[u8],
     shapes: &mut [u64],

@@ -30,6 +30,7 @@ fn ascends(pool: &[u64], latest: Option<u64>, w: usize, n: usize) -> bool
 }
 
 // Reads the word `member` and a name, which goes into the pool.
+#[inline(always)]
 fn read_name(text: &[u8], pool: &mut [u64], at: usize, top: usize) -> Result<Quoted, Refusal>
     requires { TextPlaced text.now pool.old at top }
     ensures read { ReadsName text.now pool.old pool.new at top result }
@@ -46,6 +47,7 @@ pub enum Turn {
 }
 
 // Goes on behind the opening bracket of a member, which stands before place `at`.
+#[inline(always)]
 fn member_shape(
     text: &[u8],
     pool: &mut [u64],
@@ -70,6 +72,7 @@ fn member_shape(
 }
 
 // Goes on where a member or the bracket that ends the shape must come, behind a member of the name `latest` or the first one.
+#[inline(always)]
 pub fn next_member(
     text: &[u8],
     pool: &mut [u64],

@@ -13,14 +13,14 @@ pub mod standing; // what stands at a place, seen eight bytes at a time
 fn is_space(b: u8) -> bool
     ensures told { SpaceAnswer b result }
 {
-    matches!(b, b' ' | b'\t' | b'\n' | b'\r')
+    b <= b' ' && matches!(b, b' ' | b'\t' | b'\n' | b'\r')
 }
 
 // Whether a byte ends a word: white space, a bracket or a quote.
 fn is_border(b: u8) -> bool
     ensures told { BorderAnswer b result }
 {
-    matches!(b, b'(' | b')' | b'"') || is_space(b)
+    b <= b')' && (matches!(b, b'(' | b')' | b'"') || is_space(b))
 }
 
 // Where white space ends that begins at a place.

@@ -1,13 +1,16 @@
 -- `join::put_rows` meets its contract. Assumes nothing.
-use Prim.Native.Nat.{ℕ, ◌+◌, ◌-◌}
-use mathlib.Core.Path.{◌≡◌, refl, ap, ◌∙◌}
+use Prim.Native.Nat.{◌+◌}
+use mathlib.Core.Path.{refl, ◌∙◌}
+use mathlib.Core.List.{append_assoc}
 use native.Mathlib.Omega.{arith}
 use lib.ListN.{take, drop, length-drop}
 use lib.Seq.{length-take-le}
 use borrow.Author.Rules.{rules}
 use Rattle.join.specs.ReplacingLaws.{gap_filled}
-use Rattle.join.proofs.Gaps.{part_put}
 use Rattle.join.proofs.put_rows.Goals as goal
+
+pub shape_of-shapes : goal.shape_of-shapes
+shape_of-shapes c = search rules
 
 pub returns : goal.returns
 returns c =
@@ -30,10 +33,7 @@ returns c =
                 (omega (arith, c.if-shapes-used.false, w.used_within))
                 c.open_gap.ensures.opened
                 (length-take-le s.count (drop s.from s.second.now) (omega (arith, length-drop s.from s.second.now, w.within)))
-                (part_put _ rows c.copy_from_slice.new.self s.at s.count (s.at + s.count - s.at)
-                (c.copy_from_slice.ensures.after ∙ ap (λ (n : ℕ). take n (drop s.from s.second.now))
-                (let e : s.from + s.count - s.from ≡ s.count = omega arith in e))
-                (omega arith))
-                (search rules);
+                (c.copy_rows.ensures.copied ∙ append_assoc (take s.at _) rows (drop (s.at + s.count) _))
+                (shape_of-shapes c);
           };
     }

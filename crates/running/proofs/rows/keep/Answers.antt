@@ -1,8 +1,6 @@
 -- `running::rows::keep` meets its contract. Assumes nothing.
 use native.Mathlib.Omega.{arith}
-use Prim.Native.Nat.{◌+◌, ◌-◌, ◌*◌}
-use borrow.Rule.Slice.PartMut.{same_len_mid}
-use Rattle.running.proofs.PutRows.{copied}
+use lib.ListN.{length-set}
 use Rattle.running.proofs.Closing.{null_kept, copy_bounds, copy_left, copy_kept}
 use Rattle.running.proofs.rows.keep.Goals as goal
 
@@ -40,28 +38,31 @@ returns-then-results-begun c =
           c.row_kind.ensures.read c.if-row_kind-eq-NULL.false c.row_size-size.ensures.sized c.if-results-begun.true;
     }
 
-pub slice_bounds-copy_from_slice-end-2 : goal.slice_bounds-copy_from_slice-end-2
-slice_bounds-copy_from_slice-end-2 c =
+pub copy_words-requires : goal.copy_words-requires
+copy_words-requires c =
     let b = copy_bounds c.args.nodes.now c.args.at c.args.results.now c.args.begun c.args.name
     c.row_kind.ensures.read c.if-row_kind-eq-NULL.false c.row_size-size.ensures.sized c.requires in
-    b.0
+    record { count_in_bounds = c.if-results-begun.false; within = b.0 }
 
-pub bounds-results-row : goal.bounds-results-row
-bounds-results-row c =
+pub bounds-results-begun : goal.bounds-results-begun
+bounds-results-begun c =
     let b = copy_bounds c.args.nodes.now c.args.at c.args.results.now c.args.begun c.args.name
     c.row_kind.ensures.read c.if-row_kind-eq-NULL.false c.row_size-size.ensures.sized c.requires in
-    omega (
-      arith,
-      b.1,
-      c.if-results-begun.false,
-      same_len_mid (3 * c.args.begun) (3 * c.args.begun + c.row_size-size.result - 3 * c.args.begun) c.args.results.now _
-          c.copy_from_slice.auto.self,
-    )
+    omega (arith, b.1, c.if-results-begun.false, c.copy_words.auto.results)
+
+pub offset_bounds-results-begun : goal.offset_bounds-results-begun
+offset_bounds-results-begun c =
+    let b = copy_bounds c.args.nodes.now c.args.at c.args.results.now c.args.begun c.args.name
+    c.row_kind.ensures.read c.if-row_kind-eq-NULL.false c.row_size-size.ensures.sized c.requires in
+    omega (arith, b.1, c.if-results-begun.false, c.well_formed)
+
+pub shape_of-results : goal.shape_of-results
+shape_of-results c = simp length-set c.copy_words.auto.results
 
 pub returns : goal.returns
 returns c =
     record {
       kept = copy_kept c.args.nodes.now c.args.at c.args.results.now c.args.begun c.args.name
           c.row_kind.ensures.read c.if-row_kind-eq-NULL.false c.row_size-size.ensures.sized c.if-results-begun.false
-          (copied c.args.results.now (3 * c.args.begun) c.args.nodes.now c.args.at c.row_size-size.result c.copy_from_slice.ensures.after);
+          c.copy_words.ensures.copied;
     }

@@ -3,10 +3,9 @@
 -- The loops' invariants are `EachLoop` and `PackLoop`. Assumes nothing.
 use Prim.Native.Nat.{◌+◌}
 use native.Mathlib.Omega.{arith}
-use mathlib.Core.Path.{refl, sym, ap, ◌∙◌}
+use mathlib.Core.Path.{refl, sym, ap, subst, ◌∙◌}
 use lib.ListN.{length-set}
 use Rattle.running.specs.Walk.{Runs, Follows}
-use Rattle.reading.proofs.Passed.{passed}
 use Rattle.running.proofs.FormRuns.{row_within, stopped, some_literal, literal_ran, giving, operand_ready, operand_refused, following, followed}
 use Rattle.running.proofs.FormRuns.{narrowed, some_bound, count_followed, value_followed, when_room}
 use Rattle.running.proofs.WhenRuns.{when_within, when_yes_ready, when_no_ready, when_yes, when_no, choose_within, test_ready, test_refused}
@@ -51,31 +50,30 @@ pub run_each-overflow_add-part : goal.run_each-overflow_add-part
 run_each-overflow_add-part t c =
     omega (arith, (each.each_within c.requires).1, c.well_formed)
 
-pub run_each-run_form-requires : goal.run_each-run_form-requires
-run_each-run_form-requires t c = (
+pub run_each-run_form-r-requires : goal.run_each-run_form-r-requires
+run_each-run_form-r-requires t c = (
   omega (arith, c.decreases, c.size.ensures.read, (each.each_within c.requires).0),
   each.part_ready c.requires c.loop-i.invariant c.loop-i-test.true
       (row_behind c.args.t.now.forms.now (c.args.c.row + 3) c.size.result c.size.ensures.read),
 )
 
-pub run_each-shape_of-bindings-in_err-done : goal.run_each-shape_of-bindings-in_err-done
-run_each-shape_of-bindings-in_err-done t c =
-    c.run_form.auto.bindings ∙ length-set c.loop-i.bindings c.args.c.bound c.loop-i.i
+pub run_each-shape_of-bindings-in_default : goal.run_each-shape_of-bindings-in_default
+run_each-shape_of-bindings-in_default t c =
+    c.run_form-r.auto.bindings ∙ length-set c.loop-i.bindings c.args.c.bound c.loop-i.i
     ∙ c.loop-i.invariant.same_bindings
 
-pub run_each-shape_of-results-in_err-done : goal.run_each-shape_of-results-in_err-done
-run_each-shape_of-results-in_err-done t c =
-    c.run_form.auto.results ∙ c.loop-i.invariant.same_results
+pub run_each-shape_of-results-in_default : goal.run_each-shape_of-results-in_default
+run_each-shape_of-results-in_default t c =
+    c.run_form-r.auto.results ∙ c.loop-i.invariant.same_results
 
-pub run_each-returns-in_err-done : goal.run_each-returns-in_err-done
-run_each-returns-in_err-done t c =
+pub run_each-returns-in_default : goal.run_each-returns-in_default
+run_each-returns-in_default t c =
     record {
-      ran = passed (Follows c.args.t.now.forms.now c.args.t.now.nodes.now c.args.t.now.pool.now c.args.bindings.now c.run_form.new.bindings
-          c.args.results.now c.run_form.new.results c.args.t.now.limit c.args.c c.args.at c.args.behind)
-          c.from_residual.ensures
+      ran = subst (Follows c.args.t.now.forms.now c.args.t.now.nodes.now c.args.t.now.pool.now c.args.bindings.now c.run_form-r.new.bindings
+          c.args.results.now c.run_form-r.new.results c.args.t.now.limit c.args.c c.args.at c.args.behind) (sym c.in_default.is)
           (each.part_refused c.requires c.loop-i.invariant c.loop-i-test.true
           (row_behind c.args.t.now.forms.now (c.args.c.row + 3) c.size.result c.size.ensures.read)
-          c.run_form.ensures.ran c.in_err-done.was);
+          c.run_form-r.ensures.ran c.in_default.is);
     }
 
 pub run_each-overflow_add-i-in-loop-i : goal.run_each-overflow_add-i-in-loop-i
@@ -95,9 +93,9 @@ pub run_each-loop-i-preserved : goal.run_each-loop-i-preserved
 run_each-loop-i-preserved t c =
     each.part_done c.requires c.loop-i.invariant c.loop-i-test.true
     (row_behind c.args.t.now.forms.now (c.args.c.row + 3) c.size.result c.size.ensures.read)
-    c.run_form.ensures.ran c.in_ok-done.was
-    (c.run_form.auto.bindings ∙ length-set c.loop-i.bindings c.args.c.bound c.loop-i.i)
-    c.run_form.auto.results c.row_size-i.ensures.sized
+    c.run_form-r.ensures.ran c.in-Ok.is
+    (c.run_form-r.auto.bindings ∙ length-set c.loop-i.bindings c.args.c.bound c.loop-i.i)
+    c.run_form-r.auto.results c.row_size-i.ensures.sized
 
 pub run_each-close_list-requires : goal.run_each-close_list-requires
 run_each-close_list-requires t c =
@@ -153,33 +151,31 @@ pub run_form-overflow_add-c : goal.run_form-overflow_add-c
 run_form-overflow_add-c t c =
     omega (arith, c.if-t-c.false, c.requires.small.steps)
 
-pub run_form-run_operand-requires : goal.run_form-run_operand-requires
-run_form-run_operand-requires t c =
+pub run_form-run_operand-found-requires : goal.run_form-run_operand-found-requires
+run_form-run_operand-found-requires t c =
     operand_ready c.code.ensures.read c.if-code-gt-IF.false (λ e. omega arith) c.requires
 
-pub run_form-returns-in_err-found-in_default-2 : goal.run_form-returns-in_err-found-in_default-2
-run_form-returns-in_err-found-in_default-2 t c =
+pub run_form-returns-in_default-found : goal.run_form-returns-in_default-found
+run_form-returns-in_default-found t c =
     record {
-      ran = passed (Runs c.args.t.now.forms.now c.args.t.now.nodes.now c.args.t.now.pool.now c.args.bindings.now c.args.bindings.now c.args.results.now
-          c.args.results.now c.args.t.now.limit c.args.c) c.from_residual.ensures
-          (operand_refused c.code.ensures.read c.if-code-gt-IF.false (λ e. omega arith)
-          c.run_operand.ensures.seen c.if-t-c.false c.in_err-found-in_default-2.was);
+      ran = operand_refused c.code.ensures.read c.if-code-gt-IF.false (λ e. omega arith)
+          c.run_operand-found.ensures.seen c.if-t-c.false c.unwrap_err.ensures;
     }
 
 pub run_form-run_on-requires : goal.run_form-run_on-requires
 run_form-run_on-requires t c = (
   omega (arith, c.decreases),
   following c.code.ensures.read c.if-code-gt-IF.false (λ e. omega arith)
-      c.run_operand.ensures.seen c.if-t-c.false
-      c.in_ok-found-in_default-2.was c.requires,
+      c.run_operand-found.ensures.seen c.if-t-c.false
+      c.in-Ok.is c.requires,
 )
 
-pub run_form-returns-in_ok-found-in_default-2 : goal.run_form-returns-in_ok-found-in_default-2
-run_form-returns-in_ok-found-in_default-2 t c =
+pub run_form-returns-in-Ok : goal.run_form-returns-in-Ok
+run_form-returns-in-Ok t c =
     record {
       ran = followed c.code.ensures.read c.if-code-gt-IF.false (λ e. omega arith)
-          c.run_operand.ensures.seen
-          c.if-t-c.false c.in_ok-found-in_default-2.was c.run_on.ensures.ran;
+          c.run_operand-found.ensures.seen
+          c.if-t-c.false c.in-Ok.is c.run_on.ensures.ran;
     }
 
 pub run_if-overflow_add-first : goal.run_if-overflow_add-first
@@ -190,38 +186,37 @@ pub run_if-overflow_add-test : goal.run_if-overflow_add-test
 run_if-overflow_add-test t c =
     omega (arith, c.requires.left, c.requires.ready.small.steps)
 
-pub run_if-run_form-requires : goal.run_if-run_form-requires
-run_if-run_form-requires t c =
+pub run_if-run_form-r-requires : goal.run_if-run_form-r-requires
+run_if-run_form-r-requires t c =
     (omega (arith, c.decreases, (choose_within c.requires).0), test_ready c.requires)
 
-pub run_if-returns-in_err-done : goal.run_if-returns-in_err-done
-run_if-returns-in_err-done t c =
+pub run_if-returns-in_default : goal.run_if-returns-in_default
+run_if-returns-in_default t c =
     record {
-      ran = passed (Runs c.args.t.now.forms.now c.args.t.now.nodes.now c.args.t.now.pool.now c.args.bindings.now c.run_form.new.bindings
-          c.args.results.now c.run_form.new.results c.args.t.now.limit c.args.c)
-          c.from_residual.ensures
-          (test_refused c.requires c.run_form.ensures.ran c.run_form.auto.bindings
-          c.run_form.auto.results c.in_err-done.was);
+      ran = subst (Runs c.args.t.now.forms.now c.args.t.now.nodes.now c.args.t.now.pool.now c.args.bindings.now c.run_form-r.new.bindings
+          c.args.results.now c.run_form-r.new.results c.args.t.now.limit c.args.c) (sym c.in_default.is)
+          (test_refused c.requires c.run_form-r.ensures.ran c.run_form-r.auto.bindings
+          c.run_form-r.auto.results c.in_default.is);
     }
 
 pub run_if-overflow_add-second : goal.run_if-overflow_add-second
 run_if-overflow_add-second t c =
     omega (arith, c.size.ensures.read, (choose_within c.requires).1, c.well_formed)
 
-pub run_if-run_form-requires-then-done-eq-TRUE : goal.run_if-run_form-requires-then-done-eq-TRUE
-run_if-run_form-requires-then-done-eq-TRUE t c = (
+pub run_if-run_form-requires : goal.run_if-run_form-requires
+run_if-run_form-requires t c = (
   omega (arith, c.decreases, c.size.ensures.read, (choose_within c.requires).1),
-  yes_ready c.requires c.run_form.ensures.ran c.run_form.auto.bindings
-      c.run_form.auto.results c.in_ok-done.was
+  yes_ready c.requires c.run_form-r.ensures.ran c.run_form-r.auto.bindings
+      c.run_form-r.auto.results c.in-Ok.is
       (row_behind c.args.t.now.forms.now (c.args.c.row + 3) c.size.result c.size.ensures.read),
 )
 
 pub run_if-returns-then-done-eq-TRUE : goal.run_if-returns-then-done-eq-TRUE
 run_if-returns-then-done-eq-TRUE t c =
     record {
-      ran = chose_yes c.requires c.run_form.ensures.ran c.run_form.auto.bindings
-          c.run_form.auto.results c.in_ok-done.was
-          c.run_form-then-done-eq-TRUE.ensures.ran c.if-done-eq-TRUE.true
+      ran = chose_yes c.requires c.run_form-r.ensures.ran c.run_form-r.auto.bindings
+          c.run_form-r.auto.results c.in-Ok.is
+          c.run_form.ensures.ran c.if-done-eq-TRUE.true
           (row_behind c.args.t.now.forms.now (c.args.c.row + 3) c.size.result c.size.ensures.read);
     }
 
@@ -247,8 +242,8 @@ run_if-run_form-requires-then-done-eq-FALSE t c = (
     (row_behind c.args.t.now.forms.now (c.args.c.row + 3) c.size.result c.size.ensures.read),
     (choose_within c.requires).2,
   ),
-  no_ready c.requires c.run_form.ensures.ran c.run_form.auto.bindings
-      c.run_form.auto.results c.in_ok-done.was
+  no_ready c.requires c.run_form-r.ensures.ran c.run_form-r.auto.bindings
+      c.run_form-r.auto.results c.in-Ok.is
       (row_third c.args.t.now.forms.now (c.args.c.row + 3) (c.args.c.row + 3 + c.size.result)
       c.size-then-done-eq-FALSE.result
       (row_behind c.args.t.now.forms.now (c.args.c.row + 3) c.size.result c.size.ensures.read)
@@ -258,8 +253,8 @@ run_if-run_form-requires-then-done-eq-FALSE t c = (
 pub run_if-returns-then-done-eq-FALSE : goal.run_if-returns-then-done-eq-FALSE
 run_if-returns-then-done-eq-FALSE t c =
     record {
-      ran = chose_no c.requires c.run_form.ensures.ran c.run_form.auto.bindings c.run_form.auto.results
-          c.in_ok-done.was
+      ran = chose_no c.requires c.run_form-r.ensures.ran c.run_form-r.auto.bindings c.run_form-r.auto.results
+          c.in-Ok.is
           c.run_form-then-done-eq-FALSE.ensures.ran
           c.if-done-eq-FALSE.true (row_third c.args.t.now.forms.now (c.args.c.row + 3)
           (c.args.c.row + 3 + c.size.result) c.size-then-done-eq-FALSE.result
@@ -270,8 +265,8 @@ run_if-returns-then-done-eq-FALSE t c =
 pub run_if-returns : goal.run_if-returns
 run_if-returns t c =
     record {
-      ran = choose_stuck c.requires c.run_form.ensures.ran c.run_form.auto.bindings
-          c.run_form.auto.results c.in_ok-done.was
+      ran = choose_stuck c.requires c.run_form-r.ensures.ran c.run_form-r.auto.bindings
+          c.run_form-r.auto.results c.in-Ok.is
           c.if-done-eq-TRUE.false c.if-done-eq-FALSE.false c.place.ensures.read;
     }
 
@@ -325,28 +320,27 @@ pub run_pack-loop-row-init : goal.run_pack-loop-row-init
 run_pack-loop-row-init t c =
     pack.pack_begins c.requires (ap (λ n. c.args.c.row + n) c.size.ensures.read)
 
-pub run_pack-run_form-requires : goal.run_pack-run_form-requires
-run_pack-run_form-requires t c = (
+pub run_pack-run_form-r-requires : goal.run_pack-run_form-r-requires
+run_pack-run_form-r-requires t c = (
   omega (arith, c.decreases, c.loop-row.invariant.later, pack.pair_within c.requires c.loop-row.invariant c.loop-row-test.true),
   pack.part_ready c.requires c.loop-row.invariant c.loop-row-test.true c.name-name.ensures.read,
 )
 
-pub run_pack-shape_of-bindings-in_err-done : goal.run_pack-shape_of-bindings-in_err-done
-run_pack-shape_of-bindings-in_err-done t c =
-    c.run_form.auto.bindings ∙ c.loop-row.invariant.same_bindings
+pub run_pack-shape_of-bindings-in_default : goal.run_pack-shape_of-bindings-in_default
+run_pack-shape_of-bindings-in_default t c =
+    c.run_form-r.auto.bindings ∙ c.loop-row.invariant.same_bindings
 
-pub run_pack-shape_of-results-in_err-done : goal.run_pack-shape_of-results-in_err-done
-run_pack-shape_of-results-in_err-done t c =
-    c.run_form.auto.results ∙ c.loop-row.invariant.same_results
+pub run_pack-shape_of-results-in_default : goal.run_pack-shape_of-results-in_default
+run_pack-shape_of-results-in_default t c =
+    c.run_form-r.auto.results ∙ c.loop-row.invariant.same_results
 
-pub run_pack-returns-in_err-done : goal.run_pack-returns-in_err-done
-run_pack-returns-in_err-done t c =
+pub run_pack-returns-in_default : goal.run_pack-returns-in_default
+run_pack-returns-in_default t c =
     record {
-      ran = passed (Runs c.args.t.now.forms.now c.args.t.now.nodes.now c.args.t.now.pool.now c.args.bindings.now c.run_form.new.bindings
-          c.args.results.now c.run_form.new.results c.args.t.now.limit c.args.c)
-          c.from_residual.ensures
+      ran = subst (Runs c.args.t.now.forms.now c.args.t.now.nodes.now c.args.t.now.pool.now c.args.bindings.now c.run_form-r.new.bindings
+          c.args.results.now c.run_form-r.new.results c.args.t.now.limit c.args.c) (sym c.in_default.is)
           (pack.part_refused c.requires c.loop-row.invariant c.loop-row-test.true c.name-name.ensures.read
-          c.run_form.ensures.ran c.in_err-done.was);
+          c.run_form-r.ensures.ran c.in_default.is);
     }
 
 pub run_pack-overflow_add-row-in-loop-row : goal.run_pack-overflow_add-row-in-loop-row
@@ -360,8 +354,8 @@ run_pack-loop-row-smaller t c =
 pub run_pack-loop-row-preserved : goal.run_pack-loop-row-preserved
 run_pack-loop-row-preserved t c =
     pack.part_done c.requires c.loop-row.invariant c.loop-row-test.true c.name-name.ensures.read
-    c.run_form.ensures.ran c.in_ok-done.was c.run_form.auto.bindings
-    c.run_form.auto.results c.size-row.ensures.read
+    c.run_form-r.ensures.ran c.in-Ok.is c.run_form-r.auto.bindings
+    c.run_form-r.auto.results c.size-row.ensures.read
 
 pub run_pack-close_record-requires : goal.run_pack-close_record-requires
 run_pack-close_record-requires t c =
