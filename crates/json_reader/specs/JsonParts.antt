@@ -15,7 +15,7 @@ use Rattle.nodes.specs.Nodes.{kind_code, number_bits, head_word, head_of, Refers
 use Rattle.number.specs.declared.NumberRead.{NumberRead}
 use Rattle.number.specs.NumberRead.{number_in}
 use Rattle.reading.specs.declared.Cause.{Cause}
-use Rattle.reading.specs.declared.Cause.TheVariants.{TooShort, JsonSyntax, NumberLimit, DuplicateName, ValueLimit}
+use Rattle.reading.specs.declared.Cause.TheVariants.{JsonSyntax, NumberLimit, DuplicateName, ValueLimit}
 use Rattle.reading.specs.declared.Cursor.{Cursor}
 use Rattle.reading.specs.declared.Refusal.{Refusal}
 use Rattle.reading.specs.Refusals.{number_of}
@@ -26,10 +26,10 @@ use Rattle.json_reader.specs.declared.parts.Part.{Part}
 
 -- ---- answers as words
 
--- the cause of this number, of those that a document is refused for; any other number stands for one that no document is refused for
+-- the cause of this number, of those that a document is refused for
 abbrev pub cause_of : ℕ → Cause
 cause_of n =
-    if nat_eq n 3 then JsonSyntax else if nat_eq n 4 then NumberLimit else if nat_eq n 5 then DuplicateName else if nat_eq n 6 then ValueLimit else TooShort
+    if nat_eq n 3 then JsonSyntax else if nat_eq n 4 then NumberLimit else if nat_eq n 5 then DuplicateName else ValueLimit
 
 -- a document is refused for it
 abbrev pub Caused : Cause → Type 0

@@ -21,7 +21,7 @@ pub fn refused(cause: Cause, place: usize) -> u64
     place as u64 + 0x100000000 * cause.number() + 0x8000000000000000
 }
 
-// The cause of this number, of those that a document is refused for; any other number stands for one that no document is refused for.
+// The cause of this number, of those that a document is refused for.
 fn cause_of(number: u64) -> Cause
     ensures { result ≡ cause_of number }
 {
@@ -29,8 +29,7 @@ fn cause_of(number: u64) -> Cause
         3 => Cause::JsonSyntax,
         4 => Cause::NumberLimit,
         5 => Cause::DuplicateName,
-        6 => Cause::ValueLimit,
-        _ => Cause::TooShort,
+        _ => Cause::ValueLimit,
     }
 }
 

@@ -11,5 +11,4 @@ returns-in_default c =
     let f : c.args.number ≡ 3 → ⊥ = λ e. omega arith in
     let g : c.args.number ≡ 4 → ⊥ = λ e. omega arith in
     let h : c.args.number ≡ 5 → ⊥ = λ e. omega arith in
-    let k : c.args.number ≡ 6 → ⊥ = λ e. omega arith in
     grind arith
