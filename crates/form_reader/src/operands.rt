@@ -49,7 +49,8 @@ pub fn read_index(text: &[u8], bound: usize, c: Cursor) -> Result<Payload, Refus
     })
 }
 
-// Reads a text into the pool: where it stands there.
+// Reads a text into the pool: where it stands there. It stays a call, so that no level of a reader takes stack for it.
+#[inline(never)]
 pub fn read_text(text: &[u8], pool: &mut [u64], c: Cursor) -> Result<Payload, Refusal>
     requires { TextPlaced text.now pool.old c.at c.top }
     ensures read { ReadsText text.now pool.old pool.new c result }

@@ -46,7 +46,9 @@ pub enum Turn {
     },
 }
 
-// Goes on where a name or the bracket that ends a pack must come, behind the results whose rows begin at row `first`.
+// Goes on where a name or the bracket that ends a pack must come, behind the results whose rows begin at row `first`. It stays
+// a call, as `read_text` does.
+#[inline(never)]
 fn next_pair(
     text: &[u8],
     forms: &[u64],

@@ -18,7 +18,9 @@ pub struct Name {
     pub seen: u64,
 }
 
-// Whether one of the members whose rows stand from one word up to another has the name of n bytes at word w, which the pool has whole.
+// Whether one of the members whose rows stand from one word up to another has the name of n bytes at word w, which the pool has whole. It
+// stays a call, so that its loop, in which a record of many names spends its time, has the registers to itself.
+#[inline(never)]
 fn has_name(nodes: &[u64], pool: &[u64], from: usize, to: usize, w: usize, n: usize) -> bool
     requires { Walkable nodes.now pool.now from to × (length (text_in pool.now w n) ≡ n) }
     ensures found { (ms : Members) → NamedRows nodes.now pool.now from to ms

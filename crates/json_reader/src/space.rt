@@ -16,7 +16,7 @@ pub fn peek(doc: &[u8], i: usize) -> usize
 fn is_white(b: usize) -> bool
     ensures judged { result ≡ white b }
 {
-    matches!(b, 0x20 | 0x09 | 0x0A | 0x0D)
+    b <= 0x20 && matches!(b, 0x20 | 0x09 | 0x0A | 0x0D)
 }
 
 // The first place from `at` on where no white space stands.

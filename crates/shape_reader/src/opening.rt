@@ -8,7 +8,9 @@ use crate::kinds::{Kinds, read_kinds};
 use reading::{Cause, Cursor, Refusal};
 use tokens::expect::misplaced;
 
-// Reads a word that must come, by its number, and answers where it ends.
+// Reads a word that must come, by its number, and answers where it ends. It is rarely needed, and stays a call: put into its callers its
+// loops slow down those that pass white space there.
+#[inline(never)]
 fn expect(text: &[u8], at: usize, word: u64) -> Result<usize, Refusal>
     requires { at ≤ length text.now }
     ensures read { (w : Bytes) → fits 7 w ≡ true → word ≡ word_value w → Expects text.now at w result }
@@ -34,6 +36,7 @@ fn shape_word(text: &[u8], at: usize) -> Result<usize, Refusal>
 }
 
 // Reads the word `member`.
+#[inline(always)]
 pub fn member_word(text: &[u8], at: usize) -> Result<usize, Refusal>
     requires { at ≤ length text.now }
     ensures read { Expects text.now at member_bytes result }

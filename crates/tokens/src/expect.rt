@@ -97,7 +97,8 @@ pub struct Quoted {
     pub bytes: usize,
 }
 
-// A JSON text, which is decoded into the pool from word w on.
+// A JSON text, which is decoded into the pool from word w on. It is put into its callers, as `read_text` is.
+#[inline(always)]
 pub fn next_text(text: &[u8], at: usize, pool: &mut [u64], w: usize) -> Result<Quoted, Refusal>
     requires { (at ≤ length text.now) × (w + words (length text.now - at - 1) ≤ length pool.old) }
     ensures read { ExpectsText text.now at pool.old pool.new w result }

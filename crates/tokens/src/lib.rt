@@ -8,19 +8,19 @@ ghost use Rattle.tokens.specs.WordValues.{WordTold};
 pub mod expect; // a token of one sort that must come
 pub mod standing; // what stands at a place, seen eight bytes at a time
 
-// JSON white space.
+// JSON white space. A blank is most of it, and is asked for first.
 #[tactic(auto, using(crate::proofs::Borders::white_space))]
 fn is_space(b: u8) -> bool
     ensures told { SpaceAnswer b result }
 {
-    b <= b' ' && matches!(b, b' ' | b'\t' | b'\n' | b'\r')
+    b == b' ' || b < b' ' && matches!(b, b'\t' | b'\n' | b'\r')
 }
 
 // Whether a byte ends a word: white space, a bracket or a quote.
 fn is_border(b: u8) -> bool
     ensures told { BorderAnswer b result }
 {
-    b <= b')' && (matches!(b, b'(' | b')' | b'"') || is_space(b))
+    b <= b')' && (is_space(b) || matches!(b, b'(' | b')' | b'"'))
 }
 
 // Where white space ends that begins at a place.
